@@ -10,7 +10,7 @@ use Rattle.definition_format.specs.Refusals.{Refusal, Fails}
 use Rattle.definition_format.specs.Document.{absent_at}
 use Rattle.definition_format.specs.Denoted.Entries.{ProgramNames}
 use Rattle.definition_format.specs.Denoted.Drafts.{Answers, ClassDraft, Draft, answers_of, with_answers}
-use Rattle.definition_format.specs.Denoted.ClassHandlers.{add_handler, class_handler_in, class_handler_at, class_handlers_at}
+use Rattle.definition_format.specs.Denoted.ClassHandlers.{add_handler, class_handlers_at}
 use Rattle.definition_format.specs.Denoted.Constructed.{constructed_at}
 use Rattle.definition_format.specs.Denoted.Classes.{answers_at, answering_at}
 use Rattle.definition_parts.proofs.Chains.{fails_first, fails_as}
@@ -18,19 +18,6 @@ use Rattle.definition_parts.proofs.Chains.{fails_first, fails_as}
 -- a class handler that was added, seen as the types' own
 pub handler_added : (old new : List (List ClassHandler)) (t : ℕ) (h : ClassHandler) → AddsHandler old new t h → add_handler (named_of old) t h ≡ named_of new
 handler_added old new t h adds = sym (fun_ext adds)
-
-module _ (path : List ℕ) (programs : ProgramNames) (t : ℕ) (table : List (List ClassHandler)) (d : Data) where
-  next : ClassHandler → Result (ℕ → List ClassHandler) Refusal
-  next h = Ok (add_handler (named_of table) t h)
-
-  pub handler_fails : (e : ReadError) → Fails e (class_handler_in path programs (named_of table t) d) → Fails e (class_handler_at path programs t (named_of table) d)
-  unfolding next class_handler_at
-  handler_fails e h = fails_first e (class_handler_in path programs (named_of table t) d) next h
-
-  pub handler_with : (h : ClassHandler) → class_handler_in path programs (named_of table t) d ≡ Ok h
-      → class_handler_at path programs t (named_of table) d ≡ Ok (add_handler (named_of table) t h)
-  unfolding next class_handler_at
-  handler_with h is = ap (λ r. r >>= next) is
 
 -- what a class answers once its class handlers are read
 module _ (path : List ℕ) (programs : ProgramNames) (t : ℕ) (answers : Answers) (handlers : ℕ → List ClassHandler) (d : Data)

@@ -6,3 +6,6 @@ pub mod Implementing
 pub mod ByType
 pub mod Answering
 pub mod EnumParts
+pub mod Drafting
+pub mod HandlerParts
+pub mod ImplementParts

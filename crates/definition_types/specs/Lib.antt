@@ -1,2 +1,6 @@
 pub mod OverrideView
 pub mod EnumDrafts
+pub mod HandlerDrafts
+pub mod ImplementDrafts
+pub mod Drafted
+pub mod OwnParts

@@ -25,8 +25,8 @@ override_view ways.Missing = missing
 override_view ways.Different = different
 
 -- the names that are kept
-abbrev pub names_of : List (String Global × Unit {0}) → List (List ℕ)
-names_of entries = map (λ (e : String Global × Unit {0}). string_bytes e.0) entries
+abbrev pub names_of : List (String Global) → List (List ℕ)
+names_of keys = map (λ (k : String Global). string_bytes k) keys
 
 abbrev pub heir_of : Heir → pure_heir.Heir
 heir_of heir = record {
@@ -36,5 +36,5 @@ heir_of heir = record {
   parent = heir.parent;
   named = heir.named.now;
   own = map own_view heir.own.now.entries;
-  own_signals = names_of heir.own_signals.now.entries;
+  own_signals = names_of heir.own_signals.now.keys;
 }

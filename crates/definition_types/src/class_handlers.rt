@@ -1,20 +1,28 @@
 //! The programs that classes name for signals.
 
-ghost use Rattle.std.specs.Prelude.{◌≡◌, Ok, option_map};
+ghost use Rattle.std.specs.Prelude.{◌≡◌, option_map, string_bytes, IfOk};
+ghost use Rattle.std.specs.BTreeSet.{contains_text};
 ghost use Rattle.serde_json.specs.Find.{as_str};
 ghost use Rattle.serde_json.specs.View.{view, items_view};
+ghost use Rattle.ui_machine.specs.Definition.Names.{canonical};
 ghost use Rattle.signal_core.specs.Table.{named_of};
 ghost use Rattle.definition_format.specs.Refusals.{Gives, Leads, IsRefusal, or_refused, shape, unknown};
 ghost use Rattle.definition_format.specs.Document.{each, at_entry, nth, path_of};
-ghost use Rattle.definition_format.specs.Denoted.ClassHandlers.{two_in, pair_at, program_at, handler_for, class_handler_in, add_handler, class_handler_at, class_handlers_at};
+ghost use Rattle.definition_format.specs.Denoted.ClassHandlers.{two_in, pair_at, program_at, handler_for, class_handler_at, class_handlers_at};
+ghost use Rattle.definition_format.specs.Denoted.Enums.{unless_there};
+ghost use Rattle.definition_types.specs.HandlerDrafts.{handler_part_in};
 
 use crate::enums::{bad_part, check_new, name_part};
+use crate::handler_drafts::{HandlerDraft, NewHandler, names_of};
+use crate::spelling::canonical_text;
 use definition_format::{DefinitionFault, ReadError};
 use definition_parts::document::{Entries, Part, path_text, path_under, path_within};
 use definition_parts::entries::ProgramNames;
 use definition_parts::reads::{Reads, read_each};
 use serde_json::Value;
 use signal_core::SignalTable;
+use std::collections::BTreeSet;
+use std::mem;
 use type_tree::TypeId;
 use ui_machine::ProgramId;
 
@@ -77,50 +85,35 @@ fn program_part(
     }
 }
 
-// The signal and the program of an entry, beside the class handlers that the class has.
-#[tactic(auto, unfolding(definition_format::specs::Denoted::ClassHandlers::class_handler_in))]
+// The canonical name of a signal, which must be none of these.
+fn new_name(part: Part<'_>, named: &BTreeSet<String>, signal: &str) -> Result<String, ReadError>
+    ensures new { Gives (λ _. tt) result (unless_there (nth (path_of part.entry.path) 0) (contains_text named.now (canonical signal.now))) }
+    ensures name { IfOk result (λ s. string_bytes s ≡ canonical signal.now) }
+{
+    let name = canonical_text(part.alloc, signal)?;
+    check_new(part, 0, named.contains(name.as_str()))?;
+    Ok(name)
+}
+
+// The class handler of an entry, where the class has some for the signals of these names.
+#[tactic(auto, unfolding(crate::specs::HandlerDrafts::handler_part_in))]
 fn class_handler_in<'a>(
     part: Part<'a>,
     programs: &ProgramNames<'_>,
-    signals: &SignalTable,
-    t: TypeId,
-) -> Result<(&'a str, ProgramId), ReadError>
-    ensures { Gives (λ h. handler_for h.0.now h.1) result (class_handler_in (path_of part.entry.path) programs.now (named_of signals.now.handlers t) (view part.entry.value.now)) }
+    named: &BTreeSet<String>,
+) -> Result<NewHandler<'a>, ReadError>
+    ensures handler { Gives (λ h. handler_for h.signal.now h.program) result (handler_part_in (path_of part.entry.path) programs.now (λ name. contains_text named.now name) (view part.entry.value.now)) }
+    ensures name { IfOk result (λ h. string_bytes h.name ≡ canonical h.signal.now) }
 {
     let (signal, program) = parts_of(part)?;
     let signal = signal_part(part, signal)?;
-    check_new(part, 0, signals.has_class_handler(t, signal))?;
+    let name = new_name(part, named, signal)?;
     let program = program_part(part, programs, program)?;
-    Ok((signal, program))
-}
-
-// Adds a class handler to those of a class.
-fn add(
-    signals: &mut SignalTable,
-    t: TypeId,
-    signal: &str,
-    program: ProgramId,
-) -> Result<(), ReadError>
-    ensures handlers { Leads result (Ok (add_handler (named_of signals.old.handlers) t (handler_for signal.now program))) (named_of signals.new.handlers) }
-    ensures signals { signals.new.signals ≡ signals.old.signals }
-{
-    signals.add_class_handler(t, signal, program)?;
-    Ok(())
-}
-
-// Gives a class the class handler of an entry.
-fn read_class_handler(
-    part: Part<'_>,
-    programs: &ProgramNames<'_>,
-    signals: &mut SignalTable,
-    t: TypeId,
-) -> Result<(), ReadError>
-    ensures handlers { Leads result (class_handler_at (path_of part.entry.path) programs.now t (named_of signals.old.handlers) (view part.entry.value.now)) (named_of signals.new.handlers) }
-    ensures signals { signals.new.signals ≡ signals.old.signals }
-{
-    let (signal, program) = class_handler_in(part, programs, signals, t)?;
-    add(signals, t, signal, program)?;
-    Ok(())
+    Ok(NewHandler {
+        signal,
+        name,
+        program,
+    })
 }
 
 // How the entries of a class's handlers are read, where these are all programs.
@@ -130,26 +123,28 @@ struct ClassHandlerEntries<'a> {
     t: TypeId,
 }
 
-impl<'a> Reads<SignalTable> for ClassHandlerEntries<'a> {
-    ghost use Rattle.std.specs.Prelude.{ℕ, List};
+impl<'a> Reads<HandlerDraft> for ClassHandlerEntries<'a> {
+    ghost use Rattle.std.specs.Prelude.{List};
     ghost use Rattle.ui_machine.specs.Definition.Signals as machine;
-    ghost use Rattle.signal_core.specs.Table.{named_of};
-    ghost use Rattle.definition_format.specs.Denoted.ClassHandlers.{class_handler_at};
+    ghost use Rattle.definition_types.specs.HandlerDrafts.{HandlerParts, handler_part_at, parts_seen};
 
-    ghost State = { ℕ → List machine.ClassHandler };
+    ghost State = { HandlerParts };
 
-    ghost seen = { λ signals. named_of signals.handlers };
+    ghost seen = { λ draft. parts_seen draft };
 
     ghost Unchanged = { List (List machine.Signal) };
 
-    ghost kept = { λ signals. signals.signals };
+    ghost kept = { λ draft. draft.signals.signals };
 
     ghost known = { λ r. Unit {0} };
 
-    ghost step = { λ r path own d. class_handler_at path r.programs.now r.t own d };
+    ghost step = { λ r path p d. handler_part_at path r.programs.now r.t p d };
 
-    fn read(&self, part: Part<'_>, signals: &mut SignalTable) -> Result<(), ReadError> {
-        read_class_handler(part, self.programs, signals, self.t)
+    #[tactic(auto, unfolding(crate::specs::HandlerDrafts::handler_part_at))]
+    fn read(&self, part: Part<'_>, draft: &mut HandlerDraft) -> Result<(), ReadError> {
+        let handler = class_handler_in(part, self.programs, &draft.named)?;
+        draft.add(self.t, handler)?;
+        Ok(())
     }
 }
 
@@ -163,8 +158,16 @@ fn read_class_handlers(
     ensures handlers { Leads result (each (at_entry (λ path. class_handler_at path programs.now t) list.entry.path.now) 0 (named_of signals.old.handlers) (items_view list.entry.items.now)) (named_of signals.new.handlers) }
     ensures signals { signals.new.signals ≡ signals.old.signals }
 {
+    let named = names_of(list.alloc, signals.own_handlers(t))?;
     let reader = ClassHandlerEntries { programs, t };
-    read_each(&reader, list, signals)
+    // The draft has the table meanwhile. It comes back also where an entry is at fault.
+    let mut draft = HandlerDraft {
+        signals: mem::replace(signals, SignalTable::new(list.alloc)),
+        named,
+    };
+    let read = read_each(&reader, list, &mut draft);
+    *signals = draft.signals;
+    read
 }
 
 // Gives a class the class handlers of its entry.

@@ -1,16 +1,13 @@
 //! The enums and flags types of a definition.
 
-ghost use Rattle.std.specs.Prelude.{◌≡◌, ◌≤ℤ◌, ◌∷◌, ◌++◌, [], codes, false, pos, map, length, option_and_then, option_map, None, IfOk, IfSome, OnOk, string_bytes};
-ghost use Rattle.std.specs.List.{list_any};
-ghost use Rattle.std.specs.Ordering.{int_eq};
-ghost use Rattle.std.specs.Str.{bytes_eq};
+ghost use Rattle.std.specs.Prelude.{◌≡◌, ◌≤ℤ◌, ◌∷◌, ◌++◌, [], codes, pos, map, length, option_and_then, option_map, None, IfOk, IfSome};
 ghost use Rattle.serde_json.specs.View.{view, items_view};
 ghost use Rattle.serde_json.specs.Find.{get, as_array, as_str};
 ghost use Rattle.type_tree.specs.Adding.{new_enum, new_flags};
 ghost use Rattle.type_tree.specs.Entry.{enum_member, flags_member};
 ghost use Rattle.g_values.specs.Reading.{whole_number};
 ghost use Rattle.definition_format.specs.Refusals.{Gives, Leads, IsRefusal, shape};
-ghost use Rattle.definition_types.specs.EnumDrafts.{enum_part_at, with_member};
+ghost use Rattle.definition_types.specs.EnumDrafts.{enum_part_at, parts_seen, with_member};
 ghost use Rattle.definition_format.specs.Document.{path_of, nth, under, each, at_entry};
 ghost use Rattle.definition_format.specs.Denoted.Enums.{three_in, parts_at, name_if, name_at, number_if, number_at, unless_there, has_name, some_items, some_entries_at, enum_member_at, flags_member_at, members_with, enum_at, flags_at};
 
@@ -107,8 +104,7 @@ fn number_part(part: Part<'_>, value: &Value, low: i128, high: i128) -> Result<i
 
 // Refuses a part of an entry that an earlier entry has.
 pub(crate) fn check_new(part: Part<'_>, index: usize, there: bool) -> Result<(), ReadError>
-    ensures new { Gives (λ _. tt) result (unless_there (nth (path_of part.entry.path) index) there) }
-    ensures fresh { OnOk result (there ≡ false) }
+    ensures { Gives (λ _. tt) result (unless_there (nth (path_of part.entry.path) index) there) }
 {
     if there {
         return Err(ReadError::Refused(DefinitionFault::Duplicate(path_within(
@@ -121,9 +117,7 @@ pub(crate) fn check_new(part: Part<'_>, index: usize, there: bool) -> Result<(),
 // A member of an enum, beside those before.
 #[tactic(auto, unfolding(crate::specs::EnumDrafts::enum_part_at))]
 fn enum_member_of(part: Part<'_>, draft: &EnumDraft) -> Result<EnumMember, ReadError>
-    ensures member { Gives (λ m. with_member draft.now (enum_member m)) result (enum_part_at (path_of part.entry.path) draft.now (view part.entry.value.now)) }
-    ensures name { IfOk result (λ m. list_any (bytes_eq (string_bytes m.name)) draft.now.names ≡ false) }
-    ensures number { IfOk result (λ m. list_any (int_eq m.number) draft.now.numbers ≡ false) }
+    ensures { Gives (λ m. with_member (parts_seen draft.now) (enum_member m)) result (enum_part_at (path_of part.entry.path) (parts_seen draft.now) (view part.entry.value.now)) }
 {
     let (name, nick, number) = parts_of(part)?;
     let name = name_part(part, 0, name)?;
@@ -142,11 +136,11 @@ fn enum_member_of(part: Part<'_>, draft: &EnumDraft) -> Result<EnumMember, ReadE
 struct EnumMembers;
 
 impl Reads<EnumDraft> for EnumMembers {
-    ghost use Rattle.definition_types.specs.EnumDrafts.{EnumParts, enum_part_at};
+    ghost use Rattle.definition_types.specs.EnumDrafts.{EnumParts, enum_part_at, parts_seen};
 
     ghost State = { EnumParts };
 
-    ghost seen = { λ draft. draft };
+    ghost seen = { λ draft. parts_seen draft };
 
     ghost Unchanged = { Unit {0} };
 

@@ -1,6 +1,6 @@
 //! The interfaces that a class implements, and the types that are listed by their names.
 
-ghost use Rattle.std.specs.Prelude.{◌≡◌, [], ◌∷◌, nat_eq, Some, OnOk};
+ghost use Rattle.std.specs.Prelude.{◌≡◌, [], nat_eq, Some, OnOk};
 ghost use Rattle.std.specs.List.{list_any};
 ghost use Rattle.serde_json.specs.View.{view, items_view};
 ghost use Rattle.serde_json.specs.Find.{as_str};
@@ -10,10 +10,11 @@ ghost use Rattle.signal_core.specs.Sources.{signals_of};
 ghost use Rattle.definition_format.specs.Refusals.{Gives, Leads, IsRefusal, shape, unknown, or_refused};
 ghost use Rattle.definition_format.specs.Document.{path_of, each, at_entry};
 ghost use Rattle.definition_types.specs.OverrideView.{heir_of, names_of};
-ghost use Rattle.definition_format.specs.Denoted.Brought.{is_brought, is_again};
+ghost use Rattle.definition_types.specs.ImplementDrafts.{has_name, is_again_in, brings_again_in, check_brought_in, implemented_once_in, parts_seen};
 ghost use Rattle.definition_format.specs.Denoted.Drafts.{draft_of};
-ghost use Rattle.definition_format.specs.Denoted.Implements.{type_with, named_at, brings_again, check_brought, check_prerequisites, check_overrides, implemented_once, implemented_at, implements_listed, implements_at, interface_at_entry};
+ghost use Rattle.definition_format.specs.Denoted.Implements.{type_with, named_at, check_prerequisites, check_overrides, implemented_at, implements_listed, implements_at, interface_at_entry};
 
+use crate::implement_drafts::ImplementDraft;
 use crate::overrides::{Heir, read_own};
 use crate::own_signals::{has_own_signal, read_own_signals};
 use definition_format::{DefinitionFault, ReadError, TypeCause};
@@ -139,26 +140,18 @@ fn check_overrides(part: Part<'_>, heir: &Heir<'_>, interface: TypeId) -> Result
     }
 }
 
-// Whether one of some types has a signal of a name.
-fn is_brought(types: &TypeTree, signals: &SignalTable, ts: &[TypeId], name: &str) -> bool
-    ensures { result ≡ is_brought (signals_of types.now signals.now.signals) ts.now name.now }
-{
-    ts.iter().any(|t| signals.find(types, *t, name).is_some())
-}
-
-// Whether a signal of an interface has the name of one that the class's parent or one of some interfaces has.
-fn is_again(heir: &Heir<'_>, implemented: &[TypeId], signal: &Signal) -> bool
-    ensures { result ≡ is_again (signals_of heir.now.types.now heir.now.signals.now.signals) (names_of heir.now.own_signals.now.entries) (heir.now.parent ∷ implemented.now) (signal_view signal.now) }
+// Whether a signal of an interface has the name of one that the class's parent or one of the interfaces so far has.
+fn is_again(heir: &Heir<'_>, implemented: &ImplementDraft<'_>, signal: &Signal) -> bool
+    ensures { result ≡ is_again_in (signals_of heir.now.types.now heir.now.signals.now.signals) (names_of heir.now.own_signals.now.keys) heir.now.parent (λ name. has_name implemented.now.names name) (signal_view signal.now) }
 {
     let name = signal.name.as_str();
     !has_own_signal(heir.own_signals, name)
-        && (heir.signals.find(heir.types, heir.parent, name).is_some()
-            || is_brought(heir.types, heir.signals, implemented, name))
+        && (heir.signals.find(heir.types, heir.parent, name).is_some() || implemented.has(name))
 }
 
 // The same of one of some signals.
-fn any_again(heir: &Heir<'_>, implemented: &[TypeId], signals: &[Signal]) -> bool
-    ensures { result ≡ list_any (λ s. is_again (signals_of heir.now.types.now heir.now.signals.now.signals) (names_of heir.now.own_signals.now.entries) (heir.now.parent ∷ implemented.now) (signal_view s)) signals.now }
+fn any_again(heir: &Heir<'_>, implemented: &ImplementDraft<'_>, signals: &[Signal]) -> bool
+    ensures { result ≡ list_any (λ s. is_again_in (signals_of heir.now.types.now heir.now.signals.now.signals) (names_of heir.now.own_signals.now.keys) heir.now.parent (λ name. has_name implemented.now.names name) (signal_view s)) signals.now }
 {
     signals
         .iter()
@@ -166,8 +159,8 @@ fn any_again(heir: &Heir<'_>, implemented: &[TypeId], signals: &[Signal]) -> boo
 }
 
 // Whether an interface brings a signal again.
-fn brings_again(heir: &Heir<'_>, implemented: &[TypeId], interface: TypeId) -> bool
-    ensures { result ≡ brings_again (heir_of heir.now) interface implemented.now }
+fn brings_again(heir: &Heir<'_>, implemented: &ImplementDraft<'_>, interface: TypeId) -> bool
+    ensures { result ≡ brings_again_in (heir_of heir.now) interface (λ name. has_name implemented.now.names name) }
 {
     any_again(heir, implemented, heir.signals.own(interface))
 }
@@ -177,9 +170,9 @@ fn check_brought(
     part: Part<'_>,
     heir: &Heir<'_>,
     interface: TypeId,
-    implemented: &[TypeId],
+    implemented: &ImplementDraft<'_>,
 ) -> Result<(), ReadError>
-    ensures { Gives (λ _. tt) result (check_brought (path_of part.entry.path) (heir_of heir.now) interface implemented.now) }
+    ensures { Gives (λ _. tt) result (check_brought_in (path_of part.entry.path) (heir_of heir.now) interface (λ name. has_name implemented.now.names name)) }
 {
     if heir.types.is_a(heir.parent, interface) {
         return Ok(());
@@ -192,44 +185,43 @@ fn check_brought(
 }
 
 // Adds an interface to those before, unless it is among them.
-#[tactic(auto, unfolding(definition_format::specs::Denoted::Implements::newly_implemented))]
-fn implement(
+#[tactic(auto, unfolding(crate::specs::ImplementDrafts::newly_implemented_in, signal_core::specs::Sources::declared_of))]
+fn implement<'a>(
     part: Part<'_>,
-    heir: &Heir<'_>,
+    heir: &Heir<'a>,
     interface: TypeId,
-    implemented: &mut Vec<TypeId>,
+    implemented: &mut ImplementDraft<'a>,
 ) -> Result<(), ReadError>
-    ensures { Leads result (implemented_once (path_of part.entry.path) (heir_of heir.now) interface implemented.old.items) implemented.new.items }
+    ensures { Leads result (implemented_once_in (path_of part.entry.path) (heir_of heir.now) interface (parts_seen implemented.old)) (parts_seen implemented.new) }
 {
-    if is_listed(implemented.as_slice(), interface) {
+    if is_listed(implemented.types.as_slice(), interface) {
         return Ok(());
     }
-    check_brought(part, heir, interface, implemented.as_slice())?;
+    check_brought(part, heir, interface, implemented)?;
     check_prerequisites(part, heir, interface)?;
     check_overrides(part, heir, interface)?;
-    implemented.push(interface)?;
+    implemented.add(heir.types, heir.signals, interface)?;
     Ok(())
 }
 
-impl<'a> Reads<Vec<TypeId>> for Heir<'a> {
-    ghost use Rattle.std.specs.Prelude.{ℕ, List};
+impl<'a> Reads<ImplementDraft<'a>> for Heir<'a> {
     ghost use Rattle.definition_types.specs.OverrideView.{heir_of};
-    ghost use Rattle.definition_format.specs.Denoted.Implements.{implemented_at};
+    ghost use Rattle.definition_types.specs.ImplementDrafts.{ImplementParts, implement_part_at, parts_seen};
 
-    ghost State = { List ℕ };
+    ghost State = { ImplementParts };
 
-    ghost seen = { λ implemented. implemented.items };
+    ghost seen = { λ draft. parts_seen draft };
 
     ghost Unchanged = { Unit {0} };
 
-    ghost kept = { λ implemented. tt };
+    ghost kept = { λ draft. tt };
 
     ghost known = { λ r. Unit {0} };
 
-    ghost step = { λ r path implemented d. implemented_at path (heir_of r) implemented d };
+    ghost step = { λ r path p d. implement_part_at path (heir_of r) p d };
 
-    #[tactic(auto, unfolding(definition_format::specs::Denoted::Implements::implemented_at))]
-    fn read(&self, part: Part<'_>, implemented: &mut Vec<TypeId>) -> Result<(), ReadError> {
+    #[tactic(auto, unfolding(crate::specs::ImplementDrafts::implement_part_at))]
+    fn read(&self, part: Part<'_>, implemented: &mut ImplementDraft<'a>) -> Result<(), ReadError> {
         let interface = interface_of(part, self.types)?;
         implement(part, self, interface, implemented)?;
         Ok(())
@@ -240,9 +232,9 @@ impl<'a> Reads<Vec<TypeId>> for Heir<'a> {
 fn read_heir(list: Entries<'_>, heir: &Heir<'_>) -> Result<Vec<TypeId>, ReadError>
     ensures { Gives (λ v. v.items) result (each (at_entry (λ entry. implemented_at entry (heir_of heir.now)) list.entry.path.now) 0 [] (items_view list.entry.items.now)) }
 {
-    let mut implemented = Vec::new(list.alloc);
+    let mut implemented = ImplementDraft::new(list.alloc);
     read_each(heir, list, &mut implemented)?;
-    Ok(implemented)
+    Ok(implemented.types)
 }
 
 // The interfaces of these entries, which a class of this parent implements.

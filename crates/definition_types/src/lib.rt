@@ -7,10 +7,13 @@ mod classes;
 mod constructed;
 mod enum_drafts;
 mod enums;
+mod handler_drafts;
+mod implement_drafts;
 mod implements;
 mod interfaces;
 mod overrides;
 mod own_signals;
+mod spelling;
 mod types;
 
 pub use classes::read_classes;

@@ -1,6 +1,6 @@
 //! What a class has of the properties of its interfaces. Its own properties are read ahead for that, each by itself.
 
-ghost use Rattle.std.specs.Prelude.{◌≡◌, [], codes, map, string_bytes, option_map, option_and_then, IfOk, IfSome, None};
+ghost use Rattle.std.specs.Prelude.{◌≡◌, [], codes, is_some, map, string_bytes, option_map, option_and_then, IfOk, IfSome, None};
 ghost use Rattle.std.specs.List.{find, list_any};
 ghost use Rattle.serde_json.specs.View.{view, items_view};
 ghost use Rattle.serde_json.specs.Find.{get, as_str};
@@ -12,6 +12,7 @@ ghost use Rattle.definition_format.specs.Document.{path_of, each, at_entry};
 ghost use Rattle.definition_format.specs.Refusals.{Gives};
 ghost use Rattle.definition_format.specs.Denoted.Properties.{inherited_of, spec_at};
 ghost use Rattle.definition_format.specs.Denoted.Overrides.{if_read, own_name, is_own, own_named, compared, override_by, override_of, is_missing, is_different, override_cause, own_at, own_ahead};
+ghost use Rattle.definition_types.specs.Drafted.{drafted};
 ghost use Rattle.definition_types.specs.OverrideView.{own_view, override_view};
 
 use crate::own_signals::OwnSignals;
@@ -20,15 +21,15 @@ use definition_members::properties::spec_in;
 use definition_parts::document::{Entries, Part, listed_ahead, path_under};
 use definition_parts::entries::TypeNames;
 use definition_parts::reads::{Reads, read_each};
-use indexmap::IndexMap;
 use param_specs::{Spec, SpecTable, is_same_spec};
 use serde_json::Value;
 use signal_core::SignalTable;
 use std::alloc::{AllocError, Global};
+use std::collections::BTreeMap;
 use type_tree::{TypeId, TypeTree, canonical_name, is_property_name};
 
 /// A class's own properties by their canonical names, read ahead: nothing where an entry is at fault.
-pub(crate) type OwnAhead = IndexMap<String, Option<Spec>>;
+pub(crate) type OwnAhead = BTreeMap<String, Option<Spec>>;
 
 /// How a class has a property of an interface.
 #[derive(Clone, Copy)]
@@ -53,7 +54,7 @@ pub(crate) fn own_name(alloc: Global, entry: &Value) -> Result<Option<String>, A
 
 // Whether there is a property of this name.
 fn has_own(own: &OwnAhead, name: &str) -> bool
-    ensures { result ≡ list_any (is_own name.now) (map own_view own.now.entries) }
+    ensures { result ≡ is_some (own_named (map own_view own.now.entries) name.now) }
 {
     own.contains_key(name)
 }
@@ -85,14 +86,15 @@ fn spec_ahead(
 }
 
 impl<'a> Reads<OwnAhead> for OwnEntries<'a> {
-    ghost use Rattle.std.specs.Prelude.{List, map};
+    ghost use Rattle.std.specs.Prelude.{map};
     ghost use Rattle.param_specs.specs.Table.{own_of};
-    ghost use Rattle.definition_format.specs.Denoted.Overrides.{Own, own_at};
+    ghost use Rattle.definition_format.specs.Denoted.Overrides.{own_named};
     ghost use Rattle.definition_types.specs.OverrideView.{own_view};
+    ghost use Rattle.definition_types.specs.OwnParts.{Owned, owned_at};
 
-    ghost State = { List Own };
+    ghost State = { Owned };
 
-    ghost seen = { λ own. map own_view own.entries };
+    ghost seen = { λ own. own_named (map own_view own.entries) };
 
     ghost Unchanged = { Unit {0} };
 
@@ -100,7 +102,7 @@ impl<'a> Reads<OwnAhead> for OwnEntries<'a> {
 
     ghost known = { λ r. Unit {0} };
 
-    ghost step = { λ r path own d. own_at path r.types.now r.names.now (own_of r.specs.now) r.parent own d };
+    ghost step = { λ r path own d. owned_at path r.types.now r.names.now (own_of r.specs.now) r.parent own d };
 
     fn read(&self, part: Part<'_>, own: &mut OwnAhead) -> Result<(), ReadError> {
         let Some(name) = own_name(part.alloc, part.value)? else {
@@ -123,9 +125,9 @@ fn read_own_entries(
     specs: &SpecTable,
     parent: TypeId,
 ) -> Result<OwnAhead, ReadError>
-    ensures { Gives (λ own. map own_view own.entries) result (each (at_entry (λ entry. own_at entry types.now names.now (own_of specs.now) parent) list.entry.path.now) 0 [] (items_view list.entry.items.now)) }
+    ensures { Gives (λ own. own_named (map own_view own.entries)) result (drafted own_named (each (at_entry (λ entry. own_at entry types.now names.now (own_of specs.now) parent) list.entry.path.now) 0 [] (items_view list.entry.items.now))) }
 {
-    let mut own = IndexMap::new(list.alloc);
+    let mut own = BTreeMap::new(list.alloc);
     let reader = OwnEntries {
         types,
         names,
@@ -144,7 +146,7 @@ pub(crate) fn read_own(
     specs: &SpecTable,
     parent: TypeId,
 ) -> Result<OwnAhead, ReadError>
-    ensures { Gives (λ own. map own_view own.entries) result (own_ahead (path_of part.entry.path) types.now names.now (own_of specs.now) parent (view part.entry.value.now)) }
+    ensures { Gives (λ own. own_named (map own_view own.entries)) result (drafted own_named (own_ahead (path_of part.entry.path) types.now names.now (own_of specs.now) parent (view part.entry.value.now))) }
 {
     let path = path_under(part.alloc, part.path, "properties")?;
     let list = Entries {

@@ -1,28 +1,29 @@
 //! The names of the signals that a class itself declares, read ahead for its interfaces.
 
 ghost use Rattle.std.specs.Prelude.{◌≡◌, []};
-ghost use Rattle.std.specs.List.{list_any};
-ghost use Rattle.std.specs.Str.{bytes_eq};
+ghost use Rattle.std.specs.BTreeSet.{contains_text};
 ghost use Rattle.serde_json.specs.View.{view, items_view};
 ghost use Rattle.definition_format.specs.Refusals.{Gives};
 ghost use Rattle.definition_format.specs.Document.{path_of, each, at_entry};
-ghost use Rattle.definition_types.specs.OverrideView.{names_of};
 ghost use Rattle.definition_format.specs.Denoted.Brought.{own_signal_at, own_signals_ahead};
+ghost use Rattle.definition_types.specs.Drafted.{drafted};
+ghost use Rattle.definition_types.specs.OverrideView.{names_of};
+ghost use Rattle.definition_types.specs.OwnParts.{are_named};
 
 use crate::overrides::own_name;
 use definition_format::ReadError;
 use definition_parts::document::{Entries, Part, listed_ahead, path_under};
 use definition_parts::reads::{Reads, read_each};
-use indexmap::IndexMap;
+use std::collections::BTreeSet;
 
 /// The names of a class's own signals, in canonical spelling.
-pub(crate) type OwnSignals = IndexMap<String, ()>;
+pub(crate) type OwnSignals = BTreeSet<String>;
 
 // Whether a name is among these.
 pub(crate) fn has_own_signal(own: &OwnSignals, name: &str) -> bool
-    ensures { result ≡ list_any (bytes_eq name.now) (names_of own.now.entries) }
+    ensures { result ≡ are_named (names_of own.now.keys) name.now }
 {
-    own.contains_key(name)
+    own.contains(name)
 }
 
 // How the own signals of a class are read ahead.
@@ -30,13 +31,13 @@ pub(crate) fn has_own_signal(own: &OwnSignals, name: &str) -> bool
 struct OwnSignalEntries;
 
 impl Reads<OwnSignals> for OwnSignalEntries {
-    ghost use Rattle.std.specs.Prelude.{ℕ, List};
-    ghost use Rattle.definition_format.specs.Denoted.Brought.{own_signal_at};
-    ghost use Rattle.definition_types.specs.OverrideView.{names_of};
+    ghost use Rattle.std.specs.Prelude.{ℕ, Bool, List};
+    ghost use Rattle.std.specs.BTreeSet.{contains_text};
+    ghost use Rattle.definition_types.specs.OwnParts.{named_at};
 
-    ghost State = { List (List ℕ) };
+    ghost State = { List ℕ → Bool };
 
-    ghost seen = { λ own. names_of own.entries };
+    ghost seen = { λ own. λ name. contains_text own name };
 
     ghost Unchanged = { Unit {0} };
 
@@ -44,32 +45,29 @@ impl Reads<OwnSignals> for OwnSignalEntries {
 
     ghost known = { λ r. Unit {0} };
 
-    ghost step = { λ r path own d. own_signal_at path own d };
+    ghost step = { λ r path has d. named_at path has d };
 
     fn read(&self, part: Part<'_>, own: &mut OwnSignals) -> Result<(), ReadError> {
         let Some(name) = own_name(part.alloc, part.value)? else {
             return Ok(());
         };
-        if has_own_signal(own, name.as_str()) {
-            return Ok(());
-        }
-        own.insert(name, ())?;
+        own.insert(name)?;
         Ok(())
     }
 }
 
 // The names of the signals of a list.
 fn read_own_entries(list: Entries<'_>) -> Result<OwnSignals, ReadError>
-    ensures { Gives (λ own. names_of own.entries) result (each (at_entry own_signal_at list.entry.path.now) 0 [] (items_view list.entry.items.now)) }
+    ensures { Gives (λ own. λ name. contains_text own name) result (drafted are_named (each (at_entry own_signal_at list.entry.path.now) 0 [] (items_view list.entry.items.now))) }
 {
-    let mut own = IndexMap::new(list.alloc);
+    let mut own = BTreeSet::new(list.alloc);
     read_each(&OwnSignalEntries, list, &mut own)?;
     Ok(own)
 }
 
 // The names of the signals that the entry of a class declares.
 pub(crate) fn read_own_signals(part: Part<'_>) -> Result<OwnSignals, ReadError>
-    ensures { Gives (λ own. names_of own.entries) result (own_signals_ahead (path_of part.entry.path) (view part.entry.value.now)) }
+    ensures { Gives (λ own. λ name. contains_text own name) result (drafted are_named (own_signals_ahead (path_of part.entry.path) (view part.entry.value.now))) }
 {
     let path = path_under(part.alloc, part.path, "signals")?;
     let list = Entries {

@@ -2,3 +2,4 @@ pub mod View
 pub mod Naming
 pub mod Reading
 pub mod Arithmetic
+pub mod FlagsIndexes

@@ -5,6 +5,7 @@
 
 mod arithmetic;
 mod error;
+mod flags_names;
 mod kind;
 mod members;
 mod naming;

@@ -1,7 +1,8 @@
 //! Numbers and bits of members.
 
 ghost use Rattle.std.specs.Prelude.{◌≡◌, map, true, false, MatchOption, Some, None, if◌then◌else◌, unsigned_abs};
-ghost use Rattle.std.specs.List.{list_any};
+ghost use Rattle.std.specs.List.{find, list_any};
+ghost use Rattle.std.specs.Option.{option_copied};
 ghost use Rattle.std.specs.Ordering.{int_eq};
 ghost use Rattle.ui_machine.specs.Rules.Transform.{has_number, known_bits, first_number, is_known};
 ghost use Rattle.type_tree.specs.Entry.{enum_member, flags_member};
@@ -25,20 +26,23 @@ fn any_has(members: &[EnumMember], number: i128) -> bool
         .any(|member| i128::from(member.number) == number)
 }
 
+// The first member of an enum with this number.
+fn numbered(members: &[EnumMember], number: i128) -> Option<&EnumMember>
+    ensures { option_copied result ≡ find (λ m. int_eq m.number number) members.now }
+{
+    members
+        .iter()
+        .find(|member| i128::from(member.number) == number)
+}
+
 /// A number as that of a member of an enum, if one has it.
 pub fn member_number(members: &[EnumMember], number: i128) -> Option<i32>
     ensures { MatchOption result (has_number (map enum_member members.now) number ≡ false)
         (λ n. (n ≡ number) × (has_number (map enum_member members.now) number ≡ true)) }
 {
-    match members {
-        [first, others @ ..] => {
-            if i128::from(first.number) == number {
-                Some(first.number)
-            } else {
-                member_number(others, number)
-            }
-        }
-        [] => None,
+    match numbered(members, number) {
+        Some(member) => Some(member.number),
+        None => None,
     }
 }
 
@@ -56,10 +60,11 @@ pub fn first_number(members: &[EnumMember]) -> i32
 pub fn known_bits(members: &[FlagsMember]) -> u32
     ensures { result ≡ known_bits (map flags_member members.now) }
 {
-    match members {
-        [first, others @ ..] => first.bits | known_bits(others),
-        [] => 0,
+    let mut bits = 0;
+    for member in members {
+        bits |= member.bits;
     }
+    bits
 }
 
 /// A number as bits of a flags type, if it is made of known bits.

@@ -6,6 +6,8 @@ ghost use Rattle.std.specs.Option.{option_or, option_copied};
 ghost use Rattle.type_tree.specs.Entry.{enum_member, flags_member};
 ghost use Rattle.g_values.specs.Naming.{number_called, is_no_blank, front_trimmed, back_trimmed, trimmed, is_bar, bits_called, bits_named};
 
+use crate::flags_names::FlagsNames;
+use std::alloc::Global;
 use type_tree::{EnumMember, FlagsMember};
 
 // The first member of an enum with this name.
@@ -30,31 +32,6 @@ pub fn enum_called(members: &[EnumMember], word: &str) -> Option<i32>
     match enum_named(members, word) {
         Some(member) => Some(member.number),
         None => Some(enum_nicked(members, word)?.number),
-    }
-}
-
-// The first member of a flags type with this name.
-fn flags_named<'a>(members: &'a [FlagsMember], word: &[u8]) -> Option<&'a FlagsMember>
-    ensures { option_copied result ≡ find (λ m. bytes_eq (string_bytes m.name) word.now) members.now }
-{
-    members.iter().find(|member| member.name.as_bytes() == word)
-}
-
-// The first member of a flags type with this nick.
-fn flags_nicked<'a>(members: &'a [FlagsMember], word: &[u8]) -> Option<&'a FlagsMember>
-    ensures { option_copied result ≡ find (λ m. bytes_eq (string_bytes m.nick) word.now) members.now }
-{
-    members.iter().find(|member| member.nick.as_bytes() == word)
-}
-
-// The bits of the member of a flags type that is called so: by its name, else by its nick.
-#[tactic(auto, using(crate::proofs::Called::flags_called))]
-fn flags_called(members: &[FlagsMember], word: &[u8]) -> Option<u32>
-    ensures { option_map pos result ≡ number_called (map flags_member members.now) word.now }
-{
-    match flags_named(members, word) {
-        Some(member) => Some(member.bits),
-        None => Some(flags_nicked(members, word)?.bits),
     }
 }
 
@@ -120,25 +97,33 @@ fn back_trimmed(text: &[u8]) -> &[u8]
 }
 
 // The bits that a word names, with blanks around it; no word names none.
-fn part_bits(members: &[FlagsMember], part: &[u8]) -> Option<u32>
-    ensures { result ≡ bits_called (map flags_member members.now) (trimmed part.now) }
+fn part_bits(names: &FlagsNames<'_>, part: &[u8]) -> Option<u32>
+    ensures { result ≡ bits_called names.now (trimmed part.now) }
 {
     let word = back_trimmed(front_trimmed(part));
     if word.is_empty() {
         return Some(0);
     }
-    flags_called(members, word)
+    names.called(word)
+}
+
+// The bits that the words of a text name, each between bars and with blanks around it.
+fn bits_of_words(names: &FlagsNames<'_>, text: &[u8]) -> Option<u32>
+    ensures { result ≡ bits_named names.now text.now }
+{
+    let mut bits = 0;
+    let mut rest = text;
+    'parts: while let Some((part, others)) = split_at_bar(rest) {
+        bits |= part_bits(names, part)?;
+        rest = others;
+    }
+    Some(bits | part_bits(names, rest)?)
 }
 
 /// The bits that a text names by words between bars, each with blanks around it.
-pub fn bits_named(members: &[FlagsMember], text: &str) -> Option<u32>
+pub fn bits_named(alloc: Global, members: &[FlagsMember], text: &str) -> Option<u32>
     ensures { result ≡ bits_named (map flags_member members.now) text.now }
 {
-    let mut bits = 0;
-    let mut rest = text.as_bytes();
-    'parts: while let Some((part, others)) = split_at_bar(rest) {
-        bits |= part_bits(members, part)?;
-        rest = others;
-    }
-    Some(bits | part_bits(members, rest)?)
+    let names = FlagsNames::new(alloc, members, text.as_bytes());
+    bits_of_words(&names, text.as_bytes())
 }

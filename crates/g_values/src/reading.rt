@@ -57,7 +57,7 @@ pub fn from_json(
         }
         Kind::Text => Ok(Value::Text(text_in(alloc, json)?)),
         Kind::Enum(t) => Ok(Value::Enum(t, enum_number_in(tree.enum_members(t), json)?)),
-        Kind::Flags(t) => Ok(Value::Flags(t, bits_in(tree.flags_members(t), json)?)),
+        Kind::Flags(t) => Ok(Value::Flags(t, bits_in(alloc, tree.flags_members(t), json)?)),
         Kind::Object(t) => {
             null_in(json)?;
             Ok(Value::Object(t, None))
@@ -134,11 +134,15 @@ fn enum_number_in(members: &[EnumMember], json: &serde_json::Value) -> Result<i3
 }
 
 // Bits that are named, or any number of 32 bits that is given itself.
-fn bits_in(members: &[FlagsMember], json: &serde_json::Value) -> Result<u32, JsonFault>
+fn bits_in(
+    alloc: Global,
+    members: &[FlagsMember],
+    json: &serde_json::Value,
+) -> Result<u32, JsonFault>
     ensures { result ≡ flags_bits (map flags_member members.now) (as_str (view json.now)) (whole_number (view json.now)) }
 {
     if let Some(text) = json.as_str() {
-        return bits_named(members, text).ok_or(JsonFault::UnknownMember);
+        return bits_named(alloc, members, text).ok_or(JsonFault::UnknownMember);
     }
     let number = number_in(json, 0, i128::from(u32::MAX))?;
     Ok(number as u32)

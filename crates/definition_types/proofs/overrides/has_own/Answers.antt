@@ -3,4 +3,4 @@ use Rattle.definition_types.proofs.OwnAhead.{has_own}
 use Rattle.definition_types.proofs.overrides.has_own.Goals as goal
 
 pub returns : goal.returns
-returns c = c.contains_key.ensures ∙ has_own c.args.name.now c.args.own.now.entries
+returns c = c.contains_key.ensures ∙ has_own c.args.own.now c.args.name.now

@@ -1,0 +1,24 @@
+//! The canonical spelling of any text.
+
+ghost use Rattle.std.specs.Prelude.{◌≡◌, ◌==◌, IfOk, if◌then◌else◌, string_bytes};
+ghost use Rattle.ui_machine.specs.Definition.Names.{canonical};
+
+use std::alloc::{AllocError, Global};
+
+/// A text with `-` for `_`.
+pub(crate) fn canonical_text(alloc: Global, text: &str) -> Result<String, AllocError>
+    ensures { IfOk result (λ s. string_bytes s ≡ canonical text.now) }
+{
+    let mut out = String::new(alloc);
+    for c in text.chars() {
+        out.push(dashed(c))?;
+    }
+    Ok(out)
+}
+
+// A character, or `-` for `_`.
+fn dashed(c: char) -> char
+    ensures { result ≡ (if c == 95 then 45 else c) }
+{
+    if c == '_' { '-' } else { c }
+}

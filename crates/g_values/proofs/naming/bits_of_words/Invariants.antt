@@ -1,0 +1,10 @@
+use Rattle.std.proofs.Common.{◌≡◌, length}
+use Rattle.std.specs.List.{slice_split}
+use Rattle.g_values.specs.Naming.{is_bar, bits_with, bits_named}
+use Rattle.g_values.proofs.naming.bits_of_words.Given as goal
+
+abbrev pub invariant-parts : goal.invariant-parts
+invariant-parts l = bits_with l.names l.bits (slice_split is_bar l.rest) ≡ bits_named l.fn.names l.fn.text
+
+abbrev pub decreases-parts : goal.decreases-parts
+decreases-parts l = length l.rest
