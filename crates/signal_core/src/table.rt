@@ -1,18 +1,18 @@
 //! Which signals the types have, and the programs that classes name for them.
 
-ghost use Rattle.std.specs.Prelude.{◌≡◌, ◌*◌, ◌+◌, ◌<◌, ◌≤◌, None, Some, IfErr, IfNone, IfOk, IfSome, OnErr, OnOk, length, map, option_and_then, option_map, position, slice_get, string_bytes, true};
+ghost use Rattle.std.specs.Prelude.{◌≡◌, ◌*◌, ◌+◌, ◌<◌, ◌≤◌, [], None, Some, IfErr, IfNone, IfOk, IfSome, OnErr, OnOk, length, map, option_and_then, option_map, position, slice_get, string_bytes, true};
 ghost use Rattle.ui_machine.specs.Definition.Names.{canonical, place_named, same_name};
 ghost use Rattle.ui_machine.specs.Words as machine;
 ghost use Rattle.type_tree.specs.Tree.{IsTree};
 ghost use Rattle.signal_core.specs.SignalView.{declared_view, signal_view};
-ghost use Rattle.signal_core.specs.Sources.{added_at, brought_by, declared_of, declared_until, number_named, own_of, signals_of};
+ghost use Rattle.signal_core.specs.Sources.{AreMarked, added_at, brought_by, brought_until, declared_of, declared_until, number_named, own_of, signals_of};
 ghost use Rattle.signal_core.specs.Table.{AddsHandler, AddsSignal, RenamesHandlers, SameHandlers, SameSignals, line_count, named_of, nothing_declared, with_program};
 
 use crate::class_handler::ClassHandler;
 use crate::flags::SignalFlags;
 use crate::growing::add;
 use crate::signal::{DeclaredSignal, Signal};
-use crate::sources::{came_before, source_at, source_count};
+use crate::sources::{came_before, mark, source_at, source_count, unmarked};
 use std::alloc::{AllocError, Global};
 use std::marker::Model;
 use type_tree::{TypeId, TypeTree, is_spelling};
@@ -134,12 +134,14 @@ impl SignalTable {
         }
     }
 
-    // The signals that come with what a type brings at a place: its own, or those of an interface that it names.
-    fn added(&self, tree: &TypeTree, t: TypeId, place: usize) -> &[Signal]
-        requires { place < length (brought_by tree.now t) }
+    // The signals that come with what a type brings at a place: its own, or those of an interface that it names. What was brought before is
+    // marked.
+    fn added(&self, tree: &TypeTree, t: TypeId, place: usize, marks: &[bool]) -> &[Signal]
+        requires place { place < length (brought_by tree.now t) }
+        requires marks { AreMarked marks.now (brought_until tree.now t place) }
         ensures { map signal_view result.now ≡ added_at tree.now self.now.signals t place }
     {
-        if came_before(tree, t, place) {
+        if came_before(tree, t, place, marks) {
             &[]
         } else {
             self.own(source_at(tree, t, place))
@@ -152,12 +154,30 @@ impl SignalTable {
         ensures none { IfErr result (λ count. place_named (λ s. s.name) (declared_of tree.now self.now.signals t) (canonical name.now) ≡ None) }
         ensures count { IfErr result (λ count. count ≡ length (declared_of tree.now self.now.signals t)) }
     {
+        let mut marks = unmarked();
+        self.place_from_root(tree, t, name, &mut marks)
+    }
+
+    // The same, where nothing is marked yet. What the type and its ancestors bring is marked on the way.
+    fn place_from_root(
+        &self,
+        tree: &TypeTree,
+        t: TypeId,
+        name: &str,
+        marks: &mut [bool],
+    ) -> Result<usize, usize>
+        requires fresh { AreMarked marks.old [] }
+        ensures found { IfOk result (λ place. place_named (λ s. s.name) (declared_of tree.now self.now.signals t) (canonical name.now) ≡ Some place) }
+        ensures none { IfErr result (λ count. place_named (λ s. s.name) (declared_of tree.now self.now.signals t) (canonical name.now) ≡ None) }
+        ensures count { IfErr result (λ count. count ≡ length (declared_of tree.now self.now.signals t)) }
+        ensures marks { IfErr result (λ count. AreMarked marks.new (brought_until tree.now t (length (brought_by tree.now t)))) }
+    {
         match tree.parent(t) {
-            Some(parent) => match self.place(tree, parent, name) {
+            Some(parent) => match self.place_from_root(tree, parent, name, marks) {
                 Ok(place) => Ok(place),
-                Err(count) => self.place_added(tree, t, name, count),
+                Err(count) => self.place_added(tree, t, name, count, marks),
             },
-            None => self.place_added(tree, t, name, 0),
+            None => self.place_added(tree, t, name, 0, marks),
         }
     }
 
@@ -168,21 +188,25 @@ impl SignalTable {
         t: TypeId,
         name: &str,
         above: usize,
+        marks: &mut [bool],
     ) -> Result<usize, usize>
         requires none { place_named (λ s. s.name) (declared_until tree.now self.now.signals t 0) (canonical name.now) ≡ None }
         requires count { above ≡ length (declared_until tree.now self.now.signals t 0) }
+        requires marks { AreMarked marks.old (brought_until tree.now t 0) }
         ensures found { IfOk result (λ place. place_named (λ s. s.name) (declared_of tree.now self.now.signals t) (canonical name.now) ≡ Some place) }
         ensures none { IfErr result (λ count. place_named (λ s. s.name) (declared_of tree.now self.now.signals t) (canonical name.now) ≡ None) }
         ensures count { IfErr result (λ count. count ≡ length (declared_of tree.now self.now.signals t)) }
+        ensures marks { IfErr result (λ count. AreMarked marks.new (brought_until tree.now t (length (brought_by tree.now t)))) }
     {
         let _ = &self.own;
         let mut count = above;
         for at in 0..source_count(tree, t) {
-            let added = self.added(tree, t, at);
+            let added = self.added(tree, t, at, marks);
             if let Some(place) = position_of(added, name) {
                 return Ok(count + place);
             }
             count += added.len();
+            mark(tree, t, at, marks);
         }
         Err(count)
     }
@@ -193,12 +217,30 @@ impl SignalTable {
         ensures past { IfErr result (λ count. count ≤ place) }
         ensures count { IfErr result (λ count. count ≡ length (declared_of tree.now self.now.signals t)) }
     {
+        let mut marks = unmarked();
+        self.signal_from_root(tree, t, place, &mut marks)
+    }
+
+    // The same, where nothing is marked yet. What the type and its ancestors bring is marked on the way.
+    fn signal_from_root(
+        &self,
+        tree: &TypeTree,
+        t: TypeId,
+        place: usize,
+        marks: &mut [bool],
+    ) -> Result<&Signal, usize>
+        requires fresh { AreMarked marks.old [] }
+        ensures found { IfOk result (λ s. slice_get (declared_of tree.now self.now.signals t) place ≡ Some (signal_view s.now)) }
+        ensures past { IfErr result (λ count. count ≤ place) }
+        ensures count { IfErr result (λ count. count ≡ length (declared_of tree.now self.now.signals t)) }
+        ensures marks { IfErr result (λ count. AreMarked marks.new (brought_until tree.now t (length (brought_by tree.now t)))) }
+    {
         match tree.parent(t) {
-            Some(parent) => match self.signal_at(tree, parent, place) {
+            Some(parent) => match self.signal_from_root(tree, parent, place, marks) {
                 Ok(signal) => Ok(signal),
-                Err(count) => self.signal_added(tree, t, place, count),
+                Err(count) => self.signal_added(tree, t, place, count, marks),
             },
-            None => self.signal_added(tree, t, place, 0),
+            None => self.signal_added(tree, t, place, 0, marks),
         }
     }
 
@@ -209,20 +251,24 @@ impl SignalTable {
         t: TypeId,
         place: usize,
         above: usize,
+        marks: &mut [bool],
     ) -> Result<&Signal, usize>
         requires past { above ≤ place }
         requires count { above ≡ length (declared_until tree.now self.now.signals t 0) }
+        requires marks { AreMarked marks.old (brought_until tree.now t 0) }
         ensures found { IfOk result (λ s. slice_get (declared_of tree.now self.now.signals t) place ≡ Some (signal_view s.now)) }
         ensures past { IfErr result (λ count. count ≤ place) }
         ensures count { IfErr result (λ count. count ≡ length (declared_of tree.now self.now.signals t)) }
+        ensures marks { IfErr result (λ count. AreMarked marks.new (brought_until tree.now t (length (brought_by tree.now t)))) }
     {
         let mut count = above;
         for at in 0..source_count(tree, t) {
-            let added = self.added(tree, t, at);
+            let added = self.added(tree, t, at, marks);
             if place - count < added.len() {
                 return Ok(&added[place - count]);
             }
             count += added.len();
+            mark(tree, t, at, marks);
         }
         Err(count)
     }

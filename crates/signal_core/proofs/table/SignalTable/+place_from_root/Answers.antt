@@ -1,8 +1,8 @@
 use Rattle.std.proofs.Common.{◌∙◌, length, ap, sym}
 use Rattle.ui_machine.specs.Definition.Names.{canonical, place_named}
 use Rattle.ui_machine.specs.Definition.Signals.{Signal}
-use Rattle.signal_core.proofs.Walks.{found_until, until_child, until_root}
-use Rattle.signal_core.proofs.table.SignalTable.+place.Goals as goal
+use Rattle.signal_core.proofs.Walks.{found_until, marked_child, marked_root, until_child, until_root}
+use Rattle.signal_core.proofs.table.SignalTable.+place_from_root.Goals as goal
 
 pub place_added-requires-clause-none : goal.place_added-requires-clause-none
 place_added-requires-clause-none t c =
@@ -26,3 +26,7 @@ returns-in-Ok-clause-found t c =
     found_until c.args.tree.now c.args.self.now.signals (canonical c.args.name.now) c.args.t 0 c.in-Ok.place
     (ap (λ l. place_named (λ (s : Signal). s.name) l (canonical c.args.name.now)) (until_child c.args.tree.now c.args.self.now.signals c.in-Some.ensures.tree c.args.t c.in-Some.parent (sym c.in-Some.ensures.parent))
     ∙ c.in-Ok.ensures.found)
+
+pub place_added-requires-clause-marks : goal.place_added-requires-clause-marks
+place_added-requires-clause-marks t c =
+    marked_child c.args.tree.now c.in-Some.ensures.tree c.args.t c.in-Some.parent c.place_from_root.new.marks (sym c.in-Some.ensures.parent) c.in-Err.ensures.marks
