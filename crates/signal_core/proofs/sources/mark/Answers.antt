@@ -1,4 +1,4 @@
-use Rattle.std.proofs.Common.{◌≡◌, ◌∙◌, ◌||◌, ◌<◌, ℕ, Bool, List, true, false, length, get_or, nat_eq, ◌≤◌, slice_set, get_or-set_other, get_or-set_same, length-set, inl, inr, refl, sym, ap, subst, arith}
+use Rattle.std.proofs.Common.{◌≡◌, ◌∙◌, ◌||◌, ◌<◌, ℕ, Bool, List, true, false, length, get_or, nat_eq, ◌≤◌, slice_set, get_or-set_other, get_or-set_same, length-set, inl, inr, refl, sym, ap, arith}
 use Rattle.std.proofs.lemmas.Bool.{cases_eq}
 use Rattle.std.proofs.lemmas.Bool.Decides.{nat_tests}
 use Rattle.signal_core.proofs.Walks.{marked_more}

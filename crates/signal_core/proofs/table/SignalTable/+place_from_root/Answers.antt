@@ -1,7 +1,7 @@
 use Rattle.std.proofs.Common.{◌∙◌, length, ap, sym}
 use Rattle.ui_machine.specs.Definition.Names.{canonical, place_named}
 use Rattle.ui_machine.specs.Definition.Signals.{Signal}
-use Rattle.signal_core.proofs.Walks.{found_until, marked_child, marked_root, until_child, until_root}
+use Rattle.signal_core.proofs.Walks.{found_until, marked_child, until_child, until_root}
 use Rattle.signal_core.proofs.table.SignalTable.+place_from_root.Goals as goal
 
 pub place_added-requires-clause-none : goal.place_added-requires-clause-none
