@@ -127,10 +127,14 @@ impl SignalTable {
         ensures own { length (own_of self.now.signals t) ≤ result }
         ensures tree { IsTree tree.now }
     {
-        let own = self.own(t).len();
-        match tree.parent(t) {
-            Some(parent) => own + self.line_count(tree, parent),
-            None => own,
+        let mut count = 0;
+        let mut class = t;
+        'line: loop {
+            count += self.own(class).len();
+            let Some(parent) = tree.parent(class) else {
+                return count;
+            };
+            class = parent;
         }
     }
 
