@@ -252,7 +252,9 @@ pub found_counts : (q : Handler → Bool) (n : ℕ) (x : Handler) (above : ℕ) 
     → find (λ h. nat_eq h.number n) hs ≡ Some x → count_by (is_numbered q n) hs ≡ cond (q x) 1 0
 found_counts q n x above [] last rising e = absurd (cc)
 found_counts q n x above (y ∷ hs) last rising e =
-    count_cons (is_numbered q n) y hs ∙ by (nat_eq y.number n) refl e (found_counts q n x y.number hs last rising.1)
+    let rest = found_counts q n x y.number hs last rising.1 in
+    let all : count_by (is_numbered q n) (y ∷ hs) ≡ cond (is_numbered q n y) 1 0 + count_by (is_numbered q n) hs = count_cons (is_numbered q n) y hs in
+    all ∙ by (nat_eq y.number n) refl e rest
   where
     by : (b : Bool) → nat_eq y.number n ≡ b → cond b (Some y) (find (λ h. nat_eq h.number n) hs) ≡ Some x
         → (find (λ h. nat_eq h.number n) hs ≡ Some x → count_by (is_numbered q n) hs ≡ cond (q x) 1 0)

@@ -11,7 +11,7 @@ use Rattle.signal_core.specs.Kept.{key_cmp, one_at, pair_cmp}
 cmp_self : (x : ℕ) → nat_cmp x x ≡ Equal
 cmp_self x = grind (arith, nat_tests)
 
--- ** keys of three numbers
+-- ** keys
 
 last_equal : (u w : Ordering) → is_eq (ordering_then u w) ≡ true → is_eq w ≡ true
 last_equal Less w e = let no : false ≡ true = e in absurd (cc)
@@ -22,12 +22,12 @@ same_number : (x y : ℕ) → is_eq (nat_cmp x y) ≡ true → x ≡ y
 same_number x y e = grind (arith, nat_tests)
 
 -- keys with other numbers are apart
-pub apart : (a b n x y m : ℕ) → (m ≡ n → ⊥) → is_at (key_cmp (a, b, n)) (x, y, m) ≡ false
-apart a b n x y m ne = by (is_at (key_cmp (a, b, n)) (x, y, m)) refl
+pub apart : (a b c n x y z m : ℕ) → (m ≡ n → ⊥) → is_at (key_cmp (a, b, c, n)) (x, y, z, m) ≡ false
+apart a b c n x y z m ne = by (is_at (key_cmp (a, b, c, n)) (x, y, z, m)) refl
   where
-    by : (t : Bool) → is_at (key_cmp (a, b, n)) (x, y, m) ≡ t → t ≡ false
+    by : (t : Bool) → is_at (key_cmp (a, b, c, n)) (x, y, z, m) ≡ t → t ≡ false
     by false e = refl
-    by true e = absurd (ne (sym (same_number n m (last_equal (ordering_then (nat_cmp a x) (nat_cmp b y)) (nat_cmp n m) e))))
+    by true e = absurd (ne (sym (same_number n m (last_equal (ordering_then (ordering_then (nat_cmp a x) (nat_cmp b y)) (nat_cmp c z)) (nat_cmp n m) e))))
 
 first_of : (x y : ℕ) (o : Ordering) → is_gt (ordering_then (nat_cmp x y) o) ≡ false → (x < y) ⊎ ((x ≡ y) × (is_gt o ≡ false))
 first_of x y o = by (nat_cmp x y) refl
@@ -45,49 +45,46 @@ then_assoc Greater v w = refl
 up_to : (x y : ℕ) → is_gt (nat_cmp x y) ≡ false → x ≤ y
 up_to x y h = grind (arith, nat_tests)
 
--- what a key is at most another by
-parts : (a b n x y m : ℕ) → is_gt (key_cmp (a, b, n) (x, y, m)) ≡ false → (a < x) ⊎ ((a ≡ x) × ((b < y) ⊎ ((b ≡ y) × (n ≤ m))))
-parts a b n x y m h =
-    elim (first_of a x (ordering_then (nat_cmp b y) (nat_cmp n m)) (ap is_gt (sym (then_assoc (nat_cmp a x) (nat_cmp b y) (nat_cmp n m))) ∙ h)) [
-      | inl l ↦ inl l
-      | inr e ↦
-          elim (first_of b y (nat_cmp n m) e.1) [
-            | inl l ↦ inr (e.0, inl l)
-            | inr f ↦ inr (e.0, inr (f.0, up_to n m f.1))
-          ]
-    ]
-
--- a key between two of one pair is of that pair
-pub between : (a b n m : ℕ) (x y k : ℕ) → is_gt (key_cmp (a, b, n) (x, y, k)) ≡ false → is_gt (key_cmp (x, y, k) (a, b, m)) ≡ false
-    → (x ≡ a) × (y ≡ b) × (n ≤ k) × (k ≤ m)
-between a b n m x y k lo hi =
-    elim (parts a b n x y k lo) [
+-- of two numbers each at most the other, and what comes after them
+tied : (x y : ℕ) (o p : Ordering) → is_gt (ordering_then (nat_cmp x y) o) ≡ false → is_gt (ordering_then (nat_cmp y x) p) ≡ false
+    → (is_gt o ≡ false) × (is_gt p ≡ false)
+tied x y o p lo hi =
+    elim (first_of x y o lo) [
       | inl l ↦
-          elim (parts x y k a b m hi) [
+          elim (first_of y x p hi) [
             | inl r ↦ absurd (omega (arith, l, r))
             | inr e ↦ absurd (omega (arith, l, e.0))
           ]
       | inr e ↦
-          elim (parts x y k a b m hi) [
+          elim (first_of y x p hi) [
             | inl r ↦ absurd (omega (arith, r, e.0))
-            | inr f ↦ within e.0 e.1 f.1
+            | inr f ↦ (e.1, f.1)
           ]
     ]
-  where
-    within : a ≡ x → (b < y) ⊎ ((b ≡ y) × (n ≤ k)) → (y < b) ⊎ ((y ≡ b) × (k ≤ m)) → (x ≡ a) × (y ≡ b) × (n ≤ k) × (k ≤ m)
-    within e (inl l) (inl r) = absurd (omega (arith, l, r))
-    within e (inl l) (inr r) = absurd (omega (arith, l, r.0))
-    within e (inr l) (inl r) = absurd (omega (arith, l.0, r))
-    within e (inr l) (inr r) = (sym e, r.0, l.1, r.1)
+
+regrouped : (s t u v : Ordering) → ordering_then (ordering_then (ordering_then s t) u) v ≡ ordering_then s (ordering_then t (ordering_then u v))
+regrouped s t u v = then_assoc (ordering_then s t) u v ∙ then_assoc s t (ordering_then u v)
+
+-- a key between two of the same first three has these too, as far as it matters
+pub between : (a b c n m : ℕ) (x y z k : ℕ) → is_gt (key_cmp (a, b, c, n) (x, y, z, k)) ≡ false → is_gt (key_cmp (x, y, z, k) (a, b, c, m)) ≡ false
+    → (n ≤ k) × (k ≤ m)
+between a b c n m x y z k lo hi =
+    let low = ap is_gt (sym (regrouped (nat_cmp a x) (nat_cmp b y) (nat_cmp c z) (nat_cmp n k))) ∙ lo in
+    let high = ap is_gt (sym (regrouped (nat_cmp x a) (nat_cmp y b) (nat_cmp z c) (nat_cmp k m))) ∙ hi in
+    let one = tied a x (ordering_then (nat_cmp b y) (ordering_then (nat_cmp c z) (nat_cmp n k))) (ordering_then (nat_cmp y b) (ordering_then (nat_cmp z c) (nat_cmp k m))) low high in
+    let two = tied b y (ordering_then (nat_cmp c z) (nat_cmp n k)) (ordering_then (nat_cmp z c) (nat_cmp k m)) one.0 one.1 in
+    let three = tied c z (nat_cmp n k) (nat_cmp k m) two.0 two.1 in
+    (up_to n k three.0, up_to k m three.1)
 
 rising : (n m : ℕ) → n ≤ m → is_gt (nat_cmp n m) ≡ false
 rising n m h = grind (arith, nat_tests)
 
--- keys of one pair go by their numbers
-pub along : (a b n m : ℕ) → n ≤ m → is_gt (key_cmp (a, b, n) (a, b, m)) ≡ false
-along a b n m h =
-    ap (λ o. is_gt (ordering_then (ordering_then o (nat_cmp b b)) (nat_cmp n m))) (cmp_self a)
-    ∙ ap (λ o. is_gt (ordering_then o (nat_cmp n m))) (cmp_self b) ∙ rising n m h
+-- keys of the same first three go by their numbers
+pub along : (a b c n m : ℕ) → n ≤ m → is_gt (key_cmp (a, b, c, n) (a, b, c, m)) ≡ false
+along a b c n m h =
+    ap (λ o. is_gt (ordering_then (ordering_then (ordering_then o (nat_cmp b b)) (nat_cmp c c)) (nat_cmp n m))) (cmp_self a)
+    ∙ ap (λ o. is_gt (ordering_then (ordering_then o (nat_cmp c c)) (nat_cmp n m))) (cmp_self b)
+    ∙ ap (λ o. is_gt (ordering_then o (nat_cmp n m))) (cmp_self c) ∙ rising n m h
 
 -- what was there is there still, with one more
 pub still : (at was : Bool) → was ≡ true → cond at true was ≡ true

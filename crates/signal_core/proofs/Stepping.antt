@@ -1,28 +1,28 @@
 -- Going over the handlers of a kind by their numbers: those up to a number were changed, or are gone.
-use Rattle.std.proofs.Common.{◌≡◌, ◌∙◌, ℕ, ◌+◌, ◌<◌, ◌^◌, ◌≤◌, Bool, true, false, cond, not, ◌&&◌, ◌||◌, nat_eq, nat_le, nat_lt, count_by, map, List, [], ◌∷◌, Option, Some, None, refl, sym, ap, subst, arith}
+use Rattle.std.proofs.Common.{◌≡◌, ◌∙◌, ℕ, ◌+◌, ◌<◌, ◌^◌, ◌≤◌, Bool, true, false, cond, not, ◌&&◌, ◌||◌, nat_eq, nat_le, nat_lt, count_by, map, List, [], ◌∷◌, Option, Some, None, inl, inr, ◌⊎◌, refl, sym, ap, subst, arith}
 use Rattle.std.proofs.lemmas.Bool.Decides.{nat_tests}
 use Rattle.std.specs.List.{AllByRecursion, filter, find}
-use Rattle.std.specs.Option.{IfSome}
+use Rattle.std.specs.Option.{IfSome, IsSomeAnd}
+use Rattle.ui_machine.specs.Definition.Names.{same_name}
 use Rattle.ui_machine.specs.Rules.Connections.{is_on}
 use Rattle.ui_machine.specs.Rules.EmissionPlan.{fits_detail, runs_for}
 use Rattle.ui_machine.specs.Rules.Disposal.{is_identity, is_of_object}
 use Rattle.ui_machine.specs.State.Handlers.{Handler}
 use Rattle.signal_core.specs.Connected.{Numbered}
 use Rattle.signal_core.specs.Emission.{Walk, has_next_turn, is_ahead}
-use Rattle.signal_core.specs.Kept.{IsListed, IsNext, IsNextOf, is_listed, is_numbered, is_to}
-use Rattle.signal_core.specs.declared.listing.Listing.{Listing}
+use Rattle.signal_core.specs.Kept.{IsAbove, IsListed, IsNext, IsNextOf, NotBefore, channel, detail_number, is_listed, is_numbered, least_of, runs_in}
 use Rattle.signal_core.specs.declared.listings.Listings.{Listings}
 use Rattle.signal_core.proofs.Keeping.{all_above, all_each, all_one, all_two, all_unfilter, all_unmap, all_within, count_alike, count_cons, count_none, filter_alike, filter_true, find_false, find_none, first_is, map_alike, map_id}
 
 -- ** the next one of a kind, by what is listed
 
-next_listed : (p : Handler → Bool) (x : Listing) (a b given : ℕ) (l : Listings) → ((h : Handler) → IsListed l h → p h ≡ true → is_listed x a b h.number ≡ true)
-    → (hs : List Handler) (last : ℕ) → last < 2 ^ 64 → Numbered 0 hs last → AllByRecursion (IsListed l) hs → (next : Option ℕ) → IsNext x a b given next → IsNextOf p given hs next
-next_listed p x a b given l has hs last few rising all None is =
-    all_two (IsListed l) (λ h. h.number ≤ last) (λ h. p h ≡ true → given < h.number → ⊥) (λ h mine low of up. is h.number up (omega (arith, low, few)) (has h mine of)) hs all (all_within 0 hs last rising)
-next_listed p x a b given l has hs last few rising all (Some next) is = (
-  is.0,
-  all_one (IsListed l) (λ h. p h ≡ true → given < h.number → h.number < next → ⊥) (λ h mine of up low. is.1 h.number up low (has h mine of)) hs all,
+pub next_listed : (p : Handler → Bool) (l : Listings) (given : ℕ) (hs : List Handler) (last : ℕ) → last < 2 ^ 64 → Numbered 0 hs last → AllByRecursion (IsListed l) hs
+    → (next : Option ℕ) → IsAbove given next → ((h : Handler) → IsListed l h → p h ≡ true → NotBefore given next h.number) → IsNextOf p given hs next
+next_listed p l given hs last few rising all None above each =
+    all_two (IsListed l) (λ h. h.number ≤ last) (λ h. p h ≡ true → given < h.number → ⊥) (λ h mine low of up. each h mine of up (omega (arith, low, few))) hs all (all_within 0 hs last rising)
+next_listed p l given hs last few rising all (Some next) above each = (
+  above.0,
+  all_one (IsListed l) (λ h. p h ≡ true → given < h.number → h.number < next → ⊥) (λ h mine of up low. each h mine of up low) hs all,
 )
 
 both : (s t : Bool) → (s && t) ≡ true → (s ≡ true) × (t ≡ true)
@@ -34,37 +34,118 @@ same_number : (x y : ℕ) → nat_eq x y ≡ true → x ≡ y
 same_number x y e = grind (arith, nat_tests)
 
 module _ (l : Listings) (hs : List Handler) (last : ℕ) (few : last < 2 ^ 64) (rising : Numbered 0 hs last) (all : AllByRecursion (IsListed l) hs) where
-  pub next_to_is : (o s given : ℕ) (next : Option ℕ) → IsNext l.by_signal o s given next → IsNextOf (is_to o s) given hs next
-  next_to_is o s given next is = next_listed (is_to o s) l.by_signal o s given l has hs last few rising all next is
+  pub next_on_is : (o s given : ℕ) (next : Option ℕ) → IsNext l.by_program o s 0 given next → IsNextOf (is_on o s) given hs next
+  next_on_is o s given next is = next_listed (is_on o s) l given hs last few rising all next is.0 (λ h mine of. is.1 h.number (has h mine of))
     where
-      has : (h : Handler) → IsListed l h → is_to o s h ≡ true → is_listed l.by_signal o s h.number ≡ true
-      has h mine of =
-          let parts = both (nat_eq h.object o) (nat_eq h.signal s) of in
-          subst (λ k. is_listed l.by_signal k s h.number ≡ true) (same_number h.object o parts.0)
-          (subst (λ k. is_listed l.by_signal h.object k h.number ≡ true) (same_number h.signal s parts.1) mine.0)
-
-  pub next_on_is : (o s given : ℕ) (next : Option ℕ) → IsNext l.by_program o s given next → IsNextOf (is_on o s) given hs next
-  next_on_is o s given next is = next_listed (is_on o s) l.by_program o s given l has hs last few rising all next is
-    where
-      has : (h : Handler) → IsListed l h → is_on o s h ≡ true → is_listed l.by_program o s h.number ≡ true
+      has : (h : Handler) → IsListed l h → is_on o s h ≡ true → is_listed l.by_program o s 0 h.number ≡ true
       has h mine of =
           let parts = both (nat_eq h.object o) (nat_eq h.program s) of in
-          subst (λ k. is_listed l.by_program k s h.number ≡ true) (same_number h.object o parts.0)
-          (subst (λ k. is_listed l.by_program h.object k h.number ≡ true) (same_number h.program s parts.1) mine.1)
+          subst (λ k. is_listed l.by_program k s 0 h.number ≡ true) (same_number h.object o parts.0)
+          (subst (λ k. is_listed l.by_program h.object k 0 h.number ≡ true) (same_number h.program s parts.1) mine.1)
 
-  pub next_of_is : (o given : ℕ) (next : Option ℕ) → IsNext l.by_object o 0 given next → IsNextOf (is_of_object o) given hs next
-  next_of_is o given next is = next_listed (is_of_object o) l.by_object o 0 given l has hs last few rising all next is
+  pub next_of_is : (o given : ℕ) (next : Option ℕ) → IsNext l.by_object o 0 0 given next → IsNextOf (is_of_object o) given hs next
+  next_of_is o given next is = next_listed (is_of_object o) l given hs last few rising all next is.0 (λ h mine of. is.1 h.number (has h mine of))
     where
-      as_data : (number : ℕ) (arg : Option ℕ) → IfSome arg (λ id. is_listed l.by_object id 0 number ≡ true) → is_identity o arg ≡ true → is_listed l.by_object o 0 number ≡ true
+      as_data : (number : ℕ) (arg : Option ℕ) → IfSome arg (λ id. is_listed l.by_object id 0 0 number ≡ true) → is_identity o arg ≡ true → is_listed l.by_object o 0 0 number ≡ true
       as_data number None mine of = let no : false ≡ true = of in absurd (cc)
-      as_data number (Some id) mine of = subst (λ k. is_listed l.by_object k 0 number ≡ true) (same_number id o of) mine
+      as_data number (Some id) mine of = subst (λ k. is_listed l.by_object k 0 0 number ≡ true) (same_number id o of) mine
 
-      by : (h : Handler) → IsListed l h → (b : Bool) → nat_eq h.object o ≡ b → (b || is_identity o h.arg) ≡ true → is_listed l.by_object o 0 h.number ≡ true
-      by h mine true e of = subst (λ k. is_listed l.by_object k 0 h.number ≡ true) (same_number h.object o e) mine.2
+      by : (h : Handler) → IsListed l h → (b : Bool) → nat_eq h.object o ≡ b → (b || is_identity o h.arg) ≡ true → is_listed l.by_object o 0 0 h.number ≡ true
+      by h mine true e of = subst (λ k. is_listed l.by_object k 0 0 h.number ≡ true) (same_number h.object o e) mine.2
       by h mine false e of = as_data h.number h.arg mine.3 of
 
-      has : (h : Handler) → IsListed l h → is_of_object o h ≡ true → is_listed l.by_object o 0 h.number ≡ true
+      has : (h : Handler) → IsListed l h → is_of_object o h ≡ true → is_listed l.by_object o 0 0 h.number ≡ true
       has h mine of = by h mine (nat_eq h.object o) refl of
+
+-- ** what runs in an emission, by what is listed
+
+same_names : (xs ys : List ℕ) → same_name xs ys ≡ true → xs ≡ ys
+same_names [] [] h = refl
+same_names [] (y ∷ ys) h = let no : false ≡ true = h in absurd (cc)
+same_names (x ∷ xs) [] h = let no : false ≡ true = h in absurd (cc)
+same_names (x ∷ xs) (y ∷ ys) h = by (nat_eq x y) refl (same_names xs ys) h
+  where
+    by : (b : Bool) → nat_eq x y ≡ b → (same_name xs ys ≡ true → xs ≡ ys) → cond b (same_name xs ys) false ≡ true → (x ∷ xs) ≡ (y ∷ ys)
+    by true e rec h = ap (λ n. n ∷ xs) (same_number x y e) ∙ ap (λ l. y ∷ l) (rec h)
+    by false e rec h = let no : false ≡ true = h in absurd (cc)
+
+module _ (w : Walk) (after : Bool) (l : Listings) where
+  -- it is listed under a number
+  abbrev pub Under : ℕ → ℕ → Type 0
+  Under detail n = is_listed l.by_signal w.object (channel w.signal after) detail n ≡ true
+
+  -- what runs is listed without a detail, or under the emission's own
+  pub covered : (h : Handler) → IsListed l h → runs_in w after h ≡ true → Under 0 h.number ⊎ ((k : ℕ) × (detail_number l.details w.detail ≡ Some k) × Under k h.number)
+  covered h mine of =
+      let parts = both (runs_for w.object w.signal w.detail h) (cond after h.after (not h.after)) of in
+      let runs = both (nat_eq h.object w.object && nat_eq h.signal w.signal) (fits_detail h.detail w.detail) parts.0 in
+      let at = both (nat_eq h.object w.object) (nat_eq h.signal w.signal) runs.0 in
+      by h.detail w.detail (moved h.object h.signal h.after h.number (same_number h.object w.object at.0) (same_number h.signal w.signal at.1) (same_place after h.after parts.1)) mine.0 runs.1
+    where
+      same_place : (a b : Bool) → cond a b (not b) ≡ true → b ≡ a
+      same_place true b e = e
+      same_place false true e = let no : false ≡ true = e in absurd (cc)
+      same_place false false e = refl
+
+      moved : (o s : ℕ) (a : Bool) (n : ℕ) → o ≡ w.object → s ≡ w.signal → a ≡ after → (detail : ℕ) → is_listed l.by_signal o (channel s a) detail n ≡ true → Under detail n
+      moved o s a n e f g detail listed =
+          subst (λ k. is_listed l.by_signal k (channel w.signal after) detail n ≡ true) e
+          (subst (λ k. is_listed l.by_signal o (channel k after) detail n ≡ true) f (subst (λ b. is_listed l.by_signal o (channel s b) detail n ≡ true) g listed))
+
+      own : (o : Option ℕ) (n : ℕ) (P : ℕ → Type 0) → ((k : ℕ) → P k → Under k n) → IsSomeAnd o P → (k : ℕ) × (o ≡ Some k) × Under k n
+      own None n P move listed = absurd listed
+      own (Some k) n P move listed = (k, refl, move k listed)
+
+      by : (mine given : Option (List ℕ)) → ((detail : ℕ) → is_listed l.by_signal h.object (channel h.signal h.after) detail h.number ≡ true → Under detail h.number)
+          → IsSomeAnd (detail_number l.details mine) (λ detail. is_listed l.by_signal h.object (channel h.signal h.after) detail h.number ≡ true)
+          → fits_detail mine given ≡ true
+          → Under 0 h.number ⊎ ((k : ℕ) × (detail_number l.details given ≡ Some k) × Under k h.number)
+      by None given move listed fits = inl (move 0 listed)
+      by (Some mine) None move listed fits = let no : false ≡ true = fits in absurd (cc)
+      by (Some mine) (Some given) move listed fits =
+          let found = own (detail_number l.details (Some mine)) h.number (λ detail. is_listed l.by_signal h.object (channel h.signal h.after) detail h.number ≡ true) move listed in
+          inr (found.0, ap (λ (bytes : List ℕ). detail_number l.details (Some bytes)) (sym (same_names mine given fits)) ∙ found.1, found.2)
+
+-- ** the lower one of two
+
+pub least_above : (given : ℕ) (x y : Option ℕ) → IsAbove given x → IsAbove given y → IsAbove given (least_of x y)
+least_above given None y a b = b
+least_above given (Some x) None a b = a
+least_above given (Some x) (Some y) a b = (omega (arith, a.0, b.0), omega (arith, a.1, b.1))
+
+pub least_first : (given : ℕ) (x y : Option ℕ) (n : ℕ) → IsAbove given y → NotBefore given x n → NotBefore given (least_of x y) n
+least_first given None None n b none = none
+least_first given None (Some y) n b none = λ up low. none up (omega (arith, low, b.1))
+least_first given (Some x) None n b none = none
+least_first given (Some x) (Some y) n b none = λ up low. none up (omega (arith, low))
+
+pub least_second : (given : ℕ) (x y : Option ℕ) (n : ℕ) → IsAbove given x → NotBefore given y n → NotBefore given (least_of x y) n
+least_second given None y n a none = none
+least_second given (Some x) None n a none = λ up low. none up (omega (arith, low, a.1))
+least_second given (Some x) (Some y) n a none = λ up low. none up (omega (arith, low))
+
+-- so the next one is found by what is listed under the two
+module _ (w : Walk) (after : Bool) (l : Listings) (given o ch : ℕ) (is_o : o ≡ w.object) (is_ch : ch ≡ channel w.signal after) where
+  as_listed : (detail n : ℕ) → Under w after l detail n → is_listed l.by_signal o ch detail n ≡ true
+  as_listed detail n under = ap (λ k. is_listed l.by_signal k ch detail n) is_o ∙ ap (λ k. is_listed l.by_signal w.object k detail n) is_ch ∙ under
+
+  pub plain_only : (plain : Option ℕ) → IsNext l.by_signal o ch 0 given plain → ((k : ℕ) → detail_number l.details w.detail ≡ Some k → k ≡ 0)
+      → (h : Handler) → IsListed l h → runs_in w after h ≡ true → NotBefore given plain h.number
+  plain_only plain is none h mine of =
+      elim (covered w after l h mine of) [
+        | inl under ↦ is.1 h.number (as_listed 0 h.number under)
+        | inr own ↦ is.1 h.number (as_listed 0 h.number (subst (λ k. Under w after l k h.number) (none own.0 own.1) own.2))
+      ]
+
+  pub plain_or_own : (detail : ℕ) (plain own : Option ℕ) → detail_number l.details w.detail ≡ Some detail → IsNext l.by_signal o ch 0 given plain
+      → IsNext l.by_signal o ch detail given own → (h : Handler) → IsListed l h → runs_in w after h ≡ true → NotBefore given (least_of plain own) h.number
+  plain_or_own detail plain own e is_plain is_own h mine of =
+      elim (covered w after l h mine of) [
+        | inl under ↦ least_first given plain own h.number is_own.0 (is_plain.1 h.number (as_listed 0 h.number under))
+        | inr found ↦
+            least_second given plain own h.number is_plain.0
+            (is_own.1 h.number (as_listed detail h.number (subst (λ k. Under w after l k h.number) (let same : Some found.0 ≡ Some detail = sym found.1 ∙ e in cc) found.2)))
+      ]
 
 -- ** those up to a number
 
@@ -343,13 +424,12 @@ module _ (w : Walk) (given : ℕ) (after : Bool) where
   abbrev has_turn : Handler → Bool
   has_turn = has_next_turn w given after
 
-  turn_parts : (h : Handler) → has_turn h ≡ true → (given < h.number) × (is_to w.object w.signal h ≡ true)
+  turn_parts : (h : Handler) → has_turn h ≡ true → (given < h.number) × (runs_in w after h ≡ true)
   turn_parts h of =
       let ahead = (both (is_ahead w given after h) (not (nat_lt 0 h.blocks)) of).0 in
-      let parts = both (nat_lt given h.number && nat_le h.number w.greatest) (runs_for w.object w.signal w.detail h && cond after h.after (not h.after)) ahead in
+      let parts = both (nat_lt given h.number && nat_le h.number w.greatest) (runs_in w after h) ahead in
       let low = (both (nat_lt given h.number) (nat_le h.number w.greatest) parts.0).0 in
-      let runs = (both (runs_for w.object w.signal w.detail h) (cond after h.after (not h.after)) parts.1).0 in
-      (above_is given h.number low, (both (is_to w.object w.signal h) (fits_detail h.detail w.detail) runs).0)
+      (above_is given h.number low, parts.1)
     where
       above_is : (m n : ℕ) → nat_lt m n ≡ true → m < n
       above_is m n h = grind (arith, nat_tests)
@@ -361,34 +441,33 @@ module _ (w : Walk) (given : ℕ) (after : Bool) where
   pub later_begin : (hs : List Handler) → AllByRecursion (Later given) hs
   later_begin hs = all_each (Later given) (λ h of. (turn_parts h of).0) hs
 
-  module _ (o s : ℕ) (is_o : o ≡ w.object) (is_s : s ≡ w.signal) where
-    to_it : (h : Handler) → has_turn h ≡ true → is_to o s h ≡ true
-    to_it h of = ap (λ k. is_to k s h) is_o ∙ ap (λ k. is_to w.object k h) is_s ∙ (turn_parts h of).1
+  to_it : (h : Handler) → has_turn h ≡ true → runs_in w after h ≡ true
+  to_it h of = (turn_parts h of).1
 
-    module _ (at next : ℕ) (hs : List Handler) (later : AllByRecursion (Later at) hs) (gaps : AllByRecursion (Gap (is_to o s) at next) hs) where
-      not_below : AllByRecursion (λ h. has_turn h ≡ true → next ≤ h.number) hs
-      not_below = all_two (Later at) (Gap (is_to o s) at next) (λ h. has_turn h ≡ true → next ≤ h.number) (λ h past gap of. by h (nat_le next h.number) refl (gap (to_it h of) (past of))) hs later gaps
-        where
-          by : (h : Handler) (b : Bool) → nat_le next h.number ≡ b → (h.number < next → ⊥) → next ≤ h.number
-          by h true e none = low_is next h.number e
-          by h false e none = absurd (none (past_is next h.number e))
-
-      pub later_step : None ≡ find (is_numbered has_turn next) hs → AllByRecursion (Later next) hs
-      later_step e =
-          all_two (λ h. has_turn h ≡ true → next ≤ h.number) (λ h. is_numbered has_turn next h ≡ false) (Later next)
-          (λ h low other of. by h (low of) (nat_eq h.number next) refl (sym (ap (λ b. nat_eq h.number next && b) of) ∙ other)) hs not_below (find_false (is_numbered has_turn next) hs (sym e))
-        where
-          by : (h : Handler) → next ≤ h.number → (b : Bool) → nat_eq h.number next ≡ b → (nat_eq h.number next && true) ≡ false → next < h.number
-          by h low true e none = let no : true ≡ false = sym (ap (λ b. b && true) e) ∙ none in absurd (cc)
-          by h low false e none = omega (arith, low, other_is h.number next e)
-
-      pub found_first : (x : Handler) (last : ℕ) → Numbered 0 hs last → Some x ≡ find (is_numbered has_turn next) hs → Some x ≡ find has_turn hs
-      found_first x last rising e = first_is has_turn next x 0 hs last rising not_below (sym e)
-
-    pub none_later : (at : ℕ) (hs : List Handler) → AllByRecursion (Later at) hs → AllByRecursion (None_past (is_to o s) at) hs → None ≡ find has_turn hs
-    none_later at hs later none =
-        sym (find_none has_turn hs (all_two (Later at) (None_past (is_to o s) at) (λ h. has_turn h ≡ false) (λ h past no_more. by h (has_turn h) refl past no_more) hs later none))
+  module _ (at next : ℕ) (hs : List Handler) (later : AllByRecursion (Later at) hs) (gaps : AllByRecursion (Gap (runs_in w after) at next) hs) where
+    not_below : AllByRecursion (λ h. has_turn h ≡ true → next ≤ h.number) hs
+    not_below = all_two (Later at) (Gap (runs_in w after) at next) (λ h. has_turn h ≡ true → next ≤ h.number) (λ h past gap of. by h (nat_le next h.number) refl (gap (to_it h of) (past of))) hs later gaps
       where
-        by : (h : Handler) (b : Bool) → has_turn h ≡ b → Later at h → None_past (is_to o s) at h → b ≡ false
-        by h false e past no_more = refl
-        by h true e past no_more = absurd (no_more (to_it h e) (past e))
+        by : (h : Handler) (b : Bool) → nat_le next h.number ≡ b → (h.number < next → ⊥) → next ≤ h.number
+        by h true e none = low_is next h.number e
+        by h false e none = absurd (none (past_is next h.number e))
+
+    pub later_step : None ≡ find (is_numbered has_turn next) hs → AllByRecursion (Later next) hs
+    later_step e =
+        all_two (λ h. has_turn h ≡ true → next ≤ h.number) (λ h. is_numbered has_turn next h ≡ false) (Later next)
+        (λ h low other of. by h (low of) (nat_eq h.number next) refl (sym (ap (λ b. nat_eq h.number next && b) of) ∙ other)) hs not_below (find_false (is_numbered has_turn next) hs (sym e))
+      where
+        by : (h : Handler) → next ≤ h.number → (b : Bool) → nat_eq h.number next ≡ b → (nat_eq h.number next && true) ≡ false → next < h.number
+        by h low true e none = let no : true ≡ false = sym (ap (λ b. b && true) e) ∙ none in absurd (cc)
+        by h low false e none = omega (arith, low, other_is h.number next e)
+
+    pub found_first : (x : Handler) (last : ℕ) → Numbered 0 hs last → Some x ≡ find (is_numbered has_turn next) hs → Some x ≡ find has_turn hs
+    found_first x last rising e = first_is has_turn next x 0 hs last rising not_below (sym e)
+
+  pub none_later : (at : ℕ) (hs : List Handler) → AllByRecursion (Later at) hs → AllByRecursion (None_past (runs_in w after) at) hs → None ≡ find has_turn hs
+  none_later at hs later none =
+      sym (find_none has_turn hs (all_two (Later at) (None_past (runs_in w after) at) (λ h. has_turn h ≡ false) (λ h past no_more. by h (has_turn h) refl past no_more) hs later none))
+    where
+      by : (h : Handler) (b : Bool) → has_turn h ≡ b → Later at h → None_past (runs_in w after) at h → b ≡ false
+      by h false e past no_more = refl
+      by h true e past no_more = absurd (no_more (to_it h e) (past e))

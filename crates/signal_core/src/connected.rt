@@ -1,6 +1,6 @@
 //! A handler that is connected.
 
-ghost use Rattle.std.specs.Prelude.{◌≡◌, option_map};
+ghost use Rattle.std.specs.Prelude.{◌≡◌, option_map, string_bytes};
 ghost use Rattle.ui_machine.specs.declared.ids.ObjectId.{ObjectId};
 ghost use Rattle.ui_machine.specs.Rules.Connections.{blocked, is_on, unblocked};
 ghost use Rattle.ui_machine.specs.Rules.Disposal.{is_identity, is_of_object};
@@ -66,6 +66,20 @@ impl Handler {
         ensures { result ≡ self.now.signal }
     {
         self.connection.signal
+    }
+
+    /// Whether it runs after the class handler.
+    pub(crate) fn is_after(&self) -> bool
+        ensures { result ≡ self.now.after }
+    {
+        self.connection.after
+    }
+
+    /// The detail as it stands at the signal.
+    pub(crate) fn detail(&self) -> &Option<String>
+        ensures { option_map (λ d. string_bytes d) result.now ≡ self.now.detail }
+    {
+        &self.connection.detail
     }
 
     /// The program that it runs.

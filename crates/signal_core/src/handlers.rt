@@ -4,7 +4,7 @@ ghost use Rattle.std.specs.Prelude.{◌≡◌, ◌↔◌, ◌+◌, ◌&&◌, OnO
 ghost use Rattle.std.specs.List.{filter, find};
 ghost use Rattle.ui_machine.specs.Rules.Connections.{blocked, by_code_to, is_on, unblocked};
 ghost use Rattle.ui_machine.specs.Rules.Disposal.{is_of_object};
-ghost use Rattle.signal_core.specs.Kept.{IsNextOf, is_numbered, is_to};
+ghost use Rattle.signal_core.specs.Kept.{IsNextOf, is_numbered, runs_in};
 
 use crate::connected::Handler;
 use crate::connection::Connection;
@@ -105,7 +105,7 @@ impl Handlers {
         // For the proof: that the numbers rise.
         let _ = self.last();
         let mut at = given;
-        'handlers: while let Some(number) = self.next_to(cursor.object(), cursor.signal(), at) {
+        'handlers: while let Some(number) = self.next_to(cursor, after, at) {
             if let Some(handler) = self.with_next_turn(number, cursor, given, after) {
                 return Some(handler);
             }
@@ -227,13 +227,11 @@ impl Handlers {
         count
     }
 
-    // The next handler to a signal of an object after a number.
-    fn next_to(&self, object: ObjectId, signal: SignalId, given: u64) -> Option<u64>
-        ensures { IsNextOf (is_to object.0 signal) given self.now.handlers result }
+    // The next handler of an emission after a number, before the class handler or after it. It may be blocked.
+    fn next_to(&self, cursor: &Cursor, after: bool, given: u64) -> Option<u64>
+        ensures { IsNextOf (runs_in cursor.now after) given self.now.handlers result }
     {
-        self.listings
-            .by_signal
-            .next(object.0, u64::from(signal), given)
+        self.listings.next_to(cursor, after, given)
     }
 
     // The next handler of a program on an object after a number.
@@ -242,14 +240,14 @@ impl Handlers {
     {
         self.listings
             .by_program
-            .next(object.0, u64::from(program), given)
+            .next(object.0, u64::from(program), 0, given)
     }
 
     // The next handler after a number that is on an object or has it as data.
     fn next_of(&self, object: ObjectId, given: u64) -> Option<u64>
         ensures { IsNextOf (is_of_object object.0) given self.now.handlers result }
     {
-        self.listings.by_object.next(object.0, 0, given)
+        self.listings.by_object.next(object.0, 0, 0, given)
     }
 
     // The handler of a number.

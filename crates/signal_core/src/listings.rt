@@ -1,23 +1,27 @@
 //! What handlers are looked up by.
 
-ghost use Rattle.std.specs.Prelude.{◌≡◌, ◌+◌, ◌-◌, ◌<◌, ◌^◌, OnErr, OnOk, cond, ℕ};
+ghost use Rattle.std.specs.Prelude.{◌≡◌, ◌+◌, ◌-◌, ◌<◌, ◌^◌, OnErr, OnOk, cond, true, ℕ};
 ghost use Rattle.ui_machine.specs.Rules.Connections.{by_code_to};
 ghost use Rattle.ui_machine.specs.State.Handlers as machine;
-ghost use Rattle.signal_core.specs.Kept.{IsListed, count_at};
+ghost use Rattle.signal_core.specs.Kept.{IsAbove, IsListed, NotBefore, channel, count_at, runs_in};
 
 use crate::code_counts::CodeCounts;
 use crate::connected::Handler;
-use crate::listing::Listing;
+use crate::cursor::Cursor;
+use crate::details::Details;
+use crate::listing::{Listing, least};
 use std::alloc::{AllocError, Global};
+use ui_machine::SignalId;
 
 /// The numbers of handlers by what they are looked up by, and how many bytecode connected.
 #[derive(Debug, Drop)]
 pub(crate) struct Listings {
-    /// By the object and the signal.
+    pub(crate) details: Details,
+    /// By the object, the signal with the place of the class handler, and the detail's number.
     pub(crate) by_signal: Listing,
-    /// By the object and the program.
+    /// By the object and the program, with 0.
     pub(crate) by_program: Listing,
-    /// By each object that a handler is on or has as data, with 0.
+    /// By each object that a handler is on or has as data, with 0 twice.
     pub(crate) by_object: Listing,
     pub(crate) by_code: CodeCounts,
 }
@@ -28,11 +32,29 @@ impl Listings {
         ensures { (o s : ℕ) → count_at result.by_code o s ≡ 0 }
     {
         Listings {
+            details: Details::new(alloc),
             by_signal: Listing::new(alloc),
             by_program: Listing::new(alloc),
             by_object: Listing::new(alloc),
             by_code: CodeCounts::new(alloc),
         }
+    }
+
+    /// The next handler of an emission after a number, before the class handler or after it.
+    pub(crate) fn next_to(&self, cursor: &Cursor, after: bool, given: u64) -> Option<u64>
+        ensures above { IsAbove given result }
+        ensures next { (h : machine.Handler) → IsListed self.now h → runs_in cursor.now after h ≡ true → NotBefore given result h.number }
+    {
+        let object = cursor.object().0;
+        let channel = channel(cursor.signal(), after);
+        let plain = self.by_signal.next(object, channel, 0, given);
+        let Some(detail) = self.details.number(cursor.detail()) else {
+            return plain;
+        };
+        if detail == 0 {
+            return plain;
+        }
+        least(plain, self.by_signal.next(object, channel, detail, given))
     }
 
     /// Lists and counts a handler. An error lists and counts none.
@@ -60,13 +82,14 @@ impl Listings {
     {
         let object = handler.object().0;
         let number = handler.number();
-        self.by_signal
-            .add(object, u64::from(handler.signal()), number)?;
+        let channel = channel(handler.signal(), handler.is_after());
+        let detail = self.details.add(handler.detail())?;
+        self.by_signal.add(object, channel, detail, number)?;
         self.by_program
-            .add(object, u64::from(handler.program()), number)?;
-        self.by_object.add(object, 0, number)?;
+            .add(object, u64::from(handler.program()), 0, number)?;
+        self.by_object.add(object, 0, 0, number)?;
         if let Some(data) = handler.data() {
-            self.by_object.add(data.0, 0, number)?;
+            self.by_object.add(data.0, 0, 0, number)?;
         }
         if handler.is_by_code() {
             self.by_code.add(object, u64::from(handler.signal()))?;
@@ -93,13 +116,23 @@ impl Listings {
     {
         let object = handler.object().0;
         let number = handler.number();
-        self.by_signal
-            .remove(object, u64::from(handler.signal()), number);
+        let channel = channel(handler.signal(), handler.is_after());
+        if let Some(detail) = self.details.number(handler.detail()) {
+            self.by_signal.remove(object, channel, detail, number);
+        }
         self.by_program
-            .remove(object, u64::from(handler.program()), number);
-        self.by_object.remove(object, 0, number);
+            .remove(object, u64::from(handler.program()), 0, number);
+        self.by_object.remove(object, 0, 0, number);
         if let Some(data) = handler.data() {
-            self.by_object.remove(data.0, 0, number);
+            self.by_object.remove(data.0, 0, 0, number);
         }
     }
+}
+
+// A signal, and whether a handler runs after the class handler, as one number.
+fn channel(signal: SignalId, after: bool) -> u64
+    ensures { result ≡ channel signal after }
+{
+    let place = if after { 1 } else { 0 };
+    2 * u64::from(signal) + place
 }

@@ -10,18 +10,18 @@ handlers-init c = record {
 
 pub handlers-preserved : goal.handlers-preserved
 handlers-preserved c = record {
-  later = later_step c.args.cursor.now c.args.given c.args.after c.object.result.0 c.signal.result c.object.ensures c.signal.ensures c.handlers.at c.in-Some.number c.args.self.now.handlers
+  later = later_step c.args.cursor.now c.args.given c.args.after c.handlers.at c.in-Some.number c.args.self.now.handlers
       c.handlers.invariant.later c.in-Some.ensures.1 (sym (ap (option_map (λ h. h.now)) c.in_default-with_next_turn.is) ∙ c.with_next_turn.ensures);
   rising = c.last.ensures.rises;
 }
 
 pub returns : goal.returns
 returns c =
-    none_later c.args.cursor.now c.args.given c.args.after c.object.result.0 c.signal.result c.object.ensures c.signal.ensures c.handlers.at c.args.self.now.handlers
+    none_later c.args.cursor.now c.args.given c.args.after c.handlers.at c.args.self.now.handlers
     c.handlers.invariant.later (rw c.in_default.is at c.next_to.ensures)
 
 pub returns-in-Some-with_next_turn : goal.returns-in-Some-with_next_turn
 returns-in-Some-with_next_turn c =
-    found_first c.args.cursor.now c.args.given c.args.after c.object.result.0 c.signal.result c.object.ensures c.signal.ensures c.handlers.at c.in-Some.number c.args.self.now.handlers
+    found_first c.args.cursor.now c.args.given c.args.after c.handlers.at c.in-Some.number c.args.self.now.handlers
     c.handlers.invariant.later c.in-Some.ensures.1 c.in-Some-with_next_turn.handler.now c.args.self.now.last c.last.ensures.rises
     (sym (ap (option_map (λ h. h.now)) c.in-Some-with_next_turn.is) ∙ c.with_next_turn.ensures)

@@ -12,4 +12,4 @@ returns c =
     subst (λ (w : Connected). IsNextOf (is_on c.args.object.0 c.args.program) c.args.given w.handlers c.next.result) c.self.view_is
     (next_on_is c.self.inside.listings (values_of c.self.inside.connected.entries) c.self.inside.last (omega (arith, kept.room)) kept.rising kept.listed
     c.args.object.0 c.args.program c.args.given c.next.result
-    (subst (λ s. IsNext c.self.inside.listings.by_program c.args.object.0 s c.args.given c.next.result) c.from.ensures c.next.ensures))
+    (subst (λ s. IsNext c.self.inside.listings.by_program c.args.object.0 s 0 c.args.given c.next.result) c.from.ensures c.next.ensures))

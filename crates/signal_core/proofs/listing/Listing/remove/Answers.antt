@@ -3,5 +3,5 @@ use Rattle.signal_core.proofs.Keys.{apart}
 use Rattle.signal_core.proofs.listing.Listing.remove.Goals as goal
 
 pub returns : goal.returns
-returns c a b n ne there =
-    c.remove.ensures.updates.2 (a, b, n) (apart c.args.first c.args.second c.args.number a b n ne) ∙ there
+returns c x y z n ne there =
+    c.remove.ensures.updates.2 (x, y, z, n) (apart c.args.first c.args.second c.args.third c.args.number x y z n ne) ∙ there

@@ -1,4 +1,4 @@
-use Rattle.std.proofs.Common.{◌≡◌, ◌∙◌, ◌+◌, ◌≤◌, ◌*◌, length, ap, refl, sym, arith}
+use Rattle.std.proofs.Common.{◌∙◌, length, ap, refl, sym, arith}
 use Rattle.std.proofs.lemmas.List.{length-map}
 use Rattle.signal_core.specs.SignalView.{signal_view}
 use Rattle.signal_core.specs.Table.{line_count}
