@@ -32,10 +32,6 @@ all_unfilter P q gone (x ∷ xs) all = by (q x) refl all (all_unfilter P q gone 
     by true e all rec = (all.0, rec all.1)
     by false e all rec = (gone x e, rec all)
 
-pub all_map : {X : Type 0} (P Q : X → Type 0) (f : X → X) → ((x : X) → P x → Q (f x)) → (xs : List X) → AllByRecursion P xs → AllByRecursion Q (map f xs)
-all_map P Q f step [] all = tt
-all_map P Q f step (x ∷ xs) all = (step x all.0, all_map P Q f step xs all.1)
-
 pub all_unmap : {X : Type 0} (P Q : X → Type 0) (f : X → X) → ((x : X) → P (f x) → Q x) → (xs : List X) → AllByRecursion P (map f xs) → AllByRecursion Q xs
 all_unmap P Q f step [] all = tt
 all_unmap P Q f step (x ∷ xs) all = (step x all.0, all_unmap P Q f step xs all.1)
@@ -247,14 +243,16 @@ found_number n x hs e =
     let at = (found_holds (λ h. Unit {0}) (λ h. nat_eq h.number n) x hs e (all_each (λ h. Unit {0}) (λ h. tt) hs)).1 in
     grind (arith, nat_tests)
 
+-- one of a number counts as the one that it is
+counts_alike : (q : Handler → Bool) (n : ℕ) (y x : Handler) → nat_eq y.number n ≡ true → y ≡ x → ◌≡◌ {A = ℕ} (cond (is_numbered q n y) 1 0) (cond (q x) 1 0)
+counts_alike q n y x at is = ap (λ b. cond (b && q y) 1 0) at ∙ ap (λ (h : Handler). cond (q h) 1 0) is
+
 -- it counts once if it is one of these
 pub found_counts : (q : Handler → Bool) (n : ℕ) (x : Handler) (above : ℕ) (hs : List Handler) (last : ℕ) → Numbered above hs last
     → find (λ h. nat_eq h.number n) hs ≡ Some x → count_by (is_numbered q n) hs ≡ cond (q x) 1 0
 found_counts q n x above [] last rising e = absurd (cc)
 found_counts q n x above (y ∷ hs) last rising e =
-    let rest = found_counts q n x y.number hs last rising.1 in
-    let all : count_by (is_numbered q n) (y ∷ hs) ≡ cond (is_numbered q n y) 1 0 + count_by (is_numbered q n) hs = count_cons (is_numbered q n) y hs in
-    all ∙ by (nat_eq y.number n) refl e rest
+    count_cons (is_numbered q n) y hs ∙ by (nat_eq y.number n) refl e (found_counts q n x y.number hs last rising.1)
   where
     by : (b : Bool) → nat_eq y.number n ≡ b → cond b (Some y) (find (λ h. nat_eq h.number n) hs) ≡ Some x
         → (find (λ h. nat_eq h.number n) hs ≡ Some x → count_by (is_numbered q n) hs ≡ cond (q x) 1 0)
@@ -264,8 +262,7 @@ found_counts q n x above (y ∷ hs) last rising e =
         let same : y.number ≡ n = grind (arith, nat_tests) in
         let none = count_none (is_numbered q n) hs
         (all_one (λ h. nat_eq h.number n ≡ false) (λ h. is_numbered q n h ≡ false) (λ h a. ap (λ t. t && q h) a) hs (none_above n y.number hs last (omega (arith, same)) rising.1)) in
-        let one : ◌≡◌ {A = ℕ} (cond (is_numbered q n y) 1 0) (cond (q x) 1 0) = ap (λ b. cond (b && q y) 1 0) at ∙ ap (λ (h : Handler). cond (q h) 1 0) is in
-        omega (arith, one, none)
+        omega (arith, counts_alike q n y x at is, none)
     by false at e rec =
         let no : ◌≡◌ {A = ℕ} (cond (is_numbered q n y) 1 0) 0 = ap (λ b. cond (b && q y) 1 0) at in
         let rest = rec e in omega (arith, no, rest)

@@ -108,11 +108,6 @@ module _ (w : Walk) (after : Bool) (l : Listings) where
 
 -- ** the lower one of two
 
-pub least_above : (given : ℕ) (x y : Option ℕ) → IsAbove given x → IsAbove given y → IsAbove given (least_of x y)
-least_above given None y a b = b
-least_above given (Some x) None a b = a
-least_above given (Some x) (Some y) a b = (omega (arith, a.0, b.0), omega (arith, a.1, b.1))
-
 pub least_first : (given : ℕ) (x y : Option ℕ) (n : ℕ) → IsAbove given y → NotBefore given x n → NotBefore given (least_of x y) n
 least_first given None None n b none = none
 least_first given None (Some y) n b none = λ up low. none up (omega (arith, low, b.1))
