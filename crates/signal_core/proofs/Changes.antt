@@ -9,10 +9,14 @@ use Rattle.std.specs.Ordering.{nat_cmp}
 use Rattle.ui_machine.specs.Rules.Connections.{by_code_to}
 use Rattle.ui_machine.specs.State.Handlers.{Handler}
 use Rattle.signal_core.specs.Connected.{HasNumbers, Numbered}
-use Rattle.signal_core.specs.Kept.{IsKept, IsListed, count_at, numbered}
+use Rattle.signal_core.specs.Kept.{IsBeside, IsKept, IsListed, count_at, numbered}
 use Rattle.signal_core.specs.declared.listings.Listings.{Listings}
 use Rattle.signal_core.proofs.Keeping.{all_filter, all_one, all_push, all_two, all_within, count_cons, counts_less, counts_more, found_same, keyed_again, look, put, take_out, written}
 use Rattle.signal_core.proofs.Numbers.{numbered_filter, numbered_map, numbered_push}
+
+-- one that is blocked is listed where it was listed before
+pub blocked_listed : (l : Listings) (w x : Handler) → IsListed l x → IsBeside w x → (w.blocks ≡ 0 → ⊥) → IsListed l w
+blocked_listed l w x mine beside blocks = subst (IsListed l) (sym beside) (λ whole none. absurd (blocks none), mine.1, mine.2, mine.3)
 
 module _ (es : List (ℕ × Handler)) (l : Listings) (last to_come : ℕ) (kept : IsKept es l last to_come) where
   -- the handler of a number
@@ -120,17 +124,17 @@ module _ (es : List (ℕ × Handler)) (l : Listings) (last to_come : ℕ) (kept 
         by false at = refl
 
     -- what is looked up by is the same
-    module _ (x : Handler) (found : find (λ h. nat_eq h.number n) (values_of es) ≡ Some x) (listed : IsListed l x → IsListed l w)
-        (counted : (o s : ℕ) → by_code_to o s w ≡ by_code_to o s x) where
+    module _ (m : Listings) (x : Handler) (found : find (λ h. nat_eq h.number n) (values_of es) ≡ Some x) (stays : (h : Handler) → (h.number ≡ n → ⊥) → IsListed l h → IsListed m h)
+        (listed : IsListed l x → IsListed m w) (counts : (o s : ℕ) → count_at m.by_code o s ≡ count_at l.by_code o s) (counted : (o s : ℕ) → by_code_to o s w ≡ by_code_to o s x) where
       all_same : AllByRecursion (λ h. nat_eq h.number n ≡ true → h ≡ x) (values_of es)
       all_same = found_same n x 0 (values_of es) last kept.rising found
 
-      listed_still : (h : Handler) → IsListed l h → (nat_eq h.number n ≡ true → h ≡ x) → IsListed l (changed h)
-      listed_still h mine is = by (nat_eq h.number n) is
+      listed_still : (h : Handler) → IsListed l h → (nat_eq h.number n ≡ true → h ≡ x) → IsListed m (changed h)
+      listed_still h mine is = by (nat_eq h.number n) refl is
         where
-          by : (b : Bool) → (b ≡ true → h ≡ x) → IsListed l (cond b w h)
-          by true is = listed (subst (IsListed l) (is refl) mine)
-          by false is = mine
+          by : (b : Bool) → nat_eq h.number n ≡ b → (b ≡ true → h ≡ x) → IsListed m (cond b w h)
+          by true e is = listed (subst (IsListed l) (is refl) mine)
+          by false e is = stays h (λ same. false≢true (sym e ∙ (grind (arith, nat_tests)))) mine
 
       counted_still : (o s : ℕ) (h : Handler) → (nat_eq h.number n ≡ true → h ≡ x) → by_code_to o s (changed h) ≡ by_code_to o s h
       counted_still o s h is = by (nat_eq h.number n) is
@@ -139,7 +143,7 @@ module _ (es : List (ℕ × Handler)) (l : Listings) (last to_come : ℕ) (kept 
           by true is = counted o s ∙ ap (by_code_to o s) (sym (is refl))
           by false is = refl
 
-      pub written_kept : IsKept new l last to_come
+      pub written_kept : IsKept new m last to_come
       written_kept =
           let hs = values_of es in
           let is = keyed_again new (map changed hs) written_entries in
@@ -147,11 +151,11 @@ module _ (es : List (ℕ × Handler)) (l : Listings) (last to_come : ℕ) (kept 
             room = kept.room;
             rising = subst (λ these. Numbered 0 these last) (sym is.0) (numbered_map changed number_stays 0 hs last kept.rising);
             keyed = is.1;
-            listed = subst (AllByRecursion (IsListed l)) (sym is.0) (all_changed hs kept.listed all_same);
-            counted = λ o s. kept.counted o s ∙ sym (count_changed o s hs all_same) ∙ ap (count_by (by_code_to o s)) (sym is.0);
+            listed = subst (AllByRecursion (IsListed m)) (sym is.0) (all_changed hs kept.listed all_same);
+            counted = λ o s. counts o s ∙ kept.counted o s ∙ sym (count_changed o s hs all_same) ∙ ap (count_by (by_code_to o s)) (sym is.0);
           }
         where
-          all_changed : (hs : List Handler) → AllByRecursion (IsListed l) hs → AllByRecursion (λ h. nat_eq h.number n ≡ true → h ≡ x) hs → AllByRecursion (IsListed l) (map changed hs)
+          all_changed : (hs : List Handler) → AllByRecursion (IsListed l) hs → AllByRecursion (λ h. nat_eq h.number n ≡ true → h ≡ x) hs → AllByRecursion (IsListed m) (map changed hs)
           all_changed [] all is = tt
           all_changed (h ∷ hs) all is = (listed_still h all.0 is.0, all_changed hs all.1 is.1)
 

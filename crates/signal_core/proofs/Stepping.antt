@@ -10,7 +10,7 @@ use Rattle.ui_machine.specs.Rules.Disposal.{is_identity, is_of_object}
 use Rattle.ui_machine.specs.State.Handlers.{Handler}
 use Rattle.signal_core.specs.Connected.{Numbered}
 use Rattle.signal_core.specs.Emission.{Walk, has_next_turn, is_ahead}
-use Rattle.signal_core.specs.Kept.{IsAbove, IsListed, IsNext, IsNextOf, NotBefore, channel, detail_number, is_listed, is_numbered, least_of, runs_in}
+use Rattle.signal_core.specs.Kept.{IsAbove, IsListed, IsNext, IsNextOf, NotBefore, channel, detail_number, is_listed, is_numbered, least_of, may_run}
 use Rattle.signal_core.specs.declared.listings.Listings.{Listings}
 use Rattle.signal_core.proofs.Keeping.{all_above, all_each, all_one, all_two, all_unfilter, all_unmap, all_within, count_alike, count_cons, count_none, filter_alike, filter_true, find_false, find_none, first_is, map_alike, map_id}
 
@@ -75,13 +75,17 @@ module _ (w : Walk) (after : Bool) (l : Listings) where
   Under detail n = is_listed l.by_signal w.object (channel w.signal after) detail n ≡ true
 
   -- what runs is listed without a detail, or under the emission's own
-  pub covered : (h : Handler) → IsListed l h → runs_in w after h ≡ true → Under 0 h.number ⊎ ((k : ℕ) × (detail_number l.details w.detail ≡ Some k) × Under k h.number)
-  covered h mine of =
-      let parts = both (runs_for w.object w.signal w.detail h) (cond after h.after (not h.after)) of in
+  pub covered : (h : Handler) → IsListed l h → l.is_whole ≡ true → may_run w after h ≡ true → Under 0 h.number ⊎ ((k : ℕ) × (detail_number l.details w.detail ≡ Some k) × Under k h.number)
+  covered h mine whole of =
+      let turn = both (runs_for w.object w.signal w.detail h && cond after h.after (not h.after)) (not (nat_lt 0 h.blocks)) of in
+      let parts = both (runs_for w.object w.signal w.detail h) (cond after h.after (not h.after)) turn.0 in
       let runs = both (nat_eq h.object w.object && nat_eq h.signal w.signal) (fits_detail h.detail w.detail) parts.0 in
       let at = both (nat_eq h.object w.object) (nat_eq h.signal w.signal) runs.0 in
-      by h.detail w.detail (moved h.object h.signal h.after h.number (same_number h.object w.object at.0) (same_number h.signal w.signal at.1) (same_place after h.after parts.1)) mine.0 runs.1
+      by h.detail w.detail (moved h.object h.signal h.after h.number (same_number h.object w.object at.0) (same_number h.signal w.signal at.1) (same_place after h.after parts.1)) (mine.0 whole (unblocked_is h.blocks turn.1)) runs.1
     where
+      unblocked_is : (n : ℕ) → not (nat_lt 0 n) ≡ true → n ≡ 0
+      unblocked_is n e = grind (arith, nat_tests)
+
       same_place : (a b : Bool) → cond a b (not b) ≡ true → b ≡ a
       same_place true b e = e
       same_place false true e = let no : false ≡ true = e in absurd (cc)
@@ -124,18 +128,18 @@ module _ (w : Walk) (after : Bool) (l : Listings) (given o ch : ℕ) (is_o : o �
   as_listed : (detail n : ℕ) → Under w after l detail n → is_listed l.by_signal o ch detail n ≡ true
   as_listed detail n under = ap (λ k. is_listed l.by_signal k ch detail n) is_o ∙ ap (λ k. is_listed l.by_signal w.object k detail n) is_ch ∙ under
 
-  pub plain_only : (plain : Option ℕ) → IsNext l.by_signal o ch 0 given plain → ((k : ℕ) → detail_number l.details w.detail ≡ Some k → k ≡ 0)
-      → (h : Handler) → IsListed l h → runs_in w after h ≡ true → NotBefore given plain h.number
-  plain_only plain is none h mine of =
-      elim (covered w after l h mine of) [
+  pub plain_only : l.is_whole ≡ true → (plain : Option ℕ) → IsNext l.by_signal o ch 0 given plain → ((k : ℕ) → detail_number l.details w.detail ≡ Some k → k ≡ 0)
+      → (h : Handler) → IsListed l h → may_run w after h ≡ true → NotBefore given plain h.number
+  plain_only whole plain is none h mine of =
+      elim (covered w after l h mine whole of) [
         | inl under ↦ is.1 h.number (as_listed 0 h.number under)
         | inr own ↦ is.1 h.number (as_listed 0 h.number (subst (λ k. Under w after l k h.number) (none own.0 own.1) own.2))
       ]
 
-  pub plain_or_own : (detail : ℕ) (plain own : Option ℕ) → detail_number l.details w.detail ≡ Some detail → IsNext l.by_signal o ch 0 given plain
-      → IsNext l.by_signal o ch detail given own → (h : Handler) → IsListed l h → runs_in w after h ≡ true → NotBefore given (least_of plain own) h.number
-  plain_or_own detail plain own e is_plain is_own h mine of =
-      elim (covered w after l h mine of) [
+  pub plain_or_own : l.is_whole ≡ true → (detail : ℕ) (plain own : Option ℕ) → detail_number l.details w.detail ≡ Some detail → IsNext l.by_signal o ch 0 given plain
+      → IsNext l.by_signal o ch detail given own → (h : Handler) → IsListed l h → may_run w after h ≡ true → NotBefore given (least_of plain own) h.number
+  plain_or_own whole detail plain own e is_plain is_own h mine of =
+      elim (covered w after l h mine whole of) [
         | inl under ↦ least_first given plain own h.number is_own.0 (is_plain.1 h.number (as_listed 0 h.number under))
         | inr found ↦
             least_second given plain own h.number is_plain.0
@@ -419,12 +423,12 @@ module _ (w : Walk) (given : ℕ) (after : Bool) where
   abbrev has_turn : Handler → Bool
   has_turn = has_next_turn w given after
 
-  turn_parts : (h : Handler) → has_turn h ≡ true → (given < h.number) × (runs_in w after h ≡ true)
+  turn_parts : (h : Handler) → has_turn h ≡ true → (given < h.number) × (may_run w after h ≡ true)
   turn_parts h of =
-      let ahead = (both (is_ahead w given after h) (not (nat_lt 0 h.blocks)) of).0 in
-      let parts = both (nat_lt given h.number && nat_le h.number w.greatest) (runs_in w after h) ahead in
+      let turn = both (is_ahead w given after h) (not (nat_lt 0 h.blocks)) of in
+      let parts = both (nat_lt given h.number && nat_le h.number w.greatest) (runs_for w.object w.signal w.detail h && cond after h.after (not h.after)) turn.0 in
       let low = (both (nat_lt given h.number) (nat_le h.number w.greatest) parts.0).0 in
-      (above_is given h.number low, parts.1)
+      (above_is given h.number low, ap (λ b. b && not (nat_lt 0 h.blocks)) parts.1 ∙ turn.1)
     where
       above_is : (m n : ℕ) → nat_lt m n ≡ true → m < n
       above_is m n h = grind (arith, nat_tests)
@@ -436,12 +440,12 @@ module _ (w : Walk) (given : ℕ) (after : Bool) where
   pub later_begin : (hs : List Handler) → AllByRecursion (Later given) hs
   later_begin hs = all_each (Later given) (λ h of. (turn_parts h of).0) hs
 
-  to_it : (h : Handler) → has_turn h ≡ true → runs_in w after h ≡ true
+  to_it : (h : Handler) → has_turn h ≡ true → may_run w after h ≡ true
   to_it h of = (turn_parts h of).1
 
-  module _ (at next : ℕ) (hs : List Handler) (later : AllByRecursion (Later at) hs) (gaps : AllByRecursion (Gap (runs_in w after) at next) hs) where
+  module _ (at next : ℕ) (hs : List Handler) (later : AllByRecursion (Later at) hs) (gaps : AllByRecursion (Gap (may_run w after) at next) hs) where
     not_below : AllByRecursion (λ h. has_turn h ≡ true → next ≤ h.number) hs
-    not_below = all_two (Later at) (Gap (runs_in w after) at next) (λ h. has_turn h ≡ true → next ≤ h.number) (λ h past gap of. by h (nat_le next h.number) refl (gap (to_it h of) (past of))) hs later gaps
+    not_below = all_two (Later at) (Gap (may_run w after) at next) (λ h. has_turn h ≡ true → next ≤ h.number) (λ h past gap of. by h (nat_le next h.number) refl (gap (to_it h of) (past of))) hs later gaps
       where
         by : (h : Handler) (b : Bool) → nat_le next h.number ≡ b → (h.number < next → ⊥) → next ≤ h.number
         by h true e none = low_is next h.number e
@@ -459,10 +463,10 @@ module _ (w : Walk) (given : ℕ) (after : Bool) where
     pub found_first : (x : Handler) (last : ℕ) → Numbered 0 hs last → Some x ≡ find (is_numbered has_turn next) hs → Some x ≡ find has_turn hs
     found_first x last rising e = first_is has_turn next x 0 hs last rising not_below (sym e)
 
-  pub none_later : (at : ℕ) (hs : List Handler) → AllByRecursion (Later at) hs → AllByRecursion (None_past (runs_in w after) at) hs → None ≡ find has_turn hs
+  pub none_later : (at : ℕ) (hs : List Handler) → AllByRecursion (Later at) hs → AllByRecursion (None_past (may_run w after) at) hs → None ≡ find has_turn hs
   none_later at hs later none =
-      sym (find_none has_turn hs (all_two (Later at) (None_past (runs_in w after) at) (λ h. has_turn h ≡ false) (λ h past no_more. by h (has_turn h) refl past no_more) hs later none))
+      sym (find_none has_turn hs (all_two (Later at) (None_past (may_run w after) at) (λ h. has_turn h ≡ false) (λ h past no_more. by h (has_turn h) refl past no_more) hs later none))
     where
-      by : (h : Handler) (b : Bool) → has_turn h ≡ b → Later at h → None_past (runs_in w after) at h → b ≡ false
+      by : (h : Handler) (b : Bool) → has_turn h ≡ b → Later at h → None_past (may_run w after) at h → b ≡ false
       by h false e past no_more = refl
       by h true e past no_more = absurd (no_more (to_it h e) (past e))

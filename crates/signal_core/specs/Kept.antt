@@ -5,7 +5,7 @@ use Rattle.std.specs.List.{AllByRecursion}
 use Rattle.std.specs.Map.{values_of}
 use Rattle.std.specs.Option.{IfSome, IsSomeAnd, unwrap_or}
 use Rattle.std.specs.Ordering.{nat_cmp, ordering_then}
-use Rattle.std.specs.Prelude.{Bool, List, None, Option, Some, cond, count_by, map, min, nat_eq, not, true, ℕ, ⊤, ◌&&◌, ◌*◌, ◌+◌, ◌<◌, ◌≡◌, ◌^◌}
+use Rattle.std.specs.Prelude.{Bool, List, None, Option, Some, cond, count_by, map, min, nat_eq, nat_lt, not, true, ℕ, ⊤, ◌&&◌, ◌*◌, ◌+◌, ◌<◌, ◌≡◌, ◌^◌}
 use Rattle.std.specs.declared.cmp.Ordering.{Ordering}
 use Rattle.ui_machine.specs.Rules.Connections.{by_code_to}
 use Rattle.ui_machine.specs.Rules.EmissionPlan.{runs_for}
@@ -82,10 +82,10 @@ one_at object signal o s = cond (nat_eq object o && nat_eq signal s) 1 0
 
 -- ** handlers
 
--- a handler is listed under its signal, under its program, and under each object that it is of
+-- a handler is listed under its program and each object that it is of, and under its signal while nothing blocks it, unless memory ran out
 abbrev pub IsListed : Listings → Handler → Type 0
 IsListed l h =
-    IsSomeAnd (detail_number l.details h.detail) (λ detail. is_listed l.by_signal h.object (channel h.signal h.after) detail h.number ≡ true)
+    (l.is_whole ≡ true → h.blocks ≡ 0 → IsSomeAnd (detail_number l.details h.detail) (λ detail. is_listed l.by_signal h.object (channel h.signal h.after) detail h.number ≡ true))
     × (is_listed l.by_program h.object h.program 0 h.number ≡ true)
     × (is_listed l.by_object h.object 0 0 h.number ≡ true)
     × IfSome h.arg (λ id. is_listed l.by_object id 0 0 h.number ≡ true)
@@ -104,9 +104,13 @@ pub record IsKept (entries : List (ℕ × Handler)) (l : Listings) (last to_come
 
 -- ** looking for a handler
 
--- whether a handler runs in an emission before the class handler, or after it
-abbrev pub runs_in : Walk → (after : Bool) → Handler → Bool
-runs_in w after h = runs_for w.object w.signal w.detail h && cond after h.after (not h.after)
+-- whether a handler runs in an emission before the class handler, or after it, and is not blocked
+abbrev pub may_run : Walk → (after : Bool) → Handler → Bool
+may_run w after h = (runs_for w.object w.signal w.detail h && cond after h.after (not h.after)) && not (nat_lt 0 h.blocks)
+
+-- it is the other one, but for how often it is blocked
+abbrev pub IsBeside : Handler → Handler → Type 0
+IsBeside h other = h ≡ record other { blocks = h.blocks }
 
 -- it is a number above another one up to which no handler is one of these, or there is none of these above at all
 abbrev pub IsNextOf : (Handler → Bool) → (given : ℕ) → List Handler → Option ℕ → Type 0

@@ -1,6 +1,6 @@
 //! A handler that is connected.
 
-ghost use Rattle.std.specs.Prelude.{◌≡◌, option_map, string_bytes};
+ghost use Rattle.std.specs.Prelude.{◌≡◌, nat_lt, option_map, string_bytes};
 ghost use Rattle.ui_machine.specs.declared.ids.ObjectId.{ObjectId};
 ghost use Rattle.ui_machine.specs.Rules.Connections.{blocked, is_on, unblocked};
 ghost use Rattle.ui_machine.specs.Rules.Disposal.{is_identity, is_of_object};
@@ -155,6 +155,13 @@ impl Handler {
             },
             then_at,
         }
+    }
+
+    /// Whether something blocks it.
+    pub(crate) fn is_blocked(&self) -> bool
+        ensures { result ≡ nat_lt 0 self.now.blocks }
+    {
+        self.blocks > 0
     }
 
     /// Blocks it once more, or leaves it at the greatest count.

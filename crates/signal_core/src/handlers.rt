@@ -4,7 +4,7 @@ ghost use Rattle.std.specs.Prelude.{◌≡◌, ◌↔◌, ◌+◌, ◌&&◌, OnO
 ghost use Rattle.std.specs.List.{filter, find};
 ghost use Rattle.ui_machine.specs.Rules.Connections.{blocked, by_code_to, is_on, unblocked};
 ghost use Rattle.ui_machine.specs.Rules.Disposal.{is_of_object};
-ghost use Rattle.signal_core.specs.Kept.{IsNextOf, is_numbered, runs_in};
+ghost use Rattle.signal_core.specs.Kept.{IsNextOf, is_numbered, may_run};
 
 use crate::connected::Handler;
 use crate::connection::Connection;
@@ -18,8 +18,8 @@ use ui_machine::{ObjectId, ProgramId, SignalId};
 
 /// Handlers in order of connection, by numbers from 1 that are never used again.
 ///
-/// The numbers of the handlers that the builder is still to connect are kept for it. What is done to a handler, and looking for the next one to
-/// a signal of an object, costs the logarithm of how many are connected.
+/// The numbers of the handlers that the builder is still to connect are kept for it. What is done to a handler, and looking for the next one of
+/// an emission, costs the logarithm of how many are connected.
 #[derive(Debug, Drop)]
 pub struct Handlers {
     connected: BTreeMap<u64, Handler>,
@@ -227,11 +227,19 @@ impl Handlers {
         count
     }
 
-    // The next handler of an emission after a number, before the class handler or after it. It may be blocked.
+    // A number of handlers up to which none after the number `given` runs in an emission, before the class handler or after it, and is not
+    // blocked. It is that of the next one, unless the handlers are not listed.
     fn next_to(&self, cursor: &Cursor, after: bool, given: u64) -> Option<u64>
-        ensures { IsNextOf (runs_in cursor.now after) given self.now.handlers result }
+        ensures { IsNextOf (may_run cursor.now after) given self.now.handlers result }
     {
-        self.listings.next_to(cursor, after, given)
+        if self.listings.is_whole {
+            return self.listings.next_to(cursor, after, given);
+        }
+        if given < self.last {
+            Some(given + 1)
+        } else {
+            None
+        }
     }
 
     // The next handler of a program on an object after a number.
@@ -326,6 +334,7 @@ impl Handlers {
             return;
         };
         handler.block();
+        self.listings.leave(handler);
     }
 
     // Blocks the handler of a number once less if it runs the program on the object, and counts it.
@@ -353,5 +362,8 @@ impl Handlers {
             return;
         };
         handler.unblock();
+        if !handler.is_blocked() {
+            self.listings.enter(handler);
+        }
     }
 }

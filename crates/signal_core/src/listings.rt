@@ -3,7 +3,7 @@
 ghost use Rattle.std.specs.Prelude.{◌≡◌, ◌+◌, ◌-◌, ◌<◌, ◌^◌, OnErr, OnOk, cond, true, ℕ};
 ghost use Rattle.ui_machine.specs.Rules.Connections.{by_code_to};
 ghost use Rattle.ui_machine.specs.State.Handlers as machine;
-ghost use Rattle.signal_core.specs.Kept.{IsAbove, IsListed, NotBefore, channel, count_at, runs_in};
+ghost use Rattle.signal_core.specs.Kept.{IsAbove, IsBeside, IsListed, NotBefore, channel, count_at, may_run};
 
 use crate::code_counts::CodeCounts;
 use crate::connected::Handler;
@@ -17,13 +17,15 @@ use ui_machine::SignalId;
 #[derive(Debug, Drop)]
 pub(crate) struct Listings {
     pub(crate) details: Details,
-    /// By the object, the signal with the place of the class handler, and the detail's number.
+    /// Those that nothing blocks, by the object, the signal with the place of the class handler, and the detail's number.
     pub(crate) by_signal: Listing,
     /// By the object and the program, with 0.
     pub(crate) by_program: Listing,
     /// By each object that a handler is on or has as data, with 0 twice.
     pub(crate) by_object: Listing,
     pub(crate) by_code: CodeCounts,
+    /// Whether each one that nothing blocks is listed by its signal. It is not, once there was no memory for one that was unblocked.
+    pub(crate) is_whole: bool,
 }
 
 impl Listings {
@@ -37,13 +39,15 @@ impl Listings {
             by_program: Listing::new(alloc),
             by_object: Listing::new(alloc),
             by_code: CodeCounts::new(alloc),
+            is_whole: true,
         }
     }
 
-    /// The next handler of an emission after a number, before the class handler or after it.
+    /// The next handler of an emission after a number, before the class handler or after it, that is not blocked.
     pub(crate) fn next_to(&self, cursor: &Cursor, after: bool, given: u64) -> Option<u64>
+        requires { self.now.is_whole ≡ true }
         ensures above { IsAbove given result }
-        ensures next { (h : machine.Handler) → IsListed self.now h → runs_in cursor.now after h ≡ true → NotBefore given result h.number }
+        ensures next { (h : machine.Handler) → IsListed self.now h → may_run cursor.now after h ≡ true → NotBefore given result h.number }
     {
         let object = cursor.object().0;
         let channel = channel(cursor.signal(), after);
@@ -107,6 +111,41 @@ impl Listings {
             self.by_code
                 .remove(handler.object().0, u64::from(handler.signal()));
         }
+    }
+
+    /// Takes a handler that was blocked out of those of its signal.
+    pub(crate) fn leave(&mut self, handler: &Handler)
+        requires { 0 < handler.now.blocks }
+        ensures stays { (h : machine.Handler) → (h.number ≡ handler.now.number → ⊥) → IsListed self.old h → IsListed self.new h }
+        ensures listed { (h : machine.Handler) → IsListed self.old h → IsBeside handler.now h → IsListed self.new handler.now }
+        ensures counts { self.new.by_code ≡ self.old.by_code }
+    {
+        let channel = channel(handler.signal(), handler.is_after());
+        if let Some(detail) = self.details.number(handler.detail()) {
+            self.by_signal
+                .remove(handler.object().0, channel, detail, handler.number());
+        }
+    }
+
+    /// Lists a handler by its signal that was unblocked.
+    pub(crate) fn enter(&mut self, handler: &Handler)
+        ensures stays { (h : machine.Handler) → IsListed self.old h → IsListed self.new h }
+        ensures listed { (h : machine.Handler) → IsListed self.old h → IsBeside handler.now h → IsListed self.new handler.now }
+        ensures counts { self.new.by_code ≡ self.old.by_code }
+    {
+        let channel = channel(handler.signal(), handler.is_after());
+        let Ok(detail) = self.details.add(handler.detail()) else {
+            self.is_whole = false;
+            return;
+        };
+        let number = handler.number();
+        let Ok(()) = self
+            .by_signal
+            .add(handler.object().0, channel, detail, number)
+        else {
+            self.is_whole = false;
+            return;
+        };
     }
 
     // Takes a handler out of what is listed.

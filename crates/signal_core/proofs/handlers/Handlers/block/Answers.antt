@@ -5,6 +5,8 @@ use Rattle.std.specs.Option.{option_copied_mut}
 use Rattle.ui_machine.specs.Rules.Connections.{blocked}
 use Rattle.ui_machine.specs.State.Handlers.{Handler}
 use Rattle.signal_core.specs.Connected.{Connected}
+use Rattle.signal_core.specs.Kept.{IsBeside, count_at}
+use Rattle.signal_core.specs.declared.code_counts.CodeCounts.{CodeCounts}
 use Rattle.signal_core.proofs.Changes.{at_number, written_kept, written_values}
 use Rattle.signal_core.proofs.Keeping.{found_number, none_map, same_map}
 use Rattle.signal_core.proofs.handlers.Handlers.block.Goals as goal
@@ -24,9 +26,10 @@ invariant_of-self-2 c =
     let found = sym (at_number before.connected.entries before.listings before.last before.to_come c.self.invariant c.args.number) ∙ sym c.get_mut.ensures.value ∙ ap option_copied_mut c.in-Some.is in
     let x = c.in-Some.handler.now in
     let w = c.block.new.self in
+    let number = ap (λ (h : Handler). h.number) c.block.ensures ∙ found_number c.args.number x (values_of before.connected.entries) found in
+    let beside : IsBeside w x = c.block.ensures ∙ ap (λ (b : ℕ). record x { blocks = b }) (sym (ap (λ (h : Handler). h.blocks) c.block.ensures)) in
     written_kept before.connected.entries before.listings before.last before.to_come c.self.invariant c.args.number w (c.get_mut.follows.lender w).entries (c.get_mut.follows.holds w).0
-    (ap (λ (h : Handler). h.number) c.block.ensures ∙ found_number c.args.number x (values_of before.connected.entries) found)
-    x found (λ listed. rw c.block.ensures listed) (λ o s. rw c.block.ensures refl)
+    number c.leave.new.self x found (λ h other. c.leave.ensures.stays h (λ same. other (same ∙ number))) (λ mine. c.leave.ensures.listed x mine beside) (λ o s. ap (λ (k : CodeCounts). count_at k o s) c.leave.ensures.counts) (λ o s. rw c.block.ensures refl)
 
 pub returns : goal.returns
 returns c =

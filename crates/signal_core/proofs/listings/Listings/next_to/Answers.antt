@@ -9,7 +9,7 @@ returns-in_default-clause-next c =
     let l = c.args.self.now in
     let at = c.channel-channel.ensures ∙ ap (λ s. channel s c.args.after) c.signal.ensures in
     let number = c.number.ensures ∙ ap (detail_number l.details) c.detail.ensures in
-    plain_only w c.args.after l c.args.given c.object-object.result.0 c.channel-channel.result c.object-object.ensures at c.next-plain.result c.next-plain.ensures
+    plain_only w c.args.after l c.args.given c.object-object.result.0 c.channel-channel.result c.object-object.ensures at c.requires c.next-plain.result c.next-plain.ensures
     (λ k e. let no : Some k ≡ None = sym e ∙ sym number ∙ c.in_default.is in absurd (cc))
 
 pub returns-then-detail-eq0-clause-next : goal.returns-then-detail-eq0-clause-next
@@ -18,7 +18,7 @@ returns-then-detail-eq0-clause-next c =
     let l = c.args.self.now in
     let at = c.channel-channel.ensures ∙ ap (λ s. channel s c.args.after) c.signal.ensures in
     let number = c.number.ensures ∙ ap (detail_number l.details) c.detail.ensures in
-    plain_only w c.args.after l c.args.given c.object-object.result.0 c.channel-channel.result c.object-object.ensures at c.next-plain.result c.next-plain.ensures
+    plain_only w c.args.after l c.args.given c.object-object.result.0 c.channel-channel.result c.object-object.ensures at c.requires c.next-plain.result c.next-plain.ensures
     (λ k e. let same : Some k ≡ Some c.in-Some.detail = sym e ∙ sym number ∙ c.in-Some.is in let is : k ≡ c.in-Some.detail = cc in is ∙ c.if-detail-eq0.true)
 
 pub returns-clause-next : goal.returns-clause-next
@@ -28,5 +28,5 @@ returns-clause-next c h mine of =
     let at = c.channel-channel.ensures ∙ ap (λ s. channel s c.args.after) c.signal.ensures in
     let number = c.number.ensures ∙ ap (detail_number l.details) c.detail.ensures in
     subst (λ next. NotBefore c.args.given next h.number) (sym c.least.ensures)
-    (plain_or_own w c.args.after l c.args.given c.object-object.result.0 c.channel-channel.result c.object-object.ensures at c.in-Some.detail c.next-plain.result c.next.result
+    (plain_or_own w c.args.after l c.args.given c.object-object.result.0 c.channel-channel.result c.object-object.ensures at c.requires c.in-Some.detail c.next-plain.result c.next.result
     (sym number ∙ c.in-Some.is) c.next-plain.ensures c.next.ensures h mine of)
