@@ -1,7 +1,7 @@
 -- Which signals the types of a tree have: those of each class from the root down, and those of the interfaces that it names (GObject
 -- manual, signals: g_signal_lookup, which looks at ancestors and interfaces).
 use Rattle.std.specs.List.{filter, flat_map, list_any}
-use Rattle.std.specs.Prelude.{Bool, List, Option, [], cond, false, get_or, length, nat_eq, not, reverse, take, ℕ, ◌++◌, ◌<◌, ◌≡◌, ◌∷◌}
+use Rattle.std.specs.Prelude.{Bool, List, Option, Some, [], cond, false, get_or, length, nat_eq, not, option_and_then, reverse, suc, take, zero, ℕ, ◌++◌, ◌<◌, ◌≡◌, ◌∷◌}
 use Rattle.ui_machine.specs.Definition.Names.{canonical, place_named}
 use Rattle.ui_machine.specs.Definition.Signals.{Signal}
 use Rattle.ui_machine.specs.Definition.Types.{GType}
@@ -39,6 +39,11 @@ abbrev pub number_named : List Signal → List ℕ → Option ℕ
 number_named signals name = place_named (λ s. s.name) signals (canonical name)
 
 -- ** in the order of the walk
+
+-- the type so far above a type
+abbrev pub ancestor_of : List GType → (t height : ℕ) → Option ℕ
+ancestor_of types t zero = Some t
+ancestor_of types t (suc height) = option_and_then (parent_of types) (ancestor_of types t height)
 
 -- what the ancestors of a type bring
 abbrev pub brought_above : List GType → ℕ → List ℕ

@@ -2,12 +2,45 @@
 //!
 //! A type brings itself and, as a class, the interfaces that it names. What its ancestors bring comes before that.
 
-ghost use Rattle.std.specs.Prelude.{◌≡◌, ◌+◌, ◌<◌, [], length, nat_eq, take};
+ghost use Rattle.std.specs.Prelude.{◌≡◌, ◌+◌, ◌<◌, [], IsSome, None, Some, length, nat_eq, take};
 ghost use Rattle.std.specs.List.{list_any};
-ghost use Rattle.ui_machine.specs.Rules.Ancestry.{implemented_by};
-ghost use Rattle.signal_core.specs.Sources.{AreMarked, brought_above, brought_at, brought_by, brought_until, came_before};
+ghost use Rattle.ui_machine.specs.Rules.Ancestry.{implemented_by, parent_of};
+ghost use Rattle.type_tree.specs.Tree.{IsTree};
+ghost use Rattle.signal_core.specs.Sources.{AreMarked, ancestor_of, brought_above, brought_at, brought_by, brought_until, came_before};
 
 use type_tree::{MOST_TYPES, TypeId, TypeSort, TypeTree};
+
+/// The type without a parent above a type, and how far above it is.
+pub(crate) fn root(tree: &TypeTree, t: TypeId) -> (TypeId, usize)
+    ensures above { ancestor_of tree.now t result.1 ≡ Some result.0 }
+    ensures root { parent_of tree.now result.0 ≡ None }
+    ensures tree { IsTree tree.now }
+{
+    let mut class = t;
+    let mut height = 0;
+    'line: loop {
+        let Some(parent) = tree.parent(class) else {
+            return (class, height);
+        };
+        class = parent;
+        height += 1;
+    }
+}
+
+/// The type so far above a type.
+pub(crate) fn ancestor(tree: &TypeTree, t: TypeId, height: usize) -> TypeId
+    requires { IsSome (ancestor_of tree.now t height) }
+    ensures { ancestor_of tree.now t height ≡ Some result }
+{
+    let mut class = t;
+    for _above in 0..height {
+        let Some(parent) = tree.parent(class) else {
+            unreachable!()
+        };
+        class = parent;
+    }
+    class
+}
 
 /// How many types a type brings.
 pub(crate) fn source_count(tree: &TypeTree, t: TypeId) -> usize

@@ -12,7 +12,7 @@ use crate::class_handler::ClassHandler;
 use crate::flags::SignalFlags;
 use crate::growing::add;
 use crate::signal::{DeclaredSignal, Signal};
-use crate::sources::{came_before, mark, source_at, source_count, unmarked};
+use crate::sources::{ancestor, came_before, mark, root, source_at, source_count, unmarked};
 use std::alloc::{AllocError, Global};
 use std::marker::Model;
 use type_tree::{TypeId, TypeTree, is_spelling};
@@ -158,34 +158,24 @@ impl SignalTable {
         ensures none { IfErr result (λ count. place_named (λ s. s.name) (declared_of tree.now self.now.signals t) (canonical name.now) ≡ None) }
         ensures count { IfErr result (λ count. count ≡ length (declared_of tree.now self.now.signals t)) }
     {
+        let (mut class, mut height) = root(tree, t);
         let mut marks = unmarked();
-        self.place_from_root(tree, t, name, &mut marks)
-    }
-
-    // The same, where nothing is marked yet. What the type and its ancestors bring is marked on the way.
-    fn place_from_root(
-        &self,
-        tree: &TypeTree,
-        t: TypeId,
-        name: &str,
-        marks: &mut [bool],
-    ) -> Result<usize, usize>
-        requires fresh { AreMarked marks.old [] }
-        ensures found { IfOk result (λ place. place_named (λ s. s.name) (declared_of tree.now self.now.signals t) (canonical name.now) ≡ Some place) }
-        ensures none { IfErr result (λ count. place_named (λ s. s.name) (declared_of tree.now self.now.signals t) (canonical name.now) ≡ None) }
-        ensures count { IfErr result (λ count. count ≡ length (declared_of tree.now self.now.signals t)) }
-        ensures marks { IfErr result (λ count. AreMarked marks.new (brought_until tree.now t (length (brought_by tree.now t)))) }
-    {
-        match tree.parent(t) {
-            Some(parent) => match self.place_from_root(tree, parent, name, marks) {
-                Ok(place) => Ok(place),
-                Err(count) => self.place_added(tree, t, name, count, marks),
-            },
-            None => self.place_added(tree, t, name, 0, marks),
+        let mut count = 0;
+        'line: loop {
+            match self.place_added(tree, class, name, count, &mut marks) {
+                Ok(place) => return Ok(place),
+                Err(more) => count = more,
+            }
+            if height == 0 {
+                return Err(count);
+            }
+            height -= 1;
+            class = ancestor(tree, t, height);
         }
     }
 
-    // The same, where none of the ancestors has the name, and they bring so many signals.
+    // The same, where none of the ancestors has the name, they bring so many signals, and what they bring is marked. What the type brings is
+    // marked then.
     fn place_added(
         &self,
         tree: &TypeTree,
@@ -221,34 +211,24 @@ impl SignalTable {
         ensures past { IfErr result (λ count. count ≤ place) }
         ensures count { IfErr result (λ count. count ≡ length (declared_of tree.now self.now.signals t)) }
     {
+        let (mut class, mut height) = root(tree, t);
         let mut marks = unmarked();
-        self.signal_from_root(tree, t, place, &mut marks)
-    }
-
-    // The same, where nothing is marked yet. What the type and its ancestors bring is marked on the way.
-    fn signal_from_root(
-        &self,
-        tree: &TypeTree,
-        t: TypeId,
-        place: usize,
-        marks: &mut [bool],
-    ) -> Result<&Signal, usize>
-        requires fresh { AreMarked marks.old [] }
-        ensures found { IfOk result (λ s. slice_get (declared_of tree.now self.now.signals t) place ≡ Some (signal_view s.now)) }
-        ensures past { IfErr result (λ count. count ≤ place) }
-        ensures count { IfErr result (λ count. count ≡ length (declared_of tree.now self.now.signals t)) }
-        ensures marks { IfErr result (λ count. AreMarked marks.new (brought_until tree.now t (length (brought_by tree.now t)))) }
-    {
-        match tree.parent(t) {
-            Some(parent) => match self.signal_from_root(tree, parent, place, marks) {
-                Ok(signal) => Ok(signal),
-                Err(count) => self.signal_added(tree, t, place, count, marks),
-            },
-            None => self.signal_added(tree, t, place, 0, marks),
+        let mut count = 0;
+        'line: loop {
+            match self.signal_added(tree, class, place, count, &mut marks) {
+                Ok(signal) => return Ok(signal),
+                Err(more) => count = more,
+            }
+            if height == 0 {
+                return Err(count);
+            }
+            height -= 1;
+            class = ancestor(tree, t, height);
         }
     }
 
-    // The same, where the ancestors bring so many signals, none of which stands there.
+    // The same, where the ancestors bring so many signals, none of which stands there, and what they bring is marked. What the type brings is
+    // marked then.
     fn signal_added(
         &self,
         tree: &TypeTree,
