@@ -1,5 +1,5 @@
 -- The signals of a type, as far as a walk over what brings them has come.
-use Rattle.std.proofs.Common.{◌≡◌, ◌∙◌, ℕ, ◌+◌, ◌-◌, ◌<◌, ◌≤◌, Bool, true, false, cond, ◌||◌, nat_eq, get_or, List, [], ◌∷◌, ◌++◌, length, length-append, reverse, take, drop, Option, None, Some, option_and_then, option_map, slice_get, is_some, zero, suc, add-one, inl, inr, refl, sym, ap, subst, arith, append-nil, append_assoc}
+use Rattle.std.proofs.Common.{◌≡◌, ◌∙◌, ℕ, ◌+◌, ◌-◌, ◌<◌, ◌≤◌, Bool, true, false, cond, ◌||◌, nat_eq, get_or, List, [], ◌∷◌, ◌++◌, length, length-append, reverse, take, drop, Option, None, Some, option_and_then, option_map, slice_get, zero, suc, add-one, inl, inr, refl, sym, ap, subst, arith, append-nil, append_assoc}
 use Rattle.std.specs.List.{find, flat_map, list_any}
 use Rattle.std.proofs.lemmas.Bool.{cases_lt}
 use Rattle.std.proofs.lemmas.Grind.{flat_map-append}
@@ -86,15 +86,6 @@ module _ (types : List GType) where
   child_below t (suc height) class child at some below =
       let lower : ancestor_of types t height ≡ Some child = ap (ancestor_of types t) (let same : height ≡ suc height - 1 = omega arith in same) ∙ below in
       sym (ap (option_and_then (parent_of types)) lower) ∙ at
-
-  pub one_below : (t height class : ℕ) → ancestor_of types t height ≡ Some class → (height ≡ 0 → ⊥) → is_some (ancestor_of types t (height - 1)) ≡ true
-  one_below t zero class at some = absurd (some refl)
-  one_below t (suc height) class at some =
-      ap (λ h. is_some (ancestor_of types t h)) (let same : suc height - 1 ≡ height = omega arith in same) ∙ by (ancestor_of types t height) at
-    where
-      by : (o : Option ℕ) → option_and_then (parent_of types) o ≡ Some class → is_some o ≡ true
-      by None at = absurd (cc)
-      by (Some mid) at = refl
 
 -- ** what is marked
 
