@@ -1,4 +1,9 @@
 pub mod Changed
+pub mod Keys
+pub mod Keeping
+pub mod Stepping
+pub mod Changes
+pub mod Connecting
 pub mod Numbers
 pub mod Room
 pub mod Steps

@@ -1,5 +1,5 @@
 -- The numbers of handlers go on rising where one is connected, some go and some are changed.
-use Rattle.std.proofs.Common.{◌≡◌, ℕ, ◌<◌, ◌≤◌, ◌+◌, ◌++◌, Bool, true, false, cond, map, List, [], ◌∷◌, None, Some, arith, refl}
+use Rattle.std.proofs.Common.{◌≡◌, ℕ, ◌<◌, ◌≤◌, ◌++◌, Bool, true, false, cond, map, List, [], ◌∷◌, None, Some, arith, refl}
 use Rattle.std.specs.List.{filter, find}
 use Rattle.ui_machine.specs.State.Handlers.{Handler}
 use Rattle.signal_core.specs.Connected.{Numbered}
@@ -40,25 +40,10 @@ found_above p above (x ∷ hs) last h n e = by (p x) e (λ later. found_above p 
     by true e later = let is : x ≡ h = cc in rw (← is) n.0
     by false e later = let up = later e in omega (arith, n.0, up)
 
--- with those of a kind changed, that keep their numbers
-pub numbered_changed : (f : Handler → Handler) → ((h : Handler) → (f h).number ≡ h.number) → (p : Handler → Bool) (hs new : List Handler) (last : ℕ) →
-    Numbered 0 hs last → new ≡ map (λ h. cond (p h) (f h) h) hs → Numbered 0 new last
-numbered_changed f same p hs new last n e = rw e (numbered_map (λ h. cond (p h) (f h) h) (λ h. by h (p h)) 0 hs last n)
-  where
-    by : (h : Handler) (b : Bool) → (cond b (f h) h).number ≡ h.number
-    by h true = same h
-    by h false = refl
-
 -- the number that is given where there is room
 pub number_given : (room : Bool) (next number : ℕ) → cond room (Some next) None ≡ Some number → (room ≡ true) × (number ≡ next)
 number_given true next number e = (refl, cc)
 number_given false next number e = absurd (cc)
-
--- with one more under the next number
-pub numbered_next : (hs new : List Handler) (last number : ℕ) (h : Handler) → new ≡ hs ++ h ∷ [] → h.number ≡ number → number ≡ last + 1 →
-    Numbered 0 hs last → Numbered 0 new number
-numbered_next hs new last number h e same next n =
-    rw (e, ← same) (numbered_push 0 hs last h (omega (arith, same, next)) n)
 
 -- the last number is above all
 pub numbered_within : (above : ℕ) (hs : List Handler) (last : ℕ) → Numbered above hs last → above ≤ last

@@ -1,6 +1,7 @@
 -- The signals of a type, as far as a walk over what brings them has come.
-use Rattle.std.proofs.Common.{◌≡◌, ◌∙◌, ℕ, ◌+◌, ◌-◌, ◌<◌, ◌≤◌, Bool, true, false, cond, ◌||◌, nat_eq, List, [], ◌∷◌, ◌++◌, length, length-append, reverse, take, drop, Option, None, Some, option_map, slice_get, refl, sym, ap, subst, arith, append-nil, append_assoc}
+use Rattle.std.proofs.Common.{◌≡◌, ◌∙◌, ℕ, ◌+◌, ◌-◌, ◌<◌, ◌≤◌, Bool, true, false, cond, ◌||◌, nat_eq, get_or, List, [], ◌∷◌, ◌++◌, length, length-append, reverse, take, drop, Option, None, Some, option_and_then, option_map, slice_get, zero, suc, add-one, inl, inr, refl, sym, ap, subst, arith, append-nil, append_assoc}
 use Rattle.std.specs.List.{find, flat_map, list_any}
+use Rattle.std.proofs.lemmas.Bool.{cases_lt}
 use Rattle.std.proofs.lemmas.Grind.{flat_map-append}
 use Rattle.std.proofs.lemmas.List.{reverse-append, take-append-drop, take_more}
 use Rattle.std.proofs.lemmas.List.Folds.{list_any-append}
@@ -13,7 +14,7 @@ use Rattle.type_tree.specs.Tree.{IsTree}
 use Rattle.type_tree.proofs.Entries.{read-past}
 use Rattle.type_tree.proofs.Lines.{line_from-parent, line_from-root}
 use Rattle.type_tree.proofs.Lookups.{nat_eq-comm}
-use Rattle.signal_core.specs.Sources.{added_at, brought_above, brought_at, brought_by, brought_until, came_before, declared_of, declared_until, each_once, own_of, sources_of}
+use Rattle.signal_core.specs.Sources.{AreMarked, added_at, ancestor_of, brought_above, brought_at, brought_by, brought_until, came_before, declared_of, declared_until, each_once, own_of, sources_of}
 use Rattle.ui_machine.specs.Seq.{total}
 use Rattle.signal_core.specs.Table.{IsTable, class_handler_named, line_count, named_of}
 use Rattle.signal_core.proofs.Once.{each_once-front, each_once-more, once_few}
@@ -51,6 +52,86 @@ came_before-parts types t place s above among is a b =
     ap (λ x. x || among) a ∙ ap (λ x. list_any (nat_eq s) (brought_above types t) || x) b
     ∙ sym (list_any-append (nat_eq s) (brought_above types t) (take place (brought_by types t)))
     ∙ ap (λ x. list_any (nat_eq x) (brought_until types t place)) is
+
+-- ** up and down a line
+
+module _ (types : List GType) where
+  pub ancestor_more : (t height : ℕ) (class parent : ℕ) → ancestor_of types t height ≡ Some class → parent_of types class ≡ Some parent → ancestor_of types t (height + 1) ≡ Some parent
+  ancestor_more t height class parent at up = ap (ancestor_of types t) (add-one height) ∙ ap (option_and_then (parent_of types)) at ∙ up
+
+  pub ancestor_none : (t height : ℕ) (class : ℕ) → ancestor_of types t height ≡ Some class → parent_of types class ≡ None → ancestor_of types t (height + 1) ≡ None
+  ancestor_none t height class at up = ap (ancestor_of types t) (add-one height) ∙ ap (option_and_then (parent_of types)) at ∙ up
+
+  -- above where there is none there is none
+  pub none_higher : (t low high : ℕ) → low ≤ high → ancestor_of types t low ≡ None → ancestor_of types t high ≡ None
+  none_higher t low zero le e = ap (ancestor_of types t) (let same : 0 ≡ low = omega arith in same) ∙ e
+  none_higher t low (suc high) le e =
+      elim (cases_lt high low) [
+        | inl past ↦ ap (ancestor_of types t) (let same : suc high ≡ low = omega (arith, le, past) in same) ∙ e
+        | inr below ↦ ap (option_and_then (parent_of types)) (none_higher t low high below e)
+      ]
+
+  -- what a type takes from its parent, it takes from each ancestor
+  pub line_down : (P : ℕ → Type 0) → ((t p : ℕ) → parent_of types t ≡ Some p → P p → P t) → (t height class : ℕ) → ancestor_of types t height ≡ Some class → P class → P t
+  line_down P step t zero class at has = let same : class ≡ t = cc in subst P same has
+  line_down P step t (suc height) class at has = by (ancestor_of types t height) at (λ mid e. line_down P step t height mid e) refl
+    where
+      by : (o : Option ℕ) → option_and_then (parent_of types) o ≡ Some class → ((mid : ℕ) → ancestor_of types t height ≡ Some mid → P mid → P t) → ancestor_of types t height ≡ o → P t
+      by None at rec e = absurd (cc)
+      by (Some mid) at rec e = rec mid e (step mid class at has)
+
+  -- the one below an ancestor is its child
+  pub child_below : (t height class child : ℕ) → ancestor_of types t height ≡ Some class → (height ≡ 0 → ⊥) → ancestor_of types t (height - 1) ≡ Some child → parent_of types child ≡ Some class
+  child_below t zero class child at some below = absurd (some refl)
+  child_below t (suc height) class child at some below =
+      let lower : ancestor_of types t height ≡ Some child = ap (ancestor_of types t) (let same : height ≡ suc height - 1 = omega arith in same) ∙ below in
+      sym (ap (option_and_then (parent_of types)) lower) ∙ at
+
+-- ** what is marked
+
+module _ (types : List GType) where
+  brought_more : (t place : ℕ) → place < length (brought_by types t) → brought_until types t (place + 1) ≡ brought_until types t place ++ brought_at types t place ∷ []
+  brought_more t place h =
+      ap (λ l. brought_above types t ++ l) (take_more (brought_by types t) place 0 h)
+      ∙ sym (append_assoc (brought_above types t) (take place (brought_by types t)) (brought_at types t place ∷ []))
+
+  pub brought_all : (t : ℕ) → flat_map (brought_by types) (reverse (lineage types t)) ≡ brought_until types t (length (brought_by types t))
+  brought_all t =
+      flat_map-last (brought_by types) (line_from (length types) types (parent_of types t)) t
+      ∙ ap (λ l. brought_above types t ++ l) (sym (take-all (brought_by types t)))
+
+  pub marked_child : (tree : IsTree types) (t p : ℕ) (marks : List Bool) → parent_of types t ≡ Some p
+      → AreMarked marks (brought_until types p (length (brought_by types p))) → AreMarked marks (brought_until types t 0)
+  marked_child tree t p marks h m u small =
+      m u small
+      ∙ ap (list_any (nat_eq u))
+      (sym (append-nil (brought_above types t) ∙ ap (λ l. flat_map (brought_by types) (reverse l)) (line_from-parent types tree t p h) ∙ brought_all p))
+
+  pub marked_root : (tree : IsTree types) (t : ℕ) (marks : List Bool) → parent_of types t ≡ None → AreMarked marks [] → AreMarked marks (brought_until types t 0)
+  marked_root tree t marks h m u small =
+      m u small
+      ∙ ap (list_any (nat_eq u)) (sym (append-nil (brought_above types t) ∙ ap (λ l. flat_map (brought_by types) (reverse l)) (line_from-root types tree t h)))
+
+  -- with one more that is marked, or that has no place for a mark
+  any_last : (u s : ℕ) (xs : List ℕ) → list_any (nat_eq u) (xs ++ s ∷ []) ≡ (list_any (nat_eq u) xs || (nat_eq u s || false))
+  any_last u s xs = list_any-append (nat_eq u) xs (s ∷ [])
+
+  pub marked_more : (t place : ℕ) (marks new : List Bool) → place < length (brought_by types t) → AreMarked marks (brought_until types t place)
+      → length new ≡ length marks
+      → ((u : ℕ) → u < length marks → get_or new u false ≡ (get_or marks u false || nat_eq u (brought_at types t place)))
+      → AreMarked new (brought_until types t (place + 1))
+  marked_more t place marks new h m long is u small =
+      let within : u < length marks = omega arith in
+      is u within
+      ∙ ap (λ b. b || nat_eq u (brought_at types t place)) (m u within)
+      ∙ or_last (list_any (nat_eq u) (brought_until types t place)) (nat_eq u (brought_at types t place))
+      ∙ sym (any_last u (brought_at types t place) (brought_until types t place))
+      ∙ ap (list_any (nat_eq u)) (sym (brought_more t place h))
+    where
+      or_last : (a b : Bool) → (a || b) ≡ (a || (b || false))
+      or_last true b = refl
+      or_last false true = refl
+      or_last false false = refl
 
 module _ (types : List GType) (signals : List (List Signal)) where
   added-of : (came : Bool) (s : ℕ) → flat_map (own_of signals) (cond came [] (s ∷ [])) ≡ cond came [] (own_of signals s)

@@ -1,4 +1,5 @@
 pub mod Connected
+pub mod Kept
 pub mod Emission
 pub mod Laws
 pub mod Growing

@@ -1,7 +1,7 @@
 -- Which signals the types of a tree have: those of each class from the root down, and those of the interfaces that it names (GObject
 -- manual, signals: g_signal_lookup, which looks at ancestors and interfaces).
 use Rattle.std.specs.List.{filter, flat_map, list_any}
-use Rattle.std.specs.Prelude.{Bool, List, Option, [], cond, get_or, length, nat_eq, not, reverse, take, ℕ, ◌++◌, ◌∷◌}
+use Rattle.std.specs.Prelude.{Bool, List, Option, Some, [], cond, false, get_or, length, nat_eq, not, option_and_then, reverse, suc, take, zero, ℕ, ◌++◌, ◌<◌, ◌≡◌, ◌∷◌}
 use Rattle.ui_machine.specs.Definition.Names.{canonical, place_named}
 use Rattle.ui_machine.specs.Definition.Signals.{Signal}
 use Rattle.ui_machine.specs.Definition.Types.{GType}
@@ -40,6 +40,11 @@ number_named signals name = place_named (λ s. s.name) signals (canonical name)
 
 -- ** in the order of the walk
 
+-- the type so far above a type
+abbrev pub ancestor_of : List GType → (t height : ℕ) → Option ℕ
+ancestor_of types t zero = Some t
+ancestor_of types t (suc height) = option_and_then (parent_of types) (ancestor_of types t height)
+
 -- what the ancestors of a type bring
 abbrev pub brought_above : List GType → ℕ → List ℕ
 brought_above types t = flat_map (brought_by types) (reverse (line_from (length types) types (parent_of types t)))
@@ -63,3 +68,7 @@ came_before types t place = list_any (nat_eq (brought_at types t place)) (brough
 -- the signals that come with it
 unfoldable pub added_at : List GType → List (List Signal) → (t place : ℕ) → List Signal
 added_at types signals t place = cond (came_before types t place) [] (own_of signals (brought_at types t place))
+
+-- each type that is among some has a mark under its number, and the others have none
+abbrev pub AreMarked : List Bool → List ℕ → Type 0
+AreMarked marks brought = (u : ℕ) → u < length marks → get_or marks u false ≡ list_any (nat_eq u) brought

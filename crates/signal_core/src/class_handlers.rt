@@ -81,12 +81,15 @@ impl SignalTable {
     pub(crate) fn handler_named(&self, tree: &TypeTree, t: TypeId, name: &str) -> Option<ProgramId>
         ensures { result ≡ class_handler_named tree.now self.now.handlers t name.now }
     {
-        if let Some(program) = self.own_handler(t, name) {
-            return Some(program);
-        }
-        match tree.parent(t) {
-            Some(parent) => self.handler_named(tree, parent, name),
-            None => None,
+        let mut class = t;
+        'line: loop {
+            if let Some(program) = self.own_handler(class, name) {
+                return Some(program);
+            }
+            let Some(parent) = tree.parent(class) else {
+                return None;
+            };
+            class = parent;
         }
     }
 

@@ -1,7 +1,8 @@
 //! A handler that is connected.
 
-ghost use Rattle.std.specs.Prelude.{◌≡◌};
-ghost use Rattle.ui_machine.specs.Rules.Connections.{blocked, by_code_to, is_on, unblocked};
+ghost use Rattle.std.specs.Prelude.{◌≡◌, nat_lt, option_map, string_bytes};
+ghost use Rattle.ui_machine.specs.declared.ids.ObjectId.{ObjectId};
+ghost use Rattle.ui_machine.specs.Rules.Connections.{blocked, is_on, unblocked};
 ghost use Rattle.ui_machine.specs.Rules.Disposal.{is_identity, is_of_object};
 
 use crate::connection::Connection;
@@ -46,12 +47,53 @@ impl Handler {
         }
     }
 
-    /// Whether bytecode connected it to this signal of the object.
-    pub(crate) fn is_by_code_to(&self, object: ObjectId, signal: SignalId) -> bool
-        ensures { result ≡ by_code_to object.0 signal self.now }
+    /// Whether bytecode connected it.
+    pub(crate) fn is_by_code(&self) -> bool
+        ensures { result ≡ self.now.by_code }
     {
-        let to = &self.connection;
-        to.by_code && (to.object == object && to.signal == signal)
+        self.connection.by_code
+    }
+
+    /// The object whose signal it is connected to.
+    pub(crate) fn object(&self) -> ObjectId
+        ensures { result.0 ≡ self.now.object }
+    {
+        self.connection.object
+    }
+
+    /// The signal, by its number.
+    pub(crate) fn signal(&self) -> SignalId
+        ensures { result ≡ self.now.signal }
+    {
+        self.connection.signal
+    }
+
+    /// Whether it runs after the class handler.
+    pub(crate) fn is_after(&self) -> bool
+        ensures { result ≡ self.now.after }
+    {
+        self.connection.after
+    }
+
+    /// The detail as it stands at the signal.
+    pub(crate) fn detail(&self) -> &Option<String>
+        ensures { option_map (λ d. string_bytes d) result.now ≡ self.now.detail }
+    {
+        &self.connection.detail
+    }
+
+    /// The program that it runs.
+    pub(crate) fn program(&self) -> ProgramId
+        ensures { result ≡ self.now.program }
+    {
+        self.connection.program
+    }
+
+    /// The object that it has as data.
+    pub(crate) fn data(&self) -> Option<ObjectId>
+        ensures { option_map (λ (id : ObjectId). id.0) result ≡ self.now.arg }
+    {
+        self.connection.data
     }
 
     /// Whether it is on the object and runs the program.
@@ -113,6 +155,13 @@ impl Handler {
             },
             then_at,
         }
+    }
+
+    /// Whether something blocks it.
+    pub(crate) fn is_blocked(&self) -> bool
+        ensures { result ≡ nat_lt 0 self.now.blocks }
+    {
+        self.blocks > 0
     }
 
     /// Blocks it once more, or leaves it at the greatest count.

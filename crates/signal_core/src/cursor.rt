@@ -70,6 +70,12 @@ impl Cursor {
         self.emission.object == object && self.emission.signal == signal
     }
 
+    pub(crate) fn detail(&self) -> &Option<String>
+        ensures { option_map (λ d. string_bytes d) result.now ≡ self.now.detail }
+    {
+        &self.emission.detail
+    }
+
     /// Whether a handler of this detail runs in the emission.
     pub(crate) fn has_detail_for(&self, detail: &Option<String>) -> bool
         ensures { result ≡ fits_detail (option_map (λ d. string_bytes d) detail.now) self.now.detail }

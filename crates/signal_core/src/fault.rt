@@ -54,10 +54,10 @@ pub enum ConnectError {
     OutOfMemory,
 }
 
-impl<T: Drop> From<AllocFailed<T>> for ConnectError {
+impl From<AllocError> for ConnectError {
     ghost from_gives = { λ _ e. e ≡ OutOfMemory };
 
-    fn from(_error: AllocFailed<T>) -> ConnectError {
+    fn from(_error: AllocError) -> ConnectError {
         ConnectError::OutOfMemory
     }
 }

@@ -1,37 +1,45 @@
 //! The handlers that are connected.
 
-ghost use Rattle.std.specs.Prelude.{◌≡◌, ◌↔◌, ◌+◌, OnOk, OnErr, IfOk, cond, count_by, false, option_map};
-ghost use Rattle.std.specs.List.{find};
-ghost use Rattle.ui_machine.specs.Rules.Connections.{by_code_to, is_on};
+ghost use Rattle.std.specs.Prelude.{◌≡◌, ◌↔◌, ◌+◌, ◌&&◌, OnOk, OnErr, IfOk, cond, count_by, false, map, nat_eq, not, option_map};
+ghost use Rattle.std.specs.List.{filter, find};
+ghost use Rattle.ui_machine.specs.Rules.Connections.{blocked, by_code_to, is_on, unblocked};
 ghost use Rattle.ui_machine.specs.Rules.Disposal.{is_of_object};
+ghost use Rattle.signal_core.specs.Kept.{IsNextOf, is_numbered, may_run};
 
 use crate::connected::Handler;
 use crate::connection::Connection;
 use crate::cursor::Cursor;
 use crate::fault::ConnectError;
+use crate::listings::Listings;
 use std::alloc::Global;
+use std::collections::BTreeMap;
 use std::marker::Model;
 use ui_machine::{ObjectId, ProgramId, SignalId};
 
 /// Handlers in order of connection, by numbers from 1 that are never used again.
 ///
-/// The numbers of the handlers that the builder is still to connect are kept for it.
+/// The numbers of the handlers that the builder is still to connect are kept for it. What is done to a handler, and looking for the next one of
+/// an emission, costs the logarithm of how many are connected.
 #[derive(Debug, Drop)]
 pub struct Handlers {
-    connected: Vec<Handler>,
+    connected: BTreeMap<u64, Handler>,
+    listings: Listings,
     last: u64,
     to_come: u64,
     most: u32,
 }
 
 impl Model for Handlers {
-    ghost use Rattle.signal_core.specs.Connected.{Connected, HasNumbers, Numbered};
+    ghost use Rattle.std.specs.Map.{values_of};
+    ghost use Rattle.signal_core.specs.Connected.{Connected};
 
     ghost Value = { Connected };
 
-    ghost view = { λ h. record { handlers = h.connected.items; last = h.last; to_come = h.to_come; most = h.most } };
+    ghost use Rattle.signal_core.specs.Kept.{IsKept};
 
-    ghost invariant = { λ h. HasNumbers h.last h.to_come × Numbered 0 h.connected.items h.last };
+    ghost view = { λ h. record { handlers = values_of h.connected.entries; last = h.last; to_come = h.to_come; most = h.most } };
+
+    ghost invariant = { λ h. IsKept h.connected.entries h.listings h.last h.to_come };
 }
 
 impl Handlers {
@@ -44,7 +52,8 @@ impl Handlers {
         ensures { result ≡ none_connected most to_come }
     {
         Handlers {
-            connected: Vec::new(alloc),
+            connected: BTreeMap::new(alloc),
+            listings: Listings::new(alloc),
             last: 0,
             to_come,
             most,
@@ -65,8 +74,14 @@ impl Handlers {
         let Some(number) = self.number_for(&connection) else {
             return Err(ConnectError::HandlerLimit);
         };
-        let by_code = connection.by_code;
-        self.connected.push(Handler::new(number, connection))?;
+        let handler = Handler::new(number, connection);
+        self.listings.add(&handler)?;
+        let by_code = handler.is_by_code();
+        if let Err(refused) = self.connected.insert(number, handler) {
+            let (_, handler) = refused.value;
+            self.listings.remove(&handler);
+            return Err(ConnectError::OutOfMemory);
+        }
         self.last = number;
         if !by_code {
             self.to_come = self.to_come.saturating_sub(1);
@@ -87,9 +102,35 @@ impl Handlers {
         ensures { option_map (λ h. h.now) result
             ≡ find (has_next_turn cursor.now given after) self.now.handlers }
     {
-        self.connected
-            .iter()
-            .find(|handler| handler.has_next_turn(cursor, given, after))
+        // For the proof: that the numbers rise.
+        let _ = self.last();
+        let mut at = given;
+        'handlers: while let Some(number) = self.next_to(cursor, after, at) {
+            if let Some(handler) = self.with_next_turn(number, cursor, given, after) {
+                return Some(handler);
+            }
+            at = number;
+        }
+        None
+    }
+
+    // The handler of a number, if it has the next turn.
+    fn with_next_turn(
+        &self,
+        number: u64,
+        cursor: &Cursor,
+        given: u64,
+        after: bool,
+    ) -> Option<&Handler>
+        ensures { option_map (λ h. h.now) result
+            ≡ find (is_numbered (has_next_turn cursor.now given after) number) self.now.handlers }
+    {
+        let handler = self.handler(number)?;
+        if handler.has_next_turn(cursor, given, after) {
+            Some(handler)
+        } else {
+            None
+        }
     }
 
     // The number that a handler would get, if it may be connected.
@@ -114,10 +155,7 @@ impl Handlers {
     fn count_by_code(&self, object: ObjectId, signal: SignalId) -> usize
         ensures { result ≡ count_by (by_code_to object.0 signal) self.now.handlers }
     {
-        self.connected
-            .iter()
-            .filter(|handler| handler.is_by_code_to(object, signal))
-            .count()
+        self.listings.by_code.count(object.0, u64::from(signal))
     }
 
     /// Disconnects all handlers of a program on an object, and counts them (GObject manual, Signals: `g_signal_handlers_disconnect_matched`).
@@ -126,8 +164,14 @@ impl Handlers {
         ensures left { self.new
             ≡ record self.old { handlers = without_matched object.0 program self.old.handlers } }
     {
-        let count = self.count_on(object, program);
-        disconnect(&mut self.connected, object, program);
+        // For the proof: that the numbers rise.
+        let _ = self.last();
+        let mut count = 0;
+        let mut at = 0;
+        'handlers: while let Some(number) = self.next_on(object, program, at) {
+            count += self.disconnect_on(number, object, program);
+            at = number;
+        }
         count
     }
 
@@ -137,8 +181,14 @@ impl Handlers {
         ensures blocked { self.new
             ≡ record self.old { handlers = with_blocked object.0 program self.old.handlers } }
     {
-        let count = self.count_on(object, program);
-        block(&mut self.connected, object, program);
+        // For the proof: that the numbers rise.
+        let _ = self.last();
+        let mut count = 0;
+        let mut at = 0;
+        'handlers: while let Some(number) = self.next_on(object, program, at) {
+            count += self.block_on(number, object, program);
+            at = number;
+        }
         count
     }
 
@@ -149,8 +199,14 @@ impl Handlers {
         ensures unblocked { self.new
             ≡ record self.old { handlers = with_unblocked object.0 program self.old.handlers } }
     {
-        let count = self.count_on(object, program);
-        unblock(&mut self.connected, object, program);
+        // For the proof: that the numbers rise.
+        let _ = self.last();
+        let mut count = 0;
+        let mut at = 0;
+        'handlers: while let Some(number) = self.next_on(object, program, at) {
+            count += self.unblock_on(number, object, program);
+            at = number;
+        }
         count
     }
 
@@ -160,59 +216,154 @@ impl Handlers {
         ensures left { self.new
             ≡ record self.old { handlers = without_object object.0 self.old.handlers } }
     {
-        let count = self
-            .connected
-            .iter()
-            .filter(|handler| handler.is_of_object(object))
-            .count();
-        disconnect_of(&mut self.connected, object);
+        // For the proof: that the numbers rise.
+        let _ = self.last();
+        let mut count = 0;
+        let mut at = 0;
+        'handlers: while let Some(number) = self.next_of(object, at) {
+            count += self.disconnect_of(number, object);
+            at = number;
+        }
         count
     }
 
-    fn count_on(&self, object: ObjectId, program: ProgramId) -> usize
-        ensures { result ≡ count_by (is_on object.0 program) self.now.handlers }
+    // A number of handlers up to which none after the number `given` runs in an emission, before the class handler or after it, and is not
+    // blocked. It is that of the next one, unless the handlers are not listed.
+    fn next_to(&self, cursor: &Cursor, after: bool, given: u64) -> Option<u64>
+        ensures { IsNextOf (may_run cursor.now after) given self.now.handlers result }
     {
-        self.connected
-            .iter()
-            .filter(|handler| handler.is_on(object, program))
-            .count()
-    }
-}
-
-ghost use Rattle.signal_core.specs.Connected.{without_matched, with_blocked, with_unblocked, without_object};
-
-// The handlers of the program on the object go.
-fn disconnect(connected: &mut Vec<Handler>, object: ObjectId, program: ProgramId)
-    ensures { connected.new.items ≡ without_matched object.0 program connected.old.items }
-{
-    connected.retain(|handler| !handler.is_on(object, program));
-}
-
-// The handlers that are on the object or have it as data go.
-fn disconnect_of(connected: &mut Vec<Handler>, object: ObjectId)
-    ensures { connected.new.items ≡ without_object object.0 connected.old.items }
-{
-    connected.retain(|handler| !handler.is_of_object(object));
-}
-
-// The handlers of the program on the object are blocked once more.
-fn block(connected: &mut [Handler], object: ObjectId, program: ProgramId)
-    ensures { connected.new ≡ with_blocked object.0 program connected.old }
-{
-    for one in connected.iter_mut() {
-        if one.is_on(object, program) {
-            one.block();
+        if self.listings.is_whole {
+            return self.listings.next_to(cursor, after, given);
+        }
+        if given < self.last {
+            Some(given + 1)
+        } else {
+            None
         }
     }
-}
 
-// The handlers of the program on the object are blocked once less.
-fn unblock(connected: &mut [Handler], object: ObjectId, program: ProgramId)
-    ensures { connected.new ≡ with_unblocked object.0 program connected.old }
-{
-    for one in connected.iter_mut() {
-        if one.is_on(object, program) {
-            one.unblock();
+    // The next handler of a program on an object after a number.
+    fn next_on(&self, object: ObjectId, program: ProgramId, given: u64) -> Option<u64>
+        ensures { IsNextOf (is_on object.0 program) given self.now.handlers result }
+    {
+        self.listings
+            .by_program
+            .next(object.0, u64::from(program), 0, given)
+    }
+
+    // The next handler after a number that is on an object or has it as data.
+    fn next_of(&self, object: ObjectId, given: u64) -> Option<u64>
+        ensures { IsNextOf (is_of_object object.0) given self.now.handlers result }
+    {
+        self.listings.by_object.next(object.0, 0, 0, given)
+    }
+
+    // The handler of a number.
+    fn handler(&self, number: u64) -> Option<&Handler>
+        ensures found { option_map (λ h. h.now) result ≡ find (λ h. nat_eq h.number number) self.now.handlers }
+        ensures rises { Numbered 0 self.now.handlers self.now.last }
+    {
+        self.connected.get(&number)
+    }
+
+    // Disconnects the handler of a number if it runs the program on the object, and counts it.
+    fn disconnect_on(&mut self, number: u64, object: ObjectId, program: ProgramId) -> usize
+        ensures count { result ≡ count_by (is_numbered (is_on object.0 program) number) self.old.handlers }
+        ensures left { self.new
+            ≡ record self.old { handlers = filter (λ h. not (is_numbered (is_on object.0 program) number h)) self.old.handlers } }
+    {
+        let Some(handler) = self.handler(number) else {
+            return 0;
+        };
+        if !handler.is_on(object, program) {
+            return 0;
+        }
+        self.disconnect(number);
+        1
+    }
+
+    // Disconnects the handler of a number if it is on the object or has it as data, and counts it.
+    fn disconnect_of(&mut self, number: u64, object: ObjectId) -> usize
+        ensures count { result ≡ count_by (is_numbered (is_of_object object.0) number) self.old.handlers }
+        ensures left { self.new
+            ≡ record self.old { handlers = filter (λ h. not (is_numbered (is_of_object object.0) number h)) self.old.handlers } }
+    {
+        let Some(handler) = self.handler(number) else {
+            return 0;
+        };
+        if !handler.is_of_object(object) {
+            return 0;
+        }
+        self.disconnect(number);
+        1
+    }
+
+    // Disconnects the handler of a number.
+    fn disconnect(&mut self, number: u64)
+        ensures { self.new
+            ≡ record self.old { handlers = filter (λ h. not (nat_eq h.number number)) self.old.handlers } }
+    {
+        let Some(handler) = self.connected.remove(&number) else {
+            return;
+        };
+        self.listings.remove(&handler);
+    }
+
+    // Blocks the handler of a number once more if it runs the program on the object, and counts it.
+    fn block_on(&mut self, number: u64, object: ObjectId, program: ProgramId) -> usize
+        ensures count { result ≡ count_by (is_numbered (is_on object.0 program) number) self.old.handlers }
+        ensures blocked { self.new
+            ≡ record self.old { handlers = map (λ h. cond (is_numbered (is_on object.0 program) number h) (blocked h) h) self.old.handlers } }
+    {
+        let Some(handler) = self.handler(number) else {
+            return 0;
+        };
+        if !handler.is_on(object, program) {
+            return 0;
+        }
+        self.block(number);
+        1
+    }
+
+    // Blocks the handler of a number once more.
+    fn block(&mut self, number: u64)
+        ensures { self.new
+            ≡ record self.old { handlers = map (λ h. cond (nat_eq h.number number) (blocked h) h) self.old.handlers } }
+    {
+        let Some(handler) = self.connected.get_mut(&number) else {
+            return;
+        };
+        handler.block();
+        self.listings.leave(handler);
+    }
+
+    // Blocks the handler of a number once less if it runs the program on the object, and counts it.
+    fn unblock_on(&mut self, number: u64, object: ObjectId, program: ProgramId) -> usize
+        ensures count { result ≡ count_by (is_numbered (is_on object.0 program) number) self.old.handlers }
+        ensures unblocked { self.new
+            ≡ record self.old { handlers = map (λ h. cond (is_numbered (is_on object.0 program) number h) (unblocked h) h) self.old.handlers } }
+    {
+        let Some(handler) = self.handler(number) else {
+            return 0;
+        };
+        if !handler.is_on(object, program) {
+            return 0;
+        }
+        self.unblock(number);
+        1
+    }
+
+    // Blocks the handler of a number once less.
+    fn unblock(&mut self, number: u64)
+        ensures { self.new
+            ≡ record self.old { handlers = map (λ h. cond (nat_eq h.number number) (unblocked h) h) self.old.handlers } }
+    {
+        let Some(handler) = self.connected.get_mut(&number) else {
+            return;
+        };
+        handler.unblock();
+        if !handler.is_blocked() {
+            self.listings.enter(handler);
         }
     }
 }

@@ -4,9 +4,9 @@
 //! `g_signal_newv`, `g_signal_override_class_handler`). A contract sees the lists of the types' own signals and class handlers.
 //!
 //! A handler runs a program for the emissions of one signal of one object (`g_signal_connect_data`). While it is blocked it is passed over.
-//! [`Handlers`] has them in one list and in order of connection. Objects go by identity, signals by their number in the list of the object's
-//! class, where 0 is `notify`, and programs by number. A contract sees the machine's list of handlers, with the number of the last one
-//! connected.
+//! [`Handlers`] has them in order of connection, and finds those of an emission, of a program or of an object without looking at the others.
+//! Objects go by identity, signals by their number in the list of the object's class, where 0 is `notify`, and programs by number. A contract
+//! sees the machine's list of handlers, with the number of the last one connected.
 //!
 //! An emission is a [`Cursor`]: it goes from turn to turn without a list of them, by the numbers of the handlers. A contract sees it as a
 //! walk, whose turns still to come are taken from the handlers as they stand.
@@ -15,16 +15,20 @@
 mod beginning;
 mod class_handler;
 mod class_handlers;
+mod code_counts;
 mod connected;
 mod connection;
 mod cursor;
 mod declaring;
+mod details;
 mod emission;
 mod fault;
 mod flags;
 mod growing;
 mod handlers;
 mod laws;
+mod listing;
+mod listings;
 mod signal;
 mod sources;
 mod spelling;

@@ -2,12 +2,45 @@
 //!
 //! A type brings itself and, as a class, the interfaces that it names. What its ancestors bring comes before that.
 
-ghost use Rattle.std.specs.Prelude.{◌≡◌, ◌<◌, length, nat_eq, take};
+ghost use Rattle.std.specs.Prelude.{◌≡◌, ◌+◌, ◌<◌, [], IsSome, None, Some, length, nat_eq, take};
 ghost use Rattle.std.specs.List.{list_any};
-ghost use Rattle.ui_machine.specs.Rules.Ancestry.{implemented_by};
-ghost use Rattle.signal_core.specs.Sources.{brought_above, brought_at, brought_by, came_before};
+ghost use Rattle.ui_machine.specs.Rules.Ancestry.{implemented_by, parent_of};
+ghost use Rattle.type_tree.specs.Tree.{IsTree};
+ghost use Rattle.signal_core.specs.Sources.{AreMarked, ancestor_of, brought_above, brought_at, brought_by, brought_until, came_before};
 
-use type_tree::{TypeId, TypeSort, TypeTree};
+use type_tree::{MOST_TYPES, TypeId, TypeSort, TypeTree};
+
+/// The type without a parent above a type, and how far above it is.
+pub(crate) fn root(tree: &TypeTree, t: TypeId) -> (TypeId, usize)
+    ensures above { ancestor_of tree.now t result.1 ≡ Some result.0 }
+    ensures root { parent_of tree.now result.0 ≡ None }
+    ensures tree { IsTree tree.now }
+{
+    let mut class = t;
+    let mut height = 0;
+    'line: loop {
+        let Some(parent) = tree.parent(class) else {
+            return (class, height);
+        };
+        class = parent;
+        height += 1;
+    }
+}
+
+/// The type so far above a type.
+pub(crate) fn ancestor(tree: &TypeTree, t: TypeId, height: usize) -> TypeId
+    requires { IsSome (ancestor_of tree.now t height) }
+    ensures { ancestor_of tree.now t height ≡ Some result }
+{
+    let mut class = t;
+    for _above in 0..height {
+        let Some(parent) = tree.parent(class) else {
+            unreachable!()
+        };
+        class = parent;
+    }
+    class
+}
 
 /// How many types a type brings.
 pub(crate) fn source_count(tree: &TypeTree, t: TypeId) -> usize
@@ -28,13 +61,36 @@ pub(crate) fn source_at(tree: &TypeTree, t: TypeId, place: usize) -> TypeId
     }
 }
 
-/// Whether what a type brings at a place was brought before.
-pub(crate) fn came_before(tree: &TypeTree, t: TypeId, place: usize) -> bool
-    requires { place < length (brought_by tree.now t) }
+/// Marks for the types of a tree, where nothing was brought yet.
+pub(crate) fn unmarked() -> [bool; MOST_TYPES]
+    ensures { AreMarked result [] }
+{
+    [false; MOST_TYPES]
+}
+
+/// Whether what a type brings at a place was brought before. What was is marked, by its number.
+pub(crate) fn came_before(tree: &TypeTree, t: TypeId, place: usize, marks: &[bool]) -> bool
+    requires place { place < length (brought_by tree.now t) }
+    requires marks { AreMarked marks.now (brought_until tree.now t place) }
     ensures { result ≡ came_before tree.now t place }
 {
     let source = source_at(tree, t, place);
+    if source.index() < marks.len() {
+        return marks[source.index()];
+    }
     stands_above(tree, t, source) || stands_among(tree, t, place, source)
+}
+
+/// Marks what a type brings at a place.
+pub(crate) fn mark(tree: &TypeTree, t: TypeId, place: usize, marks: &mut [bool])
+    requires place { place < length (brought_by tree.now t) }
+    requires marks { AreMarked marks.old (brought_until tree.now t place) }
+    ensures { AreMarked marks.new (brought_until tree.now t (place + 1)) }
+{
+    let source = source_at(tree, t, place);
+    if source.index() < marks.len() {
+        marks[source.index()] = true;
+    }
 }
 
 // Whether an ancestor of a type brings another type.

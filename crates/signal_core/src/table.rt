@@ -1,18 +1,18 @@
 //! Which signals the types have, and the programs that classes name for them.
 
-ghost use Rattle.std.specs.Prelude.{◌≡◌, ◌*◌, ◌+◌, ◌<◌, ◌≤◌, None, Some, IfErr, IfNone, IfOk, IfSome, OnErr, OnOk, length, map, option_and_then, option_map, position, slice_get, string_bytes, true};
+ghost use Rattle.std.specs.Prelude.{◌≡◌, ◌*◌, ◌+◌, ◌<◌, ◌≤◌, [], None, Some, IfErr, IfNone, IfOk, IfSome, OnErr, OnOk, length, map, option_and_then, option_map, position, slice_get, string_bytes, true};
 ghost use Rattle.ui_machine.specs.Definition.Names.{canonical, place_named, same_name};
 ghost use Rattle.ui_machine.specs.Words as machine;
 ghost use Rattle.type_tree.specs.Tree.{IsTree};
 ghost use Rattle.signal_core.specs.SignalView.{declared_view, signal_view};
-ghost use Rattle.signal_core.specs.Sources.{added_at, brought_by, declared_of, declared_until, number_named, own_of, signals_of};
+ghost use Rattle.signal_core.specs.Sources.{AreMarked, added_at, brought_by, brought_until, declared_of, declared_until, number_named, own_of, signals_of};
 ghost use Rattle.signal_core.specs.Table.{AddsHandler, AddsSignal, RenamesHandlers, SameHandlers, SameSignals, line_count, named_of, nothing_declared, with_program};
 
 use crate::class_handler::ClassHandler;
 use crate::flags::SignalFlags;
 use crate::growing::add;
 use crate::signal::{DeclaredSignal, Signal};
-use crate::sources::{came_before, source_at, source_count};
+use crate::sources::{ancestor, came_before, mark, root, source_at, source_count, unmarked};
 use std::alloc::{AllocError, Global};
 use std::marker::Model;
 use type_tree::{TypeId, TypeTree, is_spelling};
@@ -127,19 +127,25 @@ impl SignalTable {
         ensures own { length (own_of self.now.signals t) ≤ result }
         ensures tree { IsTree tree.now }
     {
-        let own = self.own(t).len();
-        match tree.parent(t) {
-            Some(parent) => own + self.line_count(tree, parent),
-            None => own,
+        let mut count = 0;
+        let mut class = t;
+        'line: loop {
+            count += self.own(class).len();
+            let Some(parent) = tree.parent(class) else {
+                return count;
+            };
+            class = parent;
         }
     }
 
-    // The signals that come with what a type brings at a place: its own, or those of an interface that it names.
-    fn added(&self, tree: &TypeTree, t: TypeId, place: usize) -> &[Signal]
-        requires { place < length (brought_by tree.now t) }
+    // The signals that come with what a type brings at a place: its own, or those of an interface that it names. What was brought before is
+    // marked.
+    fn added(&self, tree: &TypeTree, t: TypeId, place: usize, marks: &[bool]) -> &[Signal]
+        requires place { place < length (brought_by tree.now t) }
+        requires marks { AreMarked marks.now (brought_until tree.now t place) }
         ensures { map signal_view result.now ≡ added_at tree.now self.now.signals t place }
     {
-        if came_before(tree, t, place) {
+        if came_before(tree, t, place, marks) {
             &[]
         } else {
             self.own(source_at(tree, t, place))
@@ -152,37 +158,49 @@ impl SignalTable {
         ensures none { IfErr result (λ count. place_named (λ s. s.name) (declared_of tree.now self.now.signals t) (canonical name.now) ≡ None) }
         ensures count { IfErr result (λ count. count ≡ length (declared_of tree.now self.now.signals t)) }
     {
-        match tree.parent(t) {
-            Some(parent) => match self.place(tree, parent, name) {
-                Ok(place) => Ok(place),
-                Err(count) => self.place_added(tree, t, name, count),
-            },
-            None => self.place_added(tree, t, name, 0),
+        let (mut class, mut height) = root(tree, t);
+        let mut marks = unmarked();
+        let mut count = 0;
+        'line: loop {
+            match self.place_added(tree, class, name, count, &mut marks) {
+                Ok(place) => return Ok(place),
+                Err(more) => count = more,
+            }
+            if height == 0 {
+                return Err(count);
+            }
+            height -= 1;
+            class = ancestor(tree, t, height);
         }
     }
 
-    // The same, where none of the ancestors has the name, and they bring so many signals.
+    // The same, where none of the ancestors has the name, they bring so many signals, and what they bring is marked. What the type brings is
+    // marked then.
     fn place_added(
         &self,
         tree: &TypeTree,
         t: TypeId,
         name: &str,
         above: usize,
+        marks: &mut [bool],
     ) -> Result<usize, usize>
         requires none { place_named (λ s. s.name) (declared_until tree.now self.now.signals t 0) (canonical name.now) ≡ None }
         requires count { above ≡ length (declared_until tree.now self.now.signals t 0) }
+        requires marks { AreMarked marks.old (brought_until tree.now t 0) }
         ensures found { IfOk result (λ place. place_named (λ s. s.name) (declared_of tree.now self.now.signals t) (canonical name.now) ≡ Some place) }
         ensures none { IfErr result (λ count. place_named (λ s. s.name) (declared_of tree.now self.now.signals t) (canonical name.now) ≡ None) }
         ensures count { IfErr result (λ count. count ≡ length (declared_of tree.now self.now.signals t)) }
+        ensures marks { IfErr result (λ count. AreMarked marks.new (brought_until tree.now t (length (brought_by tree.now t)))) }
     {
         let _ = &self.own;
         let mut count = above;
         for at in 0..source_count(tree, t) {
-            let added = self.added(tree, t, at);
+            let added = self.added(tree, t, at, marks);
             if let Some(place) = position_of(added, name) {
                 return Ok(count + place);
             }
             count += added.len();
+            mark(tree, t, at, marks);
         }
         Err(count)
     }
@@ -193,36 +211,48 @@ impl SignalTable {
         ensures past { IfErr result (λ count. count ≤ place) }
         ensures count { IfErr result (λ count. count ≡ length (declared_of tree.now self.now.signals t)) }
     {
-        match tree.parent(t) {
-            Some(parent) => match self.signal_at(tree, parent, place) {
-                Ok(signal) => Ok(signal),
-                Err(count) => self.signal_added(tree, t, place, count),
-            },
-            None => self.signal_added(tree, t, place, 0),
+        let (mut class, mut height) = root(tree, t);
+        let mut marks = unmarked();
+        let mut count = 0;
+        'line: loop {
+            match self.signal_added(tree, class, place, count, &mut marks) {
+                Ok(signal) => return Ok(signal),
+                Err(more) => count = more,
+            }
+            if height == 0 {
+                return Err(count);
+            }
+            height -= 1;
+            class = ancestor(tree, t, height);
         }
     }
 
-    // The same, where the ancestors bring so many signals, none of which stands there.
+    // The same, where the ancestors bring so many signals, none of which stands there, and what they bring is marked. What the type brings is
+    // marked then.
     fn signal_added(
         &self,
         tree: &TypeTree,
         t: TypeId,
         place: usize,
         above: usize,
+        marks: &mut [bool],
     ) -> Result<&Signal, usize>
         requires past { above ≤ place }
         requires count { above ≡ length (declared_until tree.now self.now.signals t 0) }
+        requires marks { AreMarked marks.old (brought_until tree.now t 0) }
         ensures found { IfOk result (λ s. slice_get (declared_of tree.now self.now.signals t) place ≡ Some (signal_view s.now)) }
         ensures past { IfErr result (λ count. count ≤ place) }
         ensures count { IfErr result (λ count. count ≡ length (declared_of tree.now self.now.signals t)) }
+        ensures marks { IfErr result (λ count. AreMarked marks.new (brought_until tree.now t (length (brought_by tree.now t)))) }
     {
         let mut count = above;
         for at in 0..source_count(tree, t) {
-            let added = self.added(tree, t, at);
+            let added = self.added(tree, t, at, marks);
             if place - count < added.len() {
                 return Ok(&added[place - count]);
             }
             count += added.len();
+            mark(tree, t, at, marks);
         }
         Err(count)
     }

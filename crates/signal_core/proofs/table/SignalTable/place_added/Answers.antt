@@ -40,6 +40,7 @@ loop-at-preserved c =
     ∙ sym (place-position c.added-added.result.now c.args.name.now) ∙ sym c.position_of.ensures.place ∙ c.in_default.is in (
       none_next c.args.tree.now c.args.self.now.signals (canonical c.args.name.now) c.args.t c.loop-at.at lt c.loop-at.invariant.0 here,
       count_next c.args.tree.now c.args.self.now.signals c.args.t c.loop-at.at c.loop-at.count (length c.added-added.result.now) lt c.loop-at.invariant.1 long,
+      c.mark.ensures,
     )
 
 pub returns-clause-none : goal.returns-clause-none

@@ -22,6 +22,7 @@ loop-at-preserved c =
     let long = sym (length-map c.added-added.result.now signal_view) ∙ ap length c.added-added.ensures in (
       count_next c.args.tree.now c.args.self.now.signals c.args.t c.loop-at.at c.loop-at.count (length c.added-added.result.now) lt c.loop-at.invariant.0 long,
       omega (arith, c.loop-at.invariant.1, c.if-place-count.false),
+      c.mark.ensures,
     )
 
 pub returns-clause-count : goal.returns-clause-count

@@ -1,9 +1,0 @@
-use Rattle.std.proofs.Common.{◌∙◌, sym}
-use Rattle.signal_core.proofs.Walks.{class_handler-child}
-use Rattle.signal_core.proofs.table.SignalTable.+handler_named.Goals as goal
-
-pub returns-in-Some-parent : goal.returns-in-Some-parent
-returns-in-Some-parent t c =
-    c.handler_named.ensures
-    ∙ class_handler-child c.args.tree.now c.in-Some-parent.ensures.tree c.args.self.now.handlers c.args.t c.in-Some-parent.parent c.args.name.now (sym c.in-Some-parent.ensures.parent)
-    (sym c.own_handler.ensures ∙ c.in_default.is)

@@ -1,0 +1,49 @@
+//! The numbers that details go by.
+
+ghost use Rattle.std.specs.Prelude.{◌≡◌, ℕ, IfOk, List, Option, Some, option_map, string_bytes};
+ghost use Rattle.signal_core.specs.Kept.{detail_number};
+
+use std::alloc::{AllocError, Global};
+use std::collections::BTreeMap;
+
+/// Details by their numbers, which rise from 1. A detail keeps its number (GLib manual: GQuark).
+#[derive(Debug, Drop)]
+pub(crate) struct Details {
+    numbers: BTreeMap<String, u64>,
+}
+
+impl Details {
+    /// No detail has a number. It takes no memory.
+    pub(crate) fn new(alloc: Global) -> Self {
+        Details {
+            numbers: BTreeMap::new(alloc),
+        }
+    }
+
+    /// The number of a detail, if it has one. Where there is no detail it is 0.
+    pub(crate) fn number(&self, detail: &Option<String>) -> Option<u64>
+        ensures { result ≡ detail_number self.now (option_map (λ d. string_bytes d) detail.now) }
+    {
+        match detail {
+            Some(detail) => self.numbers.get(detail.as_str()).copied(),
+            None => Some(0),
+        }
+    }
+
+    /// The number of a detail, which gets one if it has none.
+    pub(crate) fn add(&mut self, detail: &Option<String>) -> Result<u64, AllocError>
+        ensures number { IfOk result (λ number. detail_number self.new (option_map (λ d. string_bytes d) detail.now) ≡ Some number) }
+        ensures stays { (d : Option (List ℕ)) (n : ℕ) → detail_number self.old d ≡ Some n → detail_number self.new d ≡ Some n }
+    {
+        if let Some(number) = self.number(detail) {
+            return Ok(number);
+        }
+        let Some(detail) = detail else {
+            return Ok(0);
+        };
+        let number = self.numbers.len() as u64 + 1;
+        let detail = detail.clone()?;
+        self.numbers.insert(detail, number)?;
+        Ok(number)
+    }
+}

@@ -1,0 +1,66 @@
+//! Numbers of handlers, listed under others.
+
+ghost use Rattle.std.specs.Prelude.{◌≡◌, OnOk, true};
+ghost use Rattle.signal_core.specs.Kept.{IsNext, Stays, StaysBeside, is_listed, least_of};
+
+use std::alloc::{AllocError, Global};
+use std::collections::BTreeSet;
+
+/// The numbers of handlers that are listed under three other numbers, such as those of an object, a program and 0. What it does costs the
+/// logarithm of what is listed.
+#[derive(Debug, Drop)]
+pub(crate) struct Listing {
+    keys: BTreeSet<(u64, u64, u64, u64)>,
+}
+
+impl Listing {
+    /// Nothing is listed. It takes no memory.
+    pub(crate) fn new(alloc: Global) -> Self {
+        Listing {
+            keys: BTreeSet::new(alloc),
+        }
+    }
+
+    /// Lists a number under three others.
+    pub(crate) fn add(
+        &mut self,
+        first: u64,
+        second: u64,
+        third: u64,
+        number: u64,
+    ) -> Result<(), AllocError>
+        ensures stays { Stays self.old self.new }
+        ensures listed { OnOk result (is_listed self.new first second third number ≡ true) }
+    {
+        self.keys.insert((first, second, third, number))?;
+        Ok(())
+    }
+
+    /// Takes a number out that may be listed under three others.
+    pub(crate) fn remove(&mut self, first: u64, second: u64, third: u64, number: u64)
+        ensures { StaysBeside number self.old self.new }
+    {
+        self.keys.remove(&(first, second, third, number));
+    }
+
+    /// The next number above the one `given` that is listed under three others.
+    pub(crate) fn next(&self, first: u64, second: u64, third: u64, given: u64) -> Option<u64>
+        ensures { IsNext self.now first second third given result }
+    {
+        let from = given.checked_add(1)?;
+        let range = (first, second, third, from)..=(first, second, third, u64::MAX);
+        let (_, _, _, number) = self.keys.range(range).next()?;
+        Some(*number)
+    }
+}
+
+/// The lower one of two numbers.
+pub(crate) fn least(one: Option<u64>, other: Option<u64>) -> Option<u64>
+    ensures { result ≡ least_of one other }
+{
+    match (one, other) {
+        (None, other) => other,
+        (one, None) => one,
+        (Some(one), Some(other)) => Some(one.min(other)),
+    }
+}
