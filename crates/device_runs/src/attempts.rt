@@ -1,0 +1,101 @@
+//! Runs over scripted devices.
+
+use crate::scripted_feed::ScriptedFeed;
+use crate::scripted_sink::ScriptedSink;
+use event_lines::{Counted, run};
+use std::alloc::{AllocError, Global};
+
+/// What fails in a run, and how much a write takes.
+#[derive(Drop)]
+pub struct Script {
+    read: Option<u64>,
+    write: Option<u64>,
+    most: usize,
+}
+
+impl Script {
+    /// Nothing fails, and a write takes all.
+    pub fn whole() -> Script {
+        Script {
+            read: None,
+            write: None,
+            most: usize::MAX,
+        }
+    }
+
+    /// The read of a number fails, counted from 0.
+    pub fn failing_read(number: u64) -> Script {
+        Script {
+            read: Some(number),
+            write: None,
+            most: usize::MAX,
+        }
+    }
+
+    /// The write of a number fails, counted from 0.
+    pub fn failing_write(number: u64) -> Script {
+        Script {
+            read: None,
+            write: Some(number),
+            most: usize::MAX,
+        }
+    }
+
+    /// A write takes so many bytes at most.
+    pub fn taking(most: usize) -> Script {
+        Script {
+            read: None,
+            write: None,
+            most,
+        }
+    }
+}
+
+/// The bytes of a definition and of its events.
+#[derive(Drop)]
+pub struct Case<'a> {
+    pub definition: &'a [u8],
+    pub events: &'a [u8],
+}
+
+/// How a run ended, and what it did.
+#[derive(Drop)]
+pub struct Attempt {
+    pub status: u8,
+    pub written: Vec<u8>,
+    pub reads: u64,
+    pub writes: u64,
+}
+
+impl Case<'_> {
+    /// Runs the definition over its events, with what the script says.
+    pub fn attempt(&self, alloc: Global, script: Script) -> Attempt {
+        let mut reader = Counted::new(ScriptedFeed::new(self.events, script.read));
+        let mut writer = Counted::new(ScriptedSink::new(alloc, script.most, script.write));
+        let status = run(alloc, self.definition, &mut reader, &mut writer);
+        Attempt {
+            status,
+            written: writer.device.taken,
+            reads: reader.calls,
+            writes: writer.calls,
+        }
+    }
+}
+
+impl Attempt {
+    /// What was written, beside what is written where nothing fails.
+    pub fn beside(&self, alloc: Global, whole: &Attempt) -> Result<String, AllocError> {
+        let bytes = self.written.len();
+        if self.written.as_slice() == whole.written.as_slice() {
+            return String::from_str(alloc, "all is written");
+        }
+        if whole
+            .written
+            .as_slice()
+            .starts_with(self.written.as_slice())
+        {
+            return format!(in alloc; "the first {bytes} bytes are written");
+        }
+        format!(in alloc; "{bytes} other bytes are written")
+    }
+}
