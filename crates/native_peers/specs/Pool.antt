@@ -15,9 +15,13 @@ entries pool = pool.peers.items
 abbrev pub number_of : {I : Type 0} {Held : I → Type 0} → List (NamedPeer I Held) → List ℕ → Option ℕ
 number_of peers name = place_named (λ p. string_bytes p.name) peers name
 
+-- what is seen of a peer, where this is the state of its box
+abbrev pub seen_one : {I : Type 0} {Held : I → Type 0} → PeerState → NamedPeer I Held → Seen
+seen_one state peer = record { name = string_bytes peer.name; state = state }
+
 -- what is seen of each, where the state of a box is given by this
 abbrev pub seen : {I : Type 0} {Held : I → Type 0} → (NamedPeer I Held → PeerState) → List (NamedPeer I Held) → List Seen
-seen state_of peers = map (λ p. record { name = string_bytes p.name; state = state_of p }) peers
+seen state_of peers = map (λ p. seen_one (state_of p) p) peers
 
 -- what each may do, where the relation of a box is given by this
 abbrev pub relations : {N : Type 0} → (N → Relation) → List N → Relations

@@ -20,3 +20,16 @@ pub struct NotAdded {
     pub fault: AddFault,
     pub peer: Box<dyn Peer>,
 }
+
+/// How a pool fails to match what is needed, with the name of the peer.
+#[derive(Clone, Copy, Debug, PartialEq, Eq)]
+pub enum MatchFault<'a> {
+    /// No peer has the name of a need.
+    PeerMissing(&'a str),
+    /// The peer of a need is closed.
+    PeerClosed(&'a str),
+    /// The peer of a need has other methods, or has them in another order.
+    PeerShape(&'a str),
+    /// Nothing needs this peer.
+    PeerUnused(&'a str),
+}

@@ -8,11 +8,18 @@
 
 mod entries;
 mod faults;
+mod kinds;
 mod methods;
+mod mismatches;
+mod needs;
 mod peers;
 mod pools;
+mod shapes;
+#[cfg(test)]
+mod tallies;
 
-pub use faults::{AddFault, NotAdded, PeerFault};
+pub use faults::{AddFault, MatchFault, NotAdded, PeerFault};
 pub use methods::Method;
+pub use needs::Need;
 pub use peers::Peer;
 pub use pools::PeerPool;
