@@ -1,0 +1,18 @@
+use Rattle.std.proofs.Common.{ap, string_bytes}
+use Rattle.native_peers.proofs.Closing.{closed_at}
+use Rattle.native_peers.proofs.Places.{here, inside}
+use Rattle.native_peers.proofs.Relations.{same_relations}
+use Rattle.native_peers.proofs.pools.PeerPool.close.Goals as goal
+
+pub returns-clause-closes : goal.returns-clause-closes
+returns-clause-closes g c =
+    let items = c.args.self.now.peers.items in
+    let at = here items c.args.k c.index_mut.result.now (inside items c.args.k _ c.requires) c.index_mut.ensures.value in
+    closed_at (λ p. record { name = string_bytes p.name; state = (g.dyn-1.0.entry p.peer.vtable).1.state p.peer.value }) items c.args.k c.index_mut.result.now c.close.new.self at
+    (ap (λ s. string_bytes s) c.close.ensures.name) c.close.ensures.closed
+
+pub returns-clause-same : goal.returns-clause-same
+returns-clause-same g c =
+    let items = c.args.self.now.peers.items in
+    let at = here items c.args.k c.index_mut.result.now (inside items c.args.k _ c.requires) c.index_mut.ensures.value in
+    same_relations (λ p. (g.dyn-1.0.entry p.peer.vtable).1.moves p.peer.value) items c.args.k c.index_mut.result.now c.close.new.self at c.close.ensures.same_moves

@@ -1,0 +1,18 @@
+use Rattle.std.proofs.Common.{ap, string_bytes}
+use Rattle.native_peers.proofs.Asking.{asked}
+use Rattle.native_peers.proofs.Places.{here, inside}
+use Rattle.native_peers.proofs.Relations.{same_relations}
+use Rattle.native_peers.proofs.pools.PeerPool.invoke.Goals as goal
+
+pub returns-clause-asks : goal.returns-clause-asks
+returns-clause-asks g c =
+    let items = c.args.self.now.peers.items in
+    let at = here items c.args.k c.index_mut.result.now (inside items c.args.k _ c.requires.open) c.index_mut.ensures.value in
+    asked (λ p. record { name = string_bytes p.name; state = (g.dyn-1.0.entry p.peer.vtable).1.state p.peer.value }) (λ p. (g.dyn-1.0.entry p.peer.vtable).1.moves p.peer.value) items c.args.k
+    c.index_mut.result.now c.invoke.new.self c.args.method _ _ at (ap (λ s. string_bytes s) c.invoke.ensures.name) c.invoke.ensures.invokes
+
+pub returns-clause-same : goal.returns-clause-same
+returns-clause-same g c =
+    let items = c.args.self.now.peers.items in
+    let at = here items c.args.k c.index_mut.result.now (inside items c.args.k _ c.requires.open) c.index_mut.ensures.value in
+    same_relations (λ p. (g.dyn-1.0.entry p.peer.vtable).1.moves p.peer.value) items c.args.k c.index_mut.result.now c.invoke.new.self at c.invoke.ensures.invokes.same_moves

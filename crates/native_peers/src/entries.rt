@@ -1,0 +1,65 @@
+//! Peers under their names.
+
+ghost use Rattle.std.specs.Prelude.{◌≡◌, IsTrue, map, string_bytes};
+ghost use Rattle.g_values.specs.View.{value_view};
+ghost use Rattle.ui_machine.specs.Definition.Names.{same_name};
+ghost use Rattle.native_peers.specs.Methods.{is_plain_shape, method_view};
+ghost use Rattle.native_peers.specs.Moves.{ArgsFit, Invokes, SameMoves, answer_of, closed};
+
+use crate::faults::PeerFault;
+use crate::methods::Method;
+use crate::peers::Peer;
+use g_values::Value;
+
+// A peer of a pool.
+#[derive(Drop)]
+pub(crate) struct NamedPeer {
+    pub(crate) name: String,
+    pub(crate) peer: Box<dyn Peer>,
+}
+
+impl NamedPeer {
+    // Whether it has this name.
+    #[tactic(auto, using(g_values::proofs::Texts::same_bytes))]
+    pub(crate) fn has_name(&self, name: &str) -> bool
+        ensures { result ≡ same_name (string_bytes self.now.name) name.now }
+    {
+        self.name.as_str() == name
+    }
+
+    // Whether it may be called.
+    pub(crate) fn is_open(&self) -> bool
+        ensures { result ≡ (state self.now.peer).is_open }
+    {
+        self.peer.is_open()
+    }
+
+    // Its methods.
+    pub(crate) fn shape(&self) -> &[Method]
+        ensures methods { map method_view result.now ≡ (state self.now.peer).shape }
+        ensures plain { IsTrue (is_plain_shape (state self.now.peer).shape) }
+    {
+        self.peer.shape()
+    }
+
+    // Calls a method of it.
+    pub(crate) fn invoke(&mut self, method: usize, args: &[Value]) -> Result<Value, PeerFault>
+        requires open { IsTrue (state self.now.peer).is_open }
+        requires args { ArgsFit (state self.now.peer) method (map value_view args.now) }
+        ensures name { self.new.name ≡ self.old.name }
+        ensures invokes { Invokes (moves self.old.peer) (moves self.new.peer)
+            (state self.old.peer) method (map value_view args.now) (answer_of result) (state self.new.peer) }
+    {
+        self.peer.invoke(method, args)
+    }
+
+    // Closes it.
+    pub(crate) fn close(&mut self)
+        requires { IsTrue (state self.now.peer).is_open }
+        ensures name { self.new.name ≡ self.old.name }
+        ensures closed { state self.new.peer ≡ closed (state self.old.peer) }
+        ensures same_moves { SameMoves (moves self.old.peer) (moves self.new.peer) }
+    {
+        self.peer.close();
+    }
+}

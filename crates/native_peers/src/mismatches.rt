@@ -1,0 +1,93 @@
+//! How pools fail to match what is needed.
+
+ghost use Rattle.std.specs.Prelude.{◌≡◌, ◌∷◌, [], Some, map};
+ghost use Rattle.std.specs.List.{list_any};
+ghost use Rattle.ui_machine.specs.Definition.Names.{same_name};
+ghost use Rattle.law_pools.specs.Needs.{first_unused, first_wrong, mismatch_with, peer_named, wrong_with};
+ghost use Rattle.native_peers.specs.Matching.{as_peer, as_peers, mismatch_of, need_view};
+ghost use Rattle.native_peers.specs.Pool.{entries, seen, seen_one};
+
+use crate::entries::NamedPeer;
+use crate::faults::MatchFault;
+use crate::needs::Need;
+use crate::peers::Peer;
+use crate::pools::PeerPool;
+use crate::shapes::is_same_shape;
+
+// Whether this peer, which has the name of a need, is as it should be.
+fn fits<'a>(peer: &NamedPeer, need: &Need<'a>) -> Result<(), MatchFault<'a>>
+    ensures { mismatch_of result ≡ wrong_with (need_view need.now) (Some (as_peer (seen_one (state peer.now.peer) peer.now))) }
+{
+    if !peer.is_open() {
+        return Err(MatchFault::PeerClosed(need.name));
+    }
+    if !is_same_shape(need.shape, peer.shape()) {
+        return Err(MatchFault::PeerShape(need.name));
+    }
+    Ok(())
+}
+
+// Whether something needs the peer of a name.
+fn is_needed(name: &str, needs: &[Need<'_>]) -> bool
+    ensures { result ≡ list_any (λ n. same_name n.name.now name.now) needs.now }
+{
+    needs.iter().any(|need| need.has_name(name))
+}
+
+// Whether something needs this peer.
+fn used<'a>(peer: &'a NamedPeer, needs: &[Need<'_>]) -> Result<(), MatchFault<'a>>
+    ensures { mismatch_of result ≡ first_unused (map need_view needs.now) (as_peer (seen_one (state peer.now.peer) peer.now) ∷ []) }
+{
+    let name = peer.name.as_str();
+    if is_needed(name, needs) {
+        Ok(())
+    } else {
+        Err(MatchFault::PeerUnused(name))
+    }
+}
+
+impl PeerPool {
+    // Whether the peer of a need is as it should be.
+    fn serves<'a>(&self, need: &Need<'a>) -> Result<(), MatchFault<'a>>
+        ensures { mismatch_of result ≡ wrong_with (need_view need.now)
+            (peer_named (as_peers (seen (λ p. state p.peer) (entries self.now))) need.now.name.now) }
+    {
+        match self.find(need.name) {
+            Some(k) => fits(&self.peers[k], need),
+            None => Err(MatchFault::PeerMissing(need.name)),
+        }
+    }
+
+    // Whether the peers of all needs are as they should be.
+    fn serves_all<'a>(&self, needs: &[Need<'a>]) -> Result<(), MatchFault<'a>>
+        ensures { mismatch_of result ≡ first_wrong (as_peers (seen (λ p. state p.peer) (entries self.now))) (map need_view needs.now) }
+    {
+        'needs: for need in needs {
+            self.serves(need)?;
+        }
+        Ok(())
+    }
+
+    // Whether all peers are needed.
+    fn used_up<'a>(&'a self, needs: &[Need<'_>]) -> Result<(), MatchFault<'a>>
+        ensures { mismatch_of result ≡ first_unused (map need_view needs.now) (as_peers (seen (λ p. state p.peer) (entries self.now))) }
+    {
+        'peers: for peer in &self.peers {
+            used(peer, needs)?;
+        }
+        Ok(())
+    }
+
+    /// Whether the pool has just the peers that are needed, open and of the right shapes. It takes no memory.
+    ///
+    /// # Errors
+    ///
+    /// For the first need whose peer is not as it should be `PeerMissing`, `PeerClosed` or `PeerShape`, in this order, then `PeerUnused` for
+    /// the first peer that nothing needs.
+    pub fn matches<'a>(&'a self, needs: &'a [Need<'a>]) -> Result<(), MatchFault<'a>>
+        ensures { mismatch_of result ≡ mismatch_with (map need_view needs.now) (as_peers (seen (λ p. state p.peer) (entries self.now))) }
+    {
+        self.serves_all(needs)?;
+        self.used_up(needs)
+    }
+}

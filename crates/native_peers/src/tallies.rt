@@ -1,0 +1,195 @@
+//! A worked peer: a tally, which adds whole numbers up.
+
+ghost use Rattle.std.specs.Prelude.{◌≡◌, ◌∷◌, [], IfOk, IfSome, IsTrue, map, true};
+ghost use Rattle.ui_machine.specs.State.Peers.{PeerState};
+ghost use Rattle.g_values.specs.View.{value_view};
+ghost use Rattle.native_peers.specs.Methods.{method_view};
+ghost use Rattle.native_peers.specs.Moves.{ArgsFit};
+ghost use Rattle.native_peers.specs.Pool.{entries, seen};
+ghost use Rattle.native_peers.specs.Tallies.{IsTallyAt, Tallies, first_number, number, number_in, sum_after, tally_shape};
+
+use crate::faults::{AddFault, MatchFault, PeerFault};
+use crate::methods::Method;
+use crate::needs::Need;
+use crate::peers::Peer;
+use crate::pools::PeerPool;
+use g_values::{Kind, Value};
+use std::alloc::{AllocError, Global};
+use std::test::Fail;
+
+// A sum, to which `add` adds. A sum that is out of range is a fault.
+#[derive(Drop)]
+struct Tally {
+    methods: Vec<Method>,
+    sum: i64,
+    is_callable: bool,
+    calls: u64,
+    faults: u64,
+    ghost shaped: { map method_view methods.items ≡ tally_shape },
+}
+
+impl Tally {
+    fn new(alloc: Global) -> Result<Self, AllocError>
+        ensures { IfOk result (λ t. IsTrue t.is_callable) }
+    {
+        let add = Method {
+            name: String::from_str(alloc, "add")?,
+            params: vec![in alloc; Kind::Int64]?,
+            result: Kind::Int64,
+        };
+        let read = Method {
+            name: String::from_str(alloc, "read")?,
+            params: Vec::new(alloc),
+            result: Kind::Int64,
+        };
+        Ok(Tally {
+            methods: vec![in alloc; add, read]?,
+            sum: 0,
+            is_callable: true,
+            calls: 0,
+            faults: 0,
+        })
+    }
+}
+
+// The number of a value of 64 bits with a sign.
+fn number_in(value: &Value) -> i64
+    ensures { result ≡ number_in (value_view value.now) }
+{
+    match value {
+        Value::Int64(n) => *n,
+        _ => 0,
+    }
+}
+
+// The number of the first argument.
+fn first_number(args: &[Value]) -> i64
+    ensures { result ≡ first_number (map value_view args.now) }
+{
+    match args {
+        [] => 0,
+        [value, ..] => number_in(value),
+    }
+}
+
+// The sum after a method, if it is in range.
+fn sum_after(sum: i64, method: usize, args: &[Value]) -> Option<i64>
+    ensures { IfSome result (λ n. n ≡ sum_after sum method (map value_view args.now)) }
+{
+    match method {
+        0 => sum.checked_add(first_number(args)),
+        _ => Some(sum),
+    }
+}
+
+impl Peer for Tally {
+    ghost state = { λ t. record { shape = tally_shape; is_open = t.is_callable; calls = t.calls; faults = t.faults; values = number t.sum ∷ [] } };
+
+    ghost moves = { λ t. Tallies };
+
+    fn shape(&self) -> &[Method] {
+        &self.methods
+    }
+
+    fn is_open(&self) -> bool {
+        self.is_callable
+    }
+
+    fn invoke(&mut self, method: usize, args: &[Value]) -> Result<Value, PeerFault> {
+        self.calls = self.calls.wrapping_add(1);
+        match sum_after(self.sum, method, args) {
+            Some(sum) => {
+                self.sum = sum;
+                Ok(Value::Int64(sum))
+            }
+            None => {
+                self.faults = self.faults.wrapping_add(1);
+                Err(PeerFault)
+            }
+        }
+    }
+
+    fn close(&mut self) {
+        self.is_callable = false;
+    }
+
+    fn counts(&self) -> (u64, u64) {
+        (self.calls, self.faults)
+    }
+}
+
+// Calls a method of the k-th peer of a pool, which is an open tally.
+fn ask(pool: &mut PeerPool, k: usize, method: usize, args: &[Value]) -> Result<Value, PeerFault>
+    requires tally { IsTallyAt k (seen (λ p. state p.peer) (entries pool.now)) }
+    requires args { ArgsFit (record { shape = tally_shape; is_open = true; calls = 0; faults = 0; values = [] }) method (map value_view args.now) }
+    ensures { IsTallyAt k (seen (λ p. state p.peer) (entries pool.new)) }
+{
+    pool.invoke(k, method, args)
+}
+
+// Closes the k-th peer of a pool, which is an open tally.
+fn shut(pool: &mut PeerPool, k: usize)
+    requires { IsTallyAt k (seen (λ p. state p.peer) (entries pool.now)) }
+{
+    pool.close(k);
+}
+
+// Adds an open tally to a pool without peers, and answers whether it could.
+fn add(pool: &mut PeerPool, name: &str, tally: Box<dyn Peer>) -> bool
+    requires none { entries pool.now ≡ [] }
+    requires shape { (state tally).shape ≡ tally_shape }
+    requires open { IsTrue (state tally).is_open }
+    ensures { IsTrue result → IsTallyAt 0 (seen (λ p. state p.peer) (entries pool.new)) }
+{
+    pool.add(name, tally).is_ok()
+}
+
+#[test]
+fn a_pool_calls_its_peers(rt: HostRuntime) -> Result<(), Fail> {
+    let mut pool = PeerPool::new(rt.alloc());
+    let tally = Box::new(rt.alloc(), Tally::new(rt.alloc())?)?;
+    assert!(rt; add(&mut pool, "t", tally));
+    assert_eq!(rt; pool.find("t"), Some(0));
+    assert!(rt;
+        matches!(
+            ask(&mut pool, 0, 0, &[Value::Int64(5)]),
+            Ok(Value::Int64(5))
+        )
+    );
+    assert!(rt; ask(&mut pool, 0, 0, &[Value::Int64(i64::MAX)]).is_err());
+    assert!(rt; matches!(ask(&mut pool, 0, 1, &[]), Ok(Value::Int64(5))));
+    shut(&mut pool, 0);
+    let tally = pool.take("t").ok_or("no peer")?;
+    assert!(rt; !tally.is_open());
+    assert_eq!(rt; tally.counts(), (3, 1));
+    assert_eq!(rt; pool.left(), 0);
+    Ok(())
+}
+
+#[test]
+fn a_pool_matches_what_is_needed(rt: HostRuntime) -> Result<(), Fail> {
+    let mut pool = PeerPool::new(rt.alloc());
+    let tally = Box::new(rt.alloc(), Tally::new(rt.alloc())?)?;
+    assert!(rt; pool.add("t", tally).is_ok());
+    let again = Box::new(rt.alloc(), Tally::new(rt.alloc())?)?;
+    let refused = pool.add("t", again).err().ok_or("two peers of one name")?;
+    assert!(rt; refused.fault == AddFault::DuplicatePeer);
+    let needed = Tally::new(rt.alloc())?;
+    let shape = needed.methods.as_slice();
+    let need = Need { name: "t", shape };
+    let other = Need { name: "u", shape };
+    assert_eq!(rt; pool.matches(&[need]), Ok(()));
+    assert_eq!(rt;
+        pool.matches(&[need, other]),
+        Err(MatchFault::PeerMissing("u"))
+    );
+    assert_eq!(rt;
+        pool.matches(&[Need {
+            name: "t",
+            shape: &shape[1..]
+        }]),
+        Err(MatchFault::PeerShape("t"))
+    );
+    assert_eq!(rt; pool.matches(&[]), Err(MatchFault::PeerUnused("t")));
+    Ok(())
+}
