@@ -1,5 +1,6 @@
 pub mod Words
 pub mod EachOf
 pub mod CodeNames
+pub mod PlaceLists
 pub mod Whole
 mod EventsRead

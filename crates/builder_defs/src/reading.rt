@@ -1,13 +1,17 @@
 //! Definitions, read from their bytes.
 
-ghost use Rattle.std.specs.Prelude.{◌≡◌, ◌≤◌, [], length, map, IfOk};
+ghost use Rattle.std.specs.Prelude.{◌≡◌, ◌≤◌, [], None, length, map, IfOk};
 ghost use Rattle.std.specs.List.{AllByRecursion};
 ghost use Rattle.serde_json.specs.View.{view};
 ghost use Rattle.ui_machine.specs.Definition.Types.{predeclared};
-ghost use Rattle.definition_format.specs.Meaning.{ArePlain, HasOwnName, IsSound, IsSoundProgram, meaning, plain_program, plain_prototype};
+ghost use Rattle.definition_format.specs.Meaning.{ArePlain, HasOwnName, IsSound, IsSoundProgram, meaning, plain_program, plain_prototype, plain_shape};
 ghost use Rattle.definitions.specs.PartsView.{parts_of};
 ghost use Rattle.definition_format.specs.Refusals.{Gives, Leads};
-ghost use Rattle.definition_format.specs.Document.{path_of};
+ghost use Rattle.definition_format.specs.Document.{path_of, is_among};
+ghost use Rattle.ui_machine.specs.Seq.{read};
+ghost use Rattle.definition_format.specs.Denoted.Peers.{peers_of};
+ghost use Rattle.definition_format.specs.Denoted.Shapes.{is_shaped_by, shapes_in};
+ghost use Rattle.definition_objects.specs.PeerViews.{is_named_in};
 ghost use Rattle.param_specs.specs.Table.{own_of};
 ghost use Rattle.definition_format.specs.Denoted.Properties.{specs_by};
 ghost use Rattle.definition_format.specs.Denoted.Drafts.{class_draft_of, draft_of};
@@ -18,14 +22,16 @@ ghost use Rattle.definition_format.specs.Denoted.{format_number, format_of, enum
 
 use crate::limits::limits_of;
 use definition_format::{DefinitionFault, Path, ReadError};
-use definition_objects::{ReadObjects, read_objects, read_places, read_programs, read_prototypes};
+use definition_objects::{
+    Classes, ReadObjects, ReadPrototypes, read_objects, read_places, read_programs, read_prototypes,
+};
 use definition_parts::document::{Entries, Part, listed_ahead, parsed};
 use definition_parts::entries::{ProgramNames, TypeNames};
 use definition_types::{
-    ClassDraft, Draft, read_classes, read_enums, read_flags_types, read_interfaces,
+    ClassDraft, Draft, read_classes, read_enums, read_flags_types, read_interfaces, read_shapes,
 };
-use definitions::places::Prototypes;
 use definitions::programs::Programs;
+use definitions::shapes::Shapes;
 use definitions::{Definition, Parts};
 use handler_code::{Format, Names};
 use param_specs::SpecTable;
@@ -33,8 +39,6 @@ use serde_json::Value;
 use signal_core::SignalTable;
 use std::alloc::Global;
 use type_tree::TypeTree;
-
-const UNSET_BEFORE_CLASSES: [&str; 1] = ["shapes"];
 
 const MEMBERS: [&str; 10] = [
     "format",
@@ -119,6 +123,22 @@ fn interfaces_of(part: Part<'_>, names: &TypeNames<'_>, draft: &mut Draft) -> Re
     Ok(())
 }
 
+// The shapes of a definition.
+#[tactic(auto, unfolding(definition_format::specs::Denoted::Shapes::shapes_in))]
+fn shapes_of(part: Part<'_>) -> Result<Shapes, ReadError>
+    requires { path_of part.path ≡ [] }
+    ensures { Gives (λ v. map plain_shape v.entries) result (shapes_in (view part.entry.value.now)) }
+{
+    let items = part.entries("shapes")?;
+    let list = Entries {
+        alloc: part.alloc,
+        path: "/shapes",
+        items,
+    };
+    let shapes = read_shapes(list)?;
+    Ok(shapes)
+}
+
 // Adds the classes of a definition.
 #[tactic(auto, unfolding(definition_format::specs::Denoted::classes_in))]
 fn classes_of(
@@ -128,9 +148,8 @@ fn classes_of(
     draft: &mut ClassDraft,
 ) -> Result<(), ReadError>
     requires { path_of part.path ≡ [] }
-    ensures { Leads result (classes_in names.now programs.now (class_draft_of draft.old.types draft.old.specs draft.old.signals draft.old.constructed.items) (view part.entry.value.now)) (class_draft_of draft.new.types draft.new.specs draft.new.signals draft.new.constructed.items) }
+    ensures { Leads result (classes_in names.now programs.now (class_draft_of draft.old.types draft.old.specs draft.old.signals draft.old.constructed.items (map plain_shape draft.old.shapes.entries) draft.old.shaped.items) (view part.entry.value.now)) (class_draft_of draft.new.types draft.new.specs draft.new.signals draft.new.constructed.items (map plain_shape draft.new.shapes.entries) draft.new.shaped.items) }
 {
-    part.check_nothing(&UNSET_BEFORE_CLASSES)?;
     let items = part.entries("classes")?;
     let list = Entries {
         alloc: part.alloc,
@@ -145,7 +164,7 @@ fn classes_of(
 #[tactic(auto, unfolding(definition_format::specs::Denoted::draft_in))]
 fn read_draft(part: Part<'_>) -> Result<ClassDraft, ReadError>
     requires { path_of part.path ≡ [] }
-    ensures { Gives (λ draft. class_draft_of draft.types draft.specs draft.signals draft.constructed.items) result (draft_in (view part.entry.value.now)) }
+    ensures { Gives (λ draft. class_draft_of draft.types draft.specs draft.signals draft.constructed.items (map plain_shape draft.shapes.entries) draft.shaped.items) result (draft_in (view part.entry.value.now)) }
 {
     let mut types = TypeTree::new(part.alloc)?;
     enums_of(part, &mut types)?;
@@ -160,11 +179,14 @@ fn read_draft(part: Part<'_>) -> Result<ClassDraft, ReadError>
         signals,
     };
     interfaces_of(part, &names, &mut draft)?;
+    let shapes = shapes_of(part)?;
     let mut draft = ClassDraft {
         types: draft.types,
         specs: draft.specs,
         signals: draft.signals,
         constructed: Vec::new(part.alloc),
+        shapes,
+        shaped: Vec::new(part.alloc),
     };
     classes_of(part, &names, &programs, &mut draft)?;
     Ok(draft)
@@ -197,14 +219,11 @@ fn programs_of(part: Part<'_>, format: Format, types: &TypeTree) -> Result<Progr
 
 // The prototypes of a definition.
 #[tactic(auto, unfolding(definition_format::specs::Denoted::Prototypes::prototypes_in))]
-fn prototypes_of(
-    part: Part<'_>,
-    types: &TypeTree,
-    specs: &SpecTable,
-) -> Result<Prototypes, ReadError>
+fn prototypes_of(part: Part<'_>, classes: Classes<'_>) -> Result<ReadPrototypes, ReadError>
     requires root { path_of part.path ≡ [] }
-    requires plain { ArePlain types.now specs.now }
-    ensures { Gives (λ v. map plain_prototype v.entries) result (prototypes_in types.now (specs_by types.now (own_of specs.now)) (view part.entry.value.now)) }
+    requires plain { ArePlain classes.types.now classes.specs.now }
+    ensures prototypes { Gives (λ r. map plain_prototype r.prototypes.entries) result (prototypes_in classes.entry.types.now (specs_by classes.entry.types.now (own_of classes.entry.specs.now)) (is_shaped_by classes.entry.types.now (read None classes.entry.shaped.now)) (view part.entry.value.now)) }
+    ensures named { IfOk result (λ r. is_named_in r.named ≡ is_among (peers_of (map plain_prototype r.prototypes.entries))) }
 {
     let items = part.entries("prototypes")?;
     let list = Entries {
@@ -212,7 +231,7 @@ fn prototypes_of(
         path: "/prototypes",
         items,
     };
-    let prototypes = read_prototypes(list, types, specs)?;
+    let prototypes = read_prototypes(list, classes)?;
     Ok(prototypes)
 }
 
@@ -220,18 +239,18 @@ fn prototypes_of(
 #[tactic(auto, unfolding(definition_format::specs::Denoted::objects_in))]
 fn objects_of<'a>(
     part: Part<'a>,
-    types: &'a TypeTree,
-    specs: &'a SpecTable,
+    classes: Classes<'a>,
     programs: &'a Programs,
-    prototypes: &'a Prototypes,
+    prototypes: &'a ReadPrototypes,
     most: usize,
 ) -> Result<ReadObjects, ReadError>
     requires root { path_of part.path ≡ [] }
-    requires plain { ArePlain types.now specs.now }
+    requires plain { ArePlain classes.types.now classes.specs.now }
     requires named { AllByRecursion HasOwnName programs.now.entries }
     requires few { length programs.now.entries ≤ 256 }
-    requires few_prototypes { length prototypes.now.entries ≤ 512 }
-    ensures { Gives (λ v. built_view v.objects.entries v.bindings.items) result (objects_in types.now (specs_by types.now (own_of specs.now)) (map plain_program programs.now.entries) (map plain_prototype prototypes.now.entries) most (view part.entry.value.now)) }
+    requires few_prototypes { length prototypes.now.prototypes.entries ≤ 512 }
+    requires peers { is_named_in prototypes.now.named ≡ is_among (peers_of (map plain_prototype prototypes.now.prototypes.entries)) }
+    ensures { Gives (λ v. built_view v.objects.entries v.bindings.items) result (objects_in classes.entry.types.now (specs_by classes.entry.types.now (own_of classes.entry.specs.now)) (is_shaped_by classes.entry.types.now (read None classes.entry.shaped.now)) (map plain_program programs.now.entries) (map plain_prototype prototypes.now.prototypes.entries) most (view part.entry.value.now)) }
 {
     let items = part.entries("objects")?;
     let list = Entries {
@@ -239,7 +258,7 @@ fn objects_of<'a>(
         path: "/objects",
         items,
     };
-    let objects = read_objects(list, types, specs, programs, prototypes, most)?;
+    let objects = read_objects(list, classes, programs, prototypes, most)?;
     Ok(objects)
 }
 
@@ -262,24 +281,24 @@ fn parts_in(alloc: Global, value: &Value) -> Result<Parts, ReadError>
     let limits = limits_of(part)?;
     let draft = read_draft(part)?;
     let programs = programs_of(part, format, &draft.types)?;
-    let prototypes = prototypes_of(part, &draft.types, &draft.specs)?;
+    let classes = Classes {
+        types: &draft.types,
+        specs: &draft.specs,
+        shaped: &draft.shaped,
+    };
+    let prototypes = prototypes_of(part, classes)?;
     let most = limits.objects as usize;
-    let built = objects_of(
-        part,
-        &draft.types,
-        &draft.specs,
-        &programs,
-        &prototypes,
-        most,
-    )?;
+    let built = objects_of(part, classes, &programs, &prototypes, most)?;
     part.check_only(members, &MEMBERS)?;
     Ok(Parts {
         types: draft.types,
         specs: draft.specs,
         signals: draft.signals,
         constructed: draft.constructed,
+        shapes: draft.shapes,
+        shaped: draft.shaped,
         programs,
-        prototypes,
+        prototypes: prototypes.prototypes,
         objects: built.objects,
         bindings: built.bindings,
         limits,

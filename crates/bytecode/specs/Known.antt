@@ -1,5 +1,5 @@
--- What is known of programs that are read: the kinds that they name, and that no instruction is one that no program has so far.
-use Rattle.std.specs.Prelude.{◌≡◌, List, All, IfSome, false}
+-- What is known of programs that are read: the kinds that they name.
+use Rattle.std.specs.Prelude.{List, All, IfSome}
 use Rattle.ui_machine.specs.Definition.Types.{GType}
 use Rattle.g_values.specs.View.{IsKnown}
 use Rattle.bytecode.specs.declared.instructions.Instruction.{Instruction}
@@ -9,17 +9,11 @@ use Rattle.bytecode.specs.declared.programs.Program.{Program}
 use Rattle.bytecode.specs.declared.programs.RegisterKind.{RegisterKind}
 use Rattle.bytecode.specs.declared.programs.RegisterKind.TheVariants as register_kinds
 use Rattle.bytecode.specs.Computing.{HasKnownKind}
-use Rattle.bytecode.specs.Later.{is_later}
-use Rattle.bytecode.specs.View.{instruction_view}
 
 -- the type that a kind in the instruction names is one of its sort
 abbrev pub HasKnownKinds : List GType → Instruction → Type 0
 HasKnownKinds types (instructions.Compute to computation) = HasKnownKind types computation
 HasKnownKinds types _ = Unit {0}
-
--- and the instruction is one that programs have
-abbrev pub IsKnownInstruction : List GType → Instruction → Type 0
-IsKnownInstruction types i = HasKnownKinds types i × (is_later (instruction_view i) ≡ false)
 
 -- the same of a kind of values that a register is to have
 abbrev pub IsKnownRegister : List GType → RegisterKind → Type 0
@@ -28,7 +22,7 @@ IsKnownRegister types _ = Unit {0}
 
 -- the same of each instruction of a block
 abbrev pub HasKnownCode : List GType → Block → Type 0
-HasKnownCode types b = All (λ i. IsKnownInstruction types i) b.code.items
+HasKnownCode types b = All (λ i. HasKnownKinds types i) b.code.items
 
 -- the same of each block of a program, of its parameters and of its result
 abbrev pub HasKnownBlocks : List GType → Program → Type 0

@@ -3,4 +3,3 @@ pub mod View
 pub mod Shape
 pub mod Known
 pub mod Reading
-pub mod Later

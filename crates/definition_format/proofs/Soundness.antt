@@ -14,7 +14,8 @@ use Rattle.ui_machine.specs.Definition.Kinds.{Kind}
 use Rattle.ui_machine.specs.Definition.Values.{Value}
 use Rattle.ui_machine.specs.Definition.Values as values
 use Rattle.ui_machine.specs.Definition.Properties.{Spec}
-use Rattle.ui_machine.specs.Definition.Signals.{ClassHandler, Signal}
+use Rattle.ui_machine.specs.Definition.Signals.{ClassHandler, Shape, Signal}
+use Rattle.ui_machine.specs.Seq.{read}
 use Rattle.ui_machine.specs.Words.{notify}
 use Rattle.signal_core.specs.Sources.{declared_of, sources_of}
 use Rattle.signal_core.specs.Sources as declared
@@ -31,11 +32,11 @@ use Rattle.std.proofs.lemmas.Int.{ints}
 use Rattle.param_specs.specs.declared.error.SpecFault.{SpecFault}
 use Rattle.param_specs.specs.declared.error.SpecFault.TheVariants.{DefaultInvalid}
 use Rattle.param_specs.specs.Table.{own_of, specs_of, install_fault, canonical_spec}
-use Rattle.definition_format.specs.Meaning.{Parts, Prototype, plain_object, plain_prototype, plain_program, IsPlain, IsPlainKind, AreLimits, ArePlain, IsKnownKind, HasKnownKinds, HaveKnownKinds, HasOwnName, IsSound, IsSoundProgram}
+use Rattle.definition_format.specs.Meaning.{Parts, Prototype, plain_object, plain_prototype, plain_program, plain_shape, IsPlain, IsPlainKind, AreLimits, ArePlain, IsKnownKind, HasKnownKinds, HaveKnownKinds, HasOwnName, IsSound, IsSoundProgram}
 use Rattle.definition_format.specs.Refusals.{Refusal, shape, unknown, not_installed, limit, or_refused, or_value_fault}
 use Rattle.definition_format.specs.declared.faults.DefinitionLimit.TheVariants.{Places, Objects}
 use Rattle.ui_machine.specs.Outcome.{◌>>=◌}
-use Rattle.definition_format.specs.Document.{each, at_entry, under, nth, members_at, text_at, entries_at, listed_ahead, nothing_at, only_at, absent_at}
+use Rattle.definition_format.specs.Document.{each, at_entry, under, nth, members_at, text_at, entries_at, listed_ahead, only_at}
 use Rattle.definition_format.specs.Denoted.Entries.{TypeNames, type_names, most_levels, ProgramNames, program_names}
 use Rattle.definition_format.specs.Denoted.Kinds.{is_enum, is_flags, enum_named, flags_named, parted, object_type, kind_by, kind_at, lowest, highest}
 use Rattle.definition_format.specs.Denoted.PropertyFlags.{flags_at}
@@ -47,14 +48,15 @@ use Rattle.definition_format.specs.Denoted.Signals.{signals_by, count_by, param_
 use Rattle.definition_format.specs.Denoted.Signals as signals
 use Rattle.definition_format.specs.Denoted.Drafts.{Answers, ClassDraft, Draft, draft_of, class_draft_of, bare_draft, no_answers, with_answers, unanswered, properties_at, given_at, type_at}
 use Rattle.definition_format.specs.Denoted.ClassHandlers.{class_handler_in, add_handler, class_handler_at, class_handlers_at}
-use Rattle.definition_format.specs.Denoted.Constructed.{constructed_at}
+use Rattle.definition_format.specs.Denoted.Constructed.{add_program, constructed_at}
 use Rattle.definition_format.specs.Denoted.Implements.{implements_at}
 use Rattle.definition_format.specs.Denoted.Interfaces.{requires_at, interface_type_at, keys_of_interface, interface_at}
 use Rattle.definition_format.specs.Denoted.Classes.{parent_at, parent_ahead, check_depth, keys_of_class, declared_at, answers_at, answering_at, class_at}
 use Rattle.definition_format.specs.Denoted.Classes as classes
 use Rattle.definition_format.specs.Denoted.Objects.{Scope, Built, Placed, built_view, no_objects, with_place, room_for_object, keys_of_object, place_at, added_at, object_at}
 use Rattle.definition_format.specs.Denoted.Prototypes.{room_for_prototype, prototype_in, prototype_at, prototypes_in}
-use Rattle.definition_format.specs.Denoted.{unset_before_classes, enums_in, flags_in, interfaces_in, classes_in, draft_in, scope_with, objects_in}
+use Rattle.definition_format.specs.Denoted.Shapes.{is_shaped_by, named_shape_or, shaped_at, shapes_in}
+use Rattle.definition_format.specs.Denoted.{enums_in, flags_in, interfaces_in, classes_in, draft_in, scope_with, objects_in}
 use Rattle.definition_format.proofs.Elements.{both_all, flat_all, all_get, all_map}
 use Rattle.definition_format.proofs.Installing.{specs_of-is}
 use Rattle.definition_format.proofs.LaterTypes.{plain_later, known_later}
@@ -473,10 +475,32 @@ type_plain P path keys declared behind names draft d one_more all last =
 abbrev pub NoneFrom : ℕ → (ℕ → List ClassHandler) → Type 0
 NoneFrom n handlers = (t : ℕ) → n ≤ t → handlers t ≡ []
 
--- a plain draft whose types alone have class handlers
+-- no shapes are of types from this one on
+abbrev pub UnshapedFrom : ℕ → (ℕ → Option ℕ) → Type 0
+UnshapedFrom n own = (t : ℕ) → n ≤ t → own t ≡ None
+
+-- neither are
+pub record ArePast (n : ℕ) (answers : Answers) : Type 0 where
+  pub handlers : NoneFrom n answers.handlers
+  pub shaped : UnshapedFrom n answers.shaped
+
+-- a plain draft whose types alone have class handlers and shapes
 pub record PlainClasses (draft : ClassDraft) : Type 0 where
   pub plain : PlainDraft (unanswered draft)
-  pub past : NoneFrom (length draft.types) draft.answers.handlers
+  pub past : ArePast (length draft.types) draft.answers
+
+unshaped_added : (n t : ℕ) (own : ℕ → Option ℕ) (named : Option ℕ) → t < n → UnshapedFrom n own → UnshapedFrom n (add_program own t named)
+unshaped_added n t own None before none u past = none u past
+unshaped_added n t own (Some given) before none u past =
+    let other : nat_eq u t ≡ false = grind (arith, nat_tests) in
+    ap (λ b. if b then Some given else own u) other ∙ none u past
+
+shaped_past : (path : List ℕ) (types : List GType) (shapes : List Shape) (n t : ℕ) (own : ℕ → Option ℕ) (d : Data) → t < n → UnshapedFrom n own
+    → OnRead (UnshapedFrom n) (shaped_at path types shapes t own d)
+unfolding shaped_at
+shaped_past path types shapes n t own d before none =
+    on_bind (λ x. Unit {0}) (UnshapedFrom n) (named_shape_or (under path (codes "shape")) shapes (is_shaped_by types own t) (get (codes "shape") d)) _ (on_all _)
+    λ named u. unshaped_added n t own named before none
 
 none_added : (n t : ℕ) (own : ℕ → List ClassHandler) (h : ClassHandler) → t < n → NoneFrom n own → NoneFrom n (add_handler own t h)
 none_added n t own h before none u past =
@@ -497,22 +521,24 @@ handlers_past path programs n t own d before none =
     on_each (NoneFrom n) (at_entry (λ entry. class_handler_at entry programs t) (under path (codes "class-handlers")))
     (λ i own e none. handler_past (nth (under path (codes "class-handlers")) i) programs n t own e before none) 0 own list none
 
-answers_past : (path : List ℕ) (programs : ProgramNames) (n t : ℕ) (answers : Answers) (d : Data) → t < n → NoneFrom n answers.handlers
-    → OnRead (λ (all : Answers). NoneFrom n all.handlers) (answers_at path programs t answers d)
+answers_past : (path : List ℕ) (programs : ProgramNames) (types : List GType) (n t : ℕ) (answers : Answers) (d : Data) → t < n → ArePast n answers
+    → OnRead (ArePast n) (answers_at path programs types t answers d)
 unfolding answers_at
-answers_past path programs n t answers d before none =
-    on_bind (NoneFrom n) (λ (all : Answers). NoneFrom n all.handlers) (class_handlers_at path programs t answers.handlers d) _
-    (handlers_past path programs n t answers.handlers d before none) λ handlers past.
-    on_bind (λ x. Unit {0}) (λ (all : Answers). NoneFrom n all.handlers) (constructed_at path programs t answers.constructed d) _ (on_all _) λ constructed u.
-    on_bind (λ x. Unit {0}) (λ (all : Answers). NoneFrom n all.handlers) (absent_at path d (codes "shape" ∷ [])) _ (on_all _) λ absent u. past
+answers_past path programs types n t answers d before none =
+    on_bind (NoneFrom n) (ArePast n) (class_handlers_at path programs t answers.handlers d) _
+    (handlers_past path programs n t answers.handlers d before none.handlers) λ handlers past.
+    on_bind (λ x. Unit {0}) (ArePast n) (constructed_at path programs t answers.constructed d) _ (on_all _) λ constructed u.
+    on_bind (UnshapedFrom n) (ArePast n) (shaped_at path types answers.shapes t answers.shaped d) _
+    (shaped_past path types answers.shapes n t answers.shaped d before none.shaped) λ shaped unshaped. record { handlers = past; shaped = unshaped }
 
 answering_plain : (path : List ℕ) (programs : ProgramNames) (draft : ClassDraft) (d : Data) (given : Draft) → PlainDraft given → IsOneMore draft.types given.types
-    → NoneFrom (length draft.types) draft.answers.handlers → OnRead PlainClasses (answering_at path programs (length draft.types) draft.answers d given)
+    → ArePast (length draft.types) draft.answers → OnRead PlainClasses (answering_at path programs (length draft.types) draft.answers d given)
 unfolding answering_at
 answering_plain path programs draft d given plain more none =
     let within = more_within draft.types given.types (length draft.types) more refl in
-    on_bind (λ (all : Answers). NoneFrom (length given.types) all.handlers) PlainClasses (answers_at path programs (length draft.types) draft.answers d) _
-    (answers_past path programs (length given.types) (length draft.types) draft.answers d within (λ t h. none t (omega (arith, within, h)))) λ all past.
+    on_bind (ArePast (length given.types)) PlainClasses (answers_at path programs given.types (length draft.types) draft.answers d) _
+    (answers_past path programs given.types (length given.types) (length draft.types) draft.answers d within
+    (record { handlers = λ t h. none.handlers t (omega (arith, within, h)); shaped = λ t h. none.shaped t (omega (arith, within, h)) })) λ all past.
     record { plain = plain; past = past }
 
 class_plain : (path : List ℕ) (first : ℕ) (list : Items) (names : TypeNames) (programs : ProgramNames) (draft : ClassDraft) (d : Data) → PlainClasses draft
@@ -536,7 +562,6 @@ interfaces_plain names types d =
 classes_plain : (names : TypeNames) (programs : ProgramNames) (draft : ClassDraft) (d : Data) → PlainClasses draft → OnRead PlainClasses (classes_in names programs draft d)
 unfolding classes_in
 classes_plain names programs draft d all =
-    on_bind (λ x. Unit {0}) PlainClasses (nothing_at [] d unset_before_classes) _ (on_all _) λ unset u.
     on_bind (λ x. Unit {0}) PlainClasses (entries_at [] d (codes "classes")) _ (on_all _) λ list u.
     on_each PlainClasses (at_entry (λ path. class_at path (length draft.types) list names programs) (under [] (codes "classes")))
     (λ i more e plain. class_plain (nth (under [] (codes "classes")) i) (length draft.types) list names programs more e plain) 0 draft list all
@@ -547,7 +572,8 @@ draft_plain d =
     on_bind (λ x. Unit {0}) PlainClasses (enums_in d) _ (on_all _) λ enums u.
     on_bind (λ x. Unit {0}) PlainClasses (flags_in enums d) _ (on_all _) λ types u.
     on_bind PlainDraft PlainClasses (interfaces_in (type_names types d) types d) _ (interfaces_plain (type_names types d) types d) λ draft all.
-    classes_plain (type_names types d) (program_names d) (with_answers draft no_answers) d (record { plain = all; past = λ t past. refl })
+    on_bind (λ x. Unit {0}) PlainClasses (shapes_in d) _ (on_all _) λ shapes u.
+    classes_plain (type_names types d) (program_names d) (with_answers draft (no_answers shapes)) d (record { plain = all; past = record { handlers = λ t past. refl; shaped = λ t past. refl } })
 
 -- ** no more prototypes than there is room for
 
@@ -562,31 +588,31 @@ room_left prototypes = by (nat_le 512 (length prototypes)) refl
 abbrev pub AreWithin : List Place → Type 0
 AreWithin prototypes = length prototypes ≤ 512
 
-prototype_room : (path : List ℕ) (types : List GType) (specs : ℕ → List Spec) (prototypes : List Place) (d : Data)
-    → OnRead (λ p. length prototypes < 512) (prototype_in path types specs prototypes d)
+prototype_room : (path : List ℕ) (types : List GType) (specs : ℕ → List Spec) (has_shape : ℕ → Bool) (prototypes : List Place) (d : Data)
+    → OnRead (λ p. length prototypes < 512) (prototype_in path types specs has_shape prototypes d)
 unfolding prototype_in
-prototype_room path types specs prototypes d =
+prototype_room path types specs has_shape prototypes d =
     on_bind (λ x. Unit {0}) (λ p. length prototypes < 512) (members_at path d) _ (on_all _) λ ms u.
     on_bind (λ x. length prototypes < 512) (λ p. length prototypes < 512) (room_for_prototype prototypes) _ (room_left prototypes) λ u room.
     on_known (length prototypes < 512) room _
 
-prototype_within : (path : List ℕ) (types : List GType) (specs : ℕ → List Spec) (prototypes : List Place) (d : Data)
-    → OnRead AreWithin (prototype_at path types specs prototypes d)
+prototype_within : (path : List ℕ) (types : List GType) (specs : ℕ → List Spec) (has_shape : ℕ → Bool) (prototypes : List Place) (d : Data)
+    → OnRead AreWithin (prototype_at path types specs has_shape prototypes d)
 unfolding prototype_at
-prototype_within path types specs prototypes d =
-    on_bind (λ p. length prototypes < 512) AreWithin (prototype_in path types specs prototypes d) (λ p. Ok (prototypes ++ p ∷ []))
-    (prototype_room path types specs prototypes d) λ p room. let one = length_push prototypes p in omega (arith, one, room)
+prototype_within path types specs has_shape prototypes d =
+    on_bind (λ p. length prototypes < 512) AreWithin (prototype_in path types specs has_shape prototypes d) (λ p. Ok (prototypes ++ p ∷ []))
+    (prototype_room path types specs has_shape prototypes d) λ p room. let one = length_push prototypes p in omega (arith, one, room)
 
-pub prototypes_within : (types : List GType) (specs : ℕ → List Spec) (d : Data) → OnRead AreWithin (prototypes_in types specs d)
+pub prototypes_within : (types : List GType) (specs : ℕ → List Spec) (has_shape : ℕ → Bool) (d : Data) → OnRead AreWithin (prototypes_in types specs has_shape d)
 unfolding prototypes_in
-prototypes_within types specs d =
+prototypes_within types specs has_shape d =
     on_bind (λ x. Unit {0}) AreWithin (entries_at [] d (codes "prototypes")) _ (on_all _) λ list u.
-    on_each AreWithin (at_entry (λ path. prototype_at path types specs) (under [] (codes "prototypes")))
-    (λ i ps entry few. prototype_within (nth (under [] (codes "prototypes")) i) types specs ps entry) 0 [] list (omega arith)
+    on_each AreWithin (at_entry (λ path. prototype_at path types specs has_shape) (under [] (codes "prototypes")))
+    (λ i ps entry few. prototype_within (nth (under [] (codes "prototypes")) i) types specs has_shape ps entry) 0 [] list (omega arith)
 
-pub few_prototypes : (types : List GType) (specs : ℕ → List Spec) (d : Data) (ps : List Prototype) → prototypes_in types specs d ≡ Ok (map plain_prototype ps) → length ps ≤ 512
-few_prototypes types specs d ps read =
-    let within : AreWithin (map plain_prototype ps) = subst (OnRead AreWithin) read (prototypes_within types specs d) in
+pub few_prototypes : (types : List GType) (specs : ℕ → List Spec) (has_shape : ℕ → Bool) (d : Data) (ps : List Prototype) → prototypes_in types specs has_shape d ≡ Ok (map plain_prototype ps) → length ps ≤ 512
+few_prototypes types specs has_shape d ps read =
+    let within : AreWithin (map plain_prototype ps) = subst (OnRead AreWithin) read (prototypes_within types specs has_shape d) in
     omega (arith, within, length-map ps plain_prototype)
 
 -- ** no more objects than there is room for
@@ -647,18 +673,18 @@ module _ (scope : Scope) where
       (λ i others entry fewer. object_few levels (Some (length built.places)) (nth (under path (codes "children")) i) others entry) 0 more list few) λ all fewer.
       on_bind (λ x. Unit {0}) Few (only_at path ms keys_of_object) _ (on_all _) λ only u. fewer
 
-pub objects_few : (types : List GType) (specs : ℕ → List Spec) (programs : List Program) (prototypes : List Place) (most : ℕ) (d : Data) → AreWithin prototypes
-    → OnRead (λ built. AreFew most prototypes built.places) (objects_in types specs programs prototypes most d)
+pub objects_few : (types : List GType) (specs : ℕ → List Spec) (has_shape : ℕ → Bool) (programs : List Program) (prototypes : List Place) (most : ℕ) (d : Data) → AreWithin prototypes
+    → OnRead (λ built. AreFew most prototypes built.places) (objects_in types specs has_shape programs prototypes most d)
 unfolding objects_in
-objects_few types specs programs prototypes most d within =
+objects_few types specs has_shape programs prototypes most d within =
     on_bind (λ x. Unit {0}) (λ built. AreFew most prototypes built.places) (entries_at [] d (codes "objects")) _ (on_all _) λ list u.
-    on_each (λ (built : Built). AreFew most prototypes built.places) (at_entry (object_at most_levels (scope_with types specs programs prototypes most list) None) (under [] (codes "objects")))
-    (λ i others entry fewer. object_few (scope_with types specs programs prototypes most list) most_levels None (nth (under [] (codes "objects")) i) others entry) 0 no_objects list
+    on_each (λ (built : Built). AreFew most prototypes built.places) (at_entry (object_at most_levels (scope_with types specs has_shape programs prototypes most list) None) (under [] (codes "objects")))
+    (λ i others entry fewer. object_few (scope_with types specs has_shape programs prototypes most list) most_levels None (nth (under [] (codes "objects")) i) others entry) 0 no_objects list
     (record { placed = omega (arith, within); live = omega arith })
 
 -- the properties of types that were read are plain
-pub plain_read : (types : List GType) (table : List (List Spec)) (declared : Declared) (constructed : List (Option ℕ)) (d : Data) → draft_in d ≡ Ok (class_draft_of types table declared constructed) → ArePlain types table
-plain_read types table declared constructed d read =
+pub plain_read : (types : List GType) (table : List (List Spec)) (declared : Declared) (constructed : List (Option ℕ)) (shapes : List Shape) (shaped : List (Option ℕ)) (d : Data) → draft_in d ≡ Ok (class_draft_of types table declared constructed shapes shaped) → ArePlain types table
+plain_read types table declared constructed shapes shaped d read =
     let all : PlainDraft (draft_of types table declared.signals) = (subst (OnRead PlainClasses) read (draft_plain d)).plain in
     record {
       at = λ t slot s h.
@@ -667,9 +693,9 @@ plain_read types table declared constructed d read =
     }
 
 -- the signals of types that were read have known kinds
-pub kinds_read : (types : List GType) (table : List (List Spec)) (given : Declared) (constructed : List (Option ℕ)) (d : Data) → draft_in d ≡ Ok (class_draft_of types table given constructed) → HaveKnownKinds types given.signals
+pub kinds_read : (types : List GType) (table : List (List Spec)) (given : Declared) (constructed : List (Option ℕ)) (shapes : List Shape) (shaped : List (Option ℕ)) (d : Data) → draft_in d ≡ Ok (class_draft_of types table given constructed shapes shaped) → HaveKnownKinds types given.signals
 unfolding declared_of
-kinds_read types table given constructed d read =
+kinds_read types table given constructed shapes shaped d read =
     let all : PlainDraft (draft_of types table given.signals) = (subst (OnRead PlainClasses) read (draft_plain d)).plain in
     record {
       at = λ t number s h.
@@ -678,30 +704,38 @@ kinds_read types table given constructed d read =
     }
 
 -- types that were read alone have class handlers
-handlers_read : (types : List GType) (table : List (List Spec)) (declared : Declared) (constructed : List (Option ℕ)) (d : Data) → draft_in d ≡ Ok (class_draft_of types table declared constructed)
+handlers_read : (types : List GType) (table : List (List Spec)) (declared : Declared) (constructed : List (Option ℕ)) (shapes : List Shape) (shaped : List (Option ℕ)) (d : Data) → draft_in d ≡ Ok (class_draft_of types table declared constructed shapes shaped)
     → NoneFrom (length types) (named_of declared.handlers)
-handlers_read types table declared constructed d read = (subst (OnRead PlainClasses) read (draft_plain d)).past
+handlers_read types table declared constructed shapes shaped d read = (subst (OnRead PlainClasses) read (draft_plain d)).past.handlers
+
+-- and shapes
+shapes_read : (types : List GType) (table : List (List Spec)) (declared : Declared) (constructed : List (Option ℕ)) (shapes : List Shape) (shaped : List (Option ℕ)) (d : Data) → draft_in d ≡ Ok (class_draft_of types table declared constructed shapes shaped)
+    → UnshapedFrom (length types) (read None shaped)
+shapes_read types table declared constructed shapes shaped d drafted = (subst (OnRead PlainClasses) drafted (draft_plain d)).past.shaped
 
 -- a definition of what was read
-pub sound : (p : Parts) (d : Data) → draft_in d ≡ Ok (class_draft_of p.types p.specs p.declared p.constructed) → AreLimits p.limits
-    → prototypes_in p.types (specs_by p.types (own_of p.specs)) d ≡ Ok (map plain_prototype p.prototypes)
-    → objects_in p.types (specs_by p.types (own_of p.specs)) (map plain_program p.programs) (map plain_prototype p.prototypes) p.limits.objects d ≡ Ok (built_view p.objects p.bindings)
+pub sound : (p : Parts) (d : Data) → draft_in d ≡ Ok (class_draft_of p.types p.specs p.declared p.constructed (map plain_shape p.shapes) p.shaped) → AreLimits p.limits
+    → prototypes_in p.types (specs_by p.types (own_of p.specs)) (is_shaped_by p.types (read None p.shaped)) d ≡ Ok (map plain_prototype p.prototypes)
+    → objects_in p.types (specs_by p.types (own_of p.specs)) (is_shaped_by p.types (read None p.shaped)) (map plain_program p.programs) (map plain_prototype p.prototypes) p.limits.objects d ≡ Ok (built_view p.objects p.bindings)
     → AllByRecursion HasOwnName p.programs → AllByRecursion (IsSoundProgram p.types) p.programs
     → length p.programs ≤ 256 → IsSound p
-sound p d read within prototypes objects named programs fewer =
+sound p d drafted within prototypes objects named programs fewer =
     let specs = specs_by p.types (own_of p.specs) in
+    let has_shape = is_shaped_by p.types (read None p.shaped) in
+    let shapes = map plain_shape p.shapes in
     let made = map plain_prototype p.prototypes in
     let most = p.limits.objects in
-    let fit : AreWithin made = subst (OnRead AreWithin) prototypes (prototypes_within p.types specs d) in
-    let few : AreFew most made (map plain_object p.objects) = subst (OnRead (λ (built : Built). AreFew most made built.places)) objects (objects_few p.types specs (map plain_program p.programs) made most d fit) in
+    let fit : AreWithin made = subst (OnRead AreWithin) prototypes (prototypes_within p.types specs has_shape d) in
+    let few : AreFew most made (map plain_object p.objects) = subst (OnRead (λ (built : Built). AreFew most made built.places)) objects (objects_few p.types specs has_shape (map plain_program p.programs) made most d fit) in
     record {
-      plain = plain_read p.types p.specs p.declared p.constructed d read;
-      kinds = kinds_read p.types p.specs p.declared p.constructed d read;
+      plain = plain_read p.types p.specs p.declared p.constructed shapes p.shaped d drafted;
+      kinds = kinds_read p.types p.specs p.declared p.constructed shapes p.shaped d drafted;
       limited = within;
       few = omega (arith, few.live, length-map p.objects plain_object);
       places = omega (arith, few.placed, length-map p.objects plain_object, length-map p.prototypes plain_prototype);
       named = named;
       programs = programs;
       few_programs = fewer;
-      handlers = handlers_read p.types p.specs p.declared p.constructed d read;
+      handlers = handlers_read p.types p.specs p.declared p.constructed shapes p.shaped d drafted;
+      shaped = shapes_read p.types p.specs p.declared p.constructed shapes p.shaped d drafted;
     }

@@ -14,6 +14,7 @@ use Rattle.ui_machine.specs.Definition.Lookups as lookups
 use Rattle.ui_machine.specs.Definition.Properties.{Spec}
 use Rattle.ui_machine.specs.Definition.Signals.{ClassHandler, Signal}
 use Rattle.ui_machine.specs.Rules.Ancestry.{lineage}
+use Rattle.ui_machine.specs.Rules.Construction.{nearest_shape}
 use Rattle.ui_machine.specs.Rules.EmissionPlan.{first_given, handler_in, signal_of}
 use Rattle.bytecode.specs.Shape.{shape_fault}
 use Rattle.param_specs.specs.Table.{specs_of}
@@ -21,6 +22,7 @@ use Rattle.signal_core.specs.Laws.{walk_for}
 use Rattle.signal_core.specs.Sources.{signals_of}
 use Rattle.signal_core.specs.Table.{named_of, planned_for}
 use Rattle.definition_format.specs.Meaning.{Parts, class_in, plain_program, meaning, IsPlain, HasKnownKinds, IsSound, IsSoundProgram, IsBasic, planned}
+use Rattle.definition_format.specs.Denoted.Shapes.{shape_by}
 use Rattle.ui_machine.proofs.Listed.{read-listed}
 use Rattle.definition_format.proofs.AllPlaces.{objects_first, each_place}
 use Rattle.definition_format.proofs.Registers.{few_registers}
@@ -71,6 +73,17 @@ module _ (p : Parts) where
       | inr past ↦ sound.handlers class past ∙ sym (ap (λ (c : Class). c.handlers) (class_past class past))
     ]
 
+    -- the shapes that classes name themselves
+    shapes_are : (class : ℕ) → read None p.shaped class ≡ (lookups.class_of (meaning p) class).shape
+    shapes_are class = elim (cases_lt class (length p.types)) [
+      | inl known ↦ sym (ap (λ (c : Class). c.shape) (class_there class known))
+      | inr past ↦ sound.shaped class past ∙ sym (ap (λ (c : Class). c.shape) (class_past class past))
+    ]
+
+    -- and those that they have
+    pub nearest_is : (class : ℕ) → shape_by p.types (read None p.shaped) class ≡ nearest_shape (meaning p) class
+    nearest_is class = ap (λ (own : ℕ → Option ℕ). first_given own (lineage p.types class)) (fun_ext shapes_are)
+
     module _ (class object number : ℕ) (detail : Option (List ℕ)) (greatest : ℕ) (d : Definition) (is : meaning p ≡ d) where
       -- an emission of a signal of a class begins with the program that the class or its nearest ancestor names
       pub begins : class < length p.types
@@ -98,11 +111,6 @@ type_past (x ∷ xs) (suc i) h = type_past xs i (omega arith)
 
 -- ** a definition is basic
 
-each_class : {A : Type 0} (P : A → Type 0) (d : A) (f : ℕ → A) (n i : ℕ) → P d → ((t : ℕ) → P (f t)) → P (read d (listed f n) i)
-each_class P d f zero i none all = none
-each_class P d f (suc n) zero none all = all 0
-each_class P d f (suc n) (suc i) none all = each_class P d (λ t. f (suc t)) n i none (λ t. all (suc t))
-
 each_seen : {A B : Type 0} (P : B → Type 0) (view : A → B) (Q : A → Type 0) → ((x : A) → Q x → P (view x)) → (xs : List A) → AllByRecursion Q xs
     → (i : ℕ) (y : B) → slice_get (map view xs) i ≡ Some y → P y
 each_seen P view Q all [] each i y h = cc
@@ -127,12 +135,10 @@ module _ (p : Parts) (sound : IsSound p) where
 
   pub basic : IsBasic (meaning p)
   basic = record {
-    shapes = λ t. each_class (λ (c : Class). c.shape ≡ None) lookups.no_class (class_in p) (length p.types) t refl (λ t. refl);
     plain = plain_spec;
     prototypes = objects_first p.prototypes p.objects;
     no_parents = each_place p.prototypes (λ (place : Place). place.is_prototype ≡ true → place.parent ≡ None) (λ o h. absurd (cc)) (λ q h. refl) p.objects;
     silent = each_place p.prototypes (λ (place : Place). place.is_prototype ≡ true → place.signals ≡ []) (λ o h. absurd (cc)) (λ q h. refl) p.objects;
-    peers = each_place p.prototypes (λ (place : Place). place.peers ≡ []) (λ o. refl) (λ q. refl) p.objects;
     few_programs = omega (arith, sound.few_programs, length-map p.programs plain_program);
     shaped = well_shaped;
     few_registers = λ number q h. few_registers q (well_shaped number q h);

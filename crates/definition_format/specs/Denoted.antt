@@ -23,9 +23,11 @@ pub mod Given
 pub mod Attached
 pub mod Binds
 pub mod Filled
+pub mod Shapes
+pub mod Peers
 pub mod Objects
 pub mod Prototypes
-use Rattle.std.specs.Prelude.{ℕ, List, [], ◌∷◌, ◌++◌, length, codes, ◌==◌, if◌then◌else◌, Option, None, Some, option_and_then, Result, Ok, Err}
+use Rattle.std.specs.Prelude.{ℕ, List, [], ◌∷◌, ◌++◌, length, codes, ◌==◌, Bool, if◌then◌else◌, Option, None, Some, option_and_then, Result, Ok, Err}
 use Rattle.serde_json.specs.Data.{Data, Items}
 use Rattle.serde_json.specs.Find.{get, as_number, as_u64}
 use Rattle.ui_machine.specs.Outcome.{◌>>=◌}
@@ -40,7 +42,7 @@ use Rattle.bytecode.specs.declared.formats.Format.{Format}
 use Rattle.bytecode.specs.declared.formats.Format.TheVariants as formats
 use Rattle.definition_format.specs.Meaning.{type_with}
 use Rattle.definition_format.specs.Refusals.{Refusal, shape}
-use Rattle.definition_format.specs.Document.{under, members_at, entries_at, listed_ahead, nothing_at, only_at, each, at_entry, document}
+use Rattle.definition_format.specs.Document.{under, members_at, entries_at, listed_ahead, only_at, each, at_entry, document}
 use Rattle.definition_format.specs.Denoted.Entries.{ProgramNames, TypeNames, type_names, program_names, most_levels, object_names}
 use Rattle.definition_format.specs.Denoted.Properties.{specs_by}
 use Rattle.definition_format.specs.Denoted.Signals.{signals_by}
@@ -52,6 +54,7 @@ use Rattle.definition_format.specs.Denoted.Classes.{class_at}
 use Rattle.definition_format.specs.Denoted.Programs.{programs_in}
 use Rattle.definition_format.specs.Denoted.Objects.{Scope, Built, no_objects, object_at}
 use Rattle.definition_format.specs.Denoted.Prototypes.{prototypes_in}
+use Rattle.definition_format.specs.Denoted.Shapes.{is_shaped_by, shapes_in}
 
 -- the number that the member `format` is
 abbrev pub format_number : Data → Option ℕ
@@ -62,9 +65,6 @@ abbrev pub format_of : Option ℕ → Result Format Refusal
 format_of None = Err (shape (codes "/format"))
 format_of (Some n) = if n == 1 then Ok formats.First else (if n == 2 then Ok formats.Second else Err (shape (codes "/format")))
 
-abbrev pub unset_before_classes : List (List ℕ)
-unset_before_classes = codes "shapes" ∷ []
-
 abbrev pub keys_of_definition : List (List ℕ)
 keys_of_definition = codes "format" ∷ codes "limits" ∷ codes "enums" ∷ codes "flags" ∷ codes "interfaces" ∷ codes "shapes" ∷ codes "classes" ∷ codes "programs" ∷ codes "prototypes" ∷ codes "objects" ∷ []
 
@@ -72,8 +72,8 @@ keys_of_definition = codes "format" ∷ codes "limits" ∷ codes "enums" ∷ cod
 abbrev pub definition_with : ClassDraft → List Program → List machine.Place → List machine.Bind → Limits → definition.Definition
 definition_with draft programs places bindings limits = record {
   types = draft.types;
-  classes = listed (λ t. type_with (specs_by draft.types draft.own t) (signals_by draft.types draft.signals t) (draft.answers.handlers t) (draft.answers.constructed t)) (length draft.types);
-  shapes = [];
+  classes = listed (λ t. type_with (specs_by draft.types draft.own t) (signals_by draft.types draft.signals t) (draft.answers.handlers t) (draft.answers.constructed t) (draft.answers.shaped t)) (length draft.types);
+  shapes = draft.answers.shapes;
   programs = programs;
   places = places;
   bindings = bindings;
@@ -102,7 +102,6 @@ interfaces_in names types d = do
 -- these types with all that they have, with the classes of a definition
 unfoldable pub classes_in : TypeNames → ProgramNames → ClassDraft → Data → Result ClassDraft Refusal
 classes_in names programs draft d = do
-  unset ← nothing_at [] d unset_before_classes
   list ← entries_at [] d (codes "classes")
   each (at_entry (λ path. class_at path (length draft.types) list names programs) (under [] (codes "classes"))) 0 draft list
 
@@ -112,18 +111,27 @@ draft_in d = do
   enums ← enums_in d
   types ← flags_in enums d
   interfaces ← interfaces_in (type_names types d) types d
-  classes_in (type_names types d) (program_names d) (with_answers interfaces no_answers) d
+  shapes ← shapes_in d
+  classes_in (type_names types d) (program_names d) (with_answers interfaces (no_answers shapes)) d
 
 -- what is known where the objects of a list are read
-abbrev pub scope_with : List GType → (ℕ → List Spec) → List Program → List machine.Place → ℕ → Items → Scope
-scope_with types specs programs prototypes most list =
-    record { types = types; specs = specs; programs = programs; prototypes = prototypes; most = most; names = object_names list }
+abbrev pub scope_with : List GType → (ℕ → List Spec) → (ℕ → Bool) → List Program → List machine.Place → ℕ → Items → Scope
+scope_with types specs has_shape programs prototypes most list = record {
+  types = types;
+  specs = specs;
+  has_shape = has_shape;
+  programs = programs;
+  prototypes = prototypes;
+  most = most;
+  names = object_names list;
+}
 
--- the objects of these types with their properties, which may run these programs, beside these prototypes, where so many may live
-unfoldable pub objects_in : List GType → (ℕ → List Spec) → List Program → List machine.Place → ℕ → Data → Result Built Refusal
-objects_in types specs programs prototypes most d = do
+-- the objects of these types with their properties, of which these have a shape, which may run these programs, beside these prototypes, where so
+-- many may live
+unfoldable pub objects_in : List GType → (ℕ → List Spec) → (ℕ → Bool) → List Program → List machine.Place → ℕ → Data → Result Built Refusal
+objects_in types specs has_shape programs prototypes most d = do
   list ← entries_at [] d (codes "objects")
-  each (at_entry (object_at most_levels (scope_with types specs programs prototypes most list) None) (under [] (codes "objects"))) 0 no_objects list
+  each (at_entry (object_at most_levels (scope_with types specs has_shape programs prototypes most list) None) (under [] (codes "objects"))) 0 no_objects list
 
 unfoldable pub definition_in : Data → Result definition.Definition Refusal
 definition_in d = do
@@ -132,8 +140,8 @@ definition_in d = do
   limits ← limits_in d
   draft ← draft_in d
   programs ← programs_in format draft.types d
-  prototypes ← prototypes_in draft.types (specs_by draft.types draft.own) d
-  objects ← objects_in draft.types (specs_by draft.types draft.own) programs prototypes limits.objects d
+  prototypes ← prototypes_in draft.types (specs_by draft.types draft.own) (is_shaped_by draft.types draft.answers.shaped) d
+  objects ← objects_in draft.types (specs_by draft.types draft.own) (is_shaped_by draft.types draft.answers.shaped) programs prototypes limits.objects d
   only ← only_at [] members keys_of_definition
   Ok (definition_with draft programs (objects.places ++ prototypes) objects.bindings limits)
 

@@ -13,7 +13,7 @@ use Rattle.ui_machine.specs.Definition.Properties.{Spec}
 use Rattle.ui_machine.specs.Rules.Validation.{is_valid}
 use Rattle.ui_machine.specs.Definition.Places as machine
 use Rattle.ui_machine.specs.Definition as definition
-use Rattle.ui_machine.specs.Definition.Signals.{ClassHandler, Signal}
+use Rattle.ui_machine.specs.Definition.Signals.{ClassHandler, Method, Shape, Signal}
 use Rattle.ui_machine.specs.Definition.Programs.{Program}
 use Rattle.ui_machine.specs.Definition.Lookups as lookups
 use Rattle.ui_machine.specs.Rules.EmissionPlan.{Planned, class_handler_of, signal_of}
@@ -40,9 +40,10 @@ use Rattle.definition_format.specs.declared.events.Event.TheVariants as events
 use Rattle.definition_format.specs.declared.events.Request.{Request}
 use Rattle.definition_format.specs.declared.events.Request.TheVariants as requests
 
--- a type with these properties and signals, and the programs that it names: for signals, and for its objects once they are constructed
-abbrev pub type_with : List Spec → List Signal → List ClassHandler → Option ℕ → definition.Class
-type_with specs signals handlers constructed = record { specs = specs; signals = signals; handlers = handlers; constructed = constructed; shape = None }
+-- a type with these properties and signals, the programs that it names, for signals and for its objects once they are constructed, and its shape
+abbrev pub type_with : List Spec → List Signal → List ClassHandler → Option ℕ → Option ℕ → definition.Class
+type_with specs signals handlers constructed shape =
+    record { specs = specs; signals = signals; handlers = handlers; constructed = constructed; shape = shape }
 
 -- a value itself, or the object of a place
 abbrev pub given_view : Given → machine.Given
@@ -53,18 +54,22 @@ given_view (givens.Object place) = machine.named place.0
 abbrev pub given_property : GivenValue → machine.GivenProperty
 given_property g = record { slot = g.slot; given = given_view g.given }
 
--- an object or a prototype, without peers
-abbrev pub bare_place : List ℕ → ℕ → Bool → Option ℕ → List machine.GivenProperty → List machine.Attached → machine.Place
-bare_place id class is_prototype parent given signals =
-    record { id = id; class = class; is_prototype = is_prototype; parent = parent; given = given; peers = []; signals = signals }
+-- an object or a prototype
+abbrev pub place_with : List ℕ → ℕ → Bool → Option ℕ → List (List ℕ) → List machine.GivenProperty → List machine.Attached → machine.Place
+place_with id class is_prototype parent peers given signals =
+    record { id = id; class = class; is_prototype = is_prototype; parent = parent; given = given; peers = peers; signals = signals }
 
--- an object without peer, the child of the object at a place, if it is a child
-abbrev pub plain_place : List ℕ → ℕ → Option ℕ → List machine.GivenProperty → List machine.Attached → machine.Place
-plain_place id class parent given signals = bare_place id class false parent given signals
+-- an object, the child of the object at a place, if it is a child
+abbrev pub plain_place : List ℕ → ℕ → Option ℕ → List (List ℕ) → List machine.GivenProperty → List machine.Attached → machine.Place
+plain_place id class parent peers given signals = place_with id class false parent peers given signals
 
--- a prototype without peers: it has neither a parent nor signals
-abbrev pub bare_prototype : List ℕ → ℕ → List machine.GivenProperty → machine.Place
-bare_prototype id class given = bare_place id class true None given []
+-- a prototype: it has neither a parent nor signals
+abbrev pub prototype_with : List ℕ → ℕ → List (List ℕ) → List machine.GivenProperty → machine.Place
+prototype_with id class peers given = place_with id class true None peers given []
+
+-- the bytes of names
+abbrev pub name_bytes : List (String Global) → List (List ℕ)
+name_bytes names = map (λ name. string_bytes name) names
 
 -- the number of a place, if there is one
 abbrev pub place_number : Option Place → Option ℕ
@@ -100,7 +105,7 @@ Entry = String Global × ObjectBody
 -- the object of an entry
 abbrev pub plain_object : Entry → machine.Place
 plain_object entry =
-    plain_place (string_bytes entry.0) entry.1.class (place_number entry.1.parent) (map given_property entry.1.given.items) (map attached_view entry.1.signals.items)
+    plain_place (string_bytes entry.0) entry.1.class (place_number entry.1.parent) (name_bytes entry.1.peers.items) (map given_property entry.1.given.items) (map attached_view entry.1.signals.items)
 
 -- the id of a prototype, and what it has under it
 abbrev pub Prototype : Type 0
@@ -108,7 +113,7 @@ Prototype = String Global × PrototypeBody
 
 -- the prototype of an entry
 abbrev pub plain_prototype : Prototype → machine.Place
-plain_prototype entry = bare_prototype (string_bytes entry.0) entry.1.class (map given_property entry.1.given.items)
+plain_prototype entry = prototype_with (string_bytes entry.0) entry.1.class (name_bytes entry.1.peers.items) (map given_property entry.1.given.items)
 
 -- a program, and the name under which it is found
 abbrev pub NamedProgram : Type 0
@@ -117,6 +122,14 @@ NamedProgram = String Global × code_program.Program
 -- the program of an entry
 abbrev pub plain_program : NamedProgram → Program
 plain_program entry = program_view entry.1
+
+-- the methods of a shape, under its name
+abbrev pub NamedShape : Type 0
+NamedShape = String Global × List Method
+
+-- the shape of an entry
+abbrev pub plain_shape : NamedShape → Shape
+plain_shape entry = record { name = string_bytes entry.0; methods = entry.1 }
 
 -- what a definition has that sets no limits: 64 objects live at a time, and programs connect no handlers
 abbrev pub default_limits : Limits
@@ -128,18 +141,22 @@ pub record Parts : Type 0 where
   pub specs : List (List Spec)
   pub declared : Declared
   pub constructed : List (Option ℕ)  -- the program that a class names itself, by class
+  pub shapes : List NamedShape
+  pub shaped : List (Option ℕ)  -- the shape that a class names itself, by class
   pub programs : List NamedProgram
   pub prototypes : List Prototype
   pub objects : List Entry
   pub bindings : List Bind
   pub limits : Limits
 
-abbrev pub parts : List GType → List (List Spec) → Declared → List (Option ℕ) → List NamedProgram → List Prototype → List Entry → List Bind → Limits → Parts
-parts types specs declared constructed programs prototypes objects bindings limits = record {
+abbrev pub parts : List GType → List (List Spec) → Declared → List (Option ℕ) → List NamedShape → List (Option ℕ) → List NamedProgram → List Prototype → List Entry → List Bind → Limits → Parts
+parts types specs declared constructed shapes shaped programs prototypes objects bindings limits = record {
   types = types;
   specs = specs;
   declared = declared;
   constructed = constructed;
+  shapes = shapes;
+  shaped = shaped;
   programs = programs;
   prototypes = prototypes;
   objects = objects;
@@ -149,7 +166,7 @@ parts types specs declared constructed programs prototypes objects bindings limi
 
 -- what it has of a type
 abbrev pub class_in : Parts → ℕ → definition.Class
-class_in p t = type_with (specs_of p.types p.specs t) (signals_of p.types p.declared.signals t) (named_of p.declared.handlers t) (read None p.constructed t)
+class_in p t = type_with (specs_of p.types p.specs t) (signals_of p.types p.declared.signals t) (named_of p.declared.handlers t) (read None p.constructed t) (read None p.shaped t)
 
 -- the places of these objects and, behind them, of these prototypes
 abbrev pub places_of : List Entry → List Prototype → List machine.Place
@@ -160,7 +177,7 @@ abbrev pub meaning : Parts → definition.Definition
 meaning p = record {
   types = p.types;
   classes = listed (class_in p) (length p.types);
-  shapes = [];
+  shapes = map plain_shape p.shapes;
   programs = map plain_program p.programs;
   places = places_of p.objects p.prototypes;
   bindings = map bind_view p.bindings;
@@ -231,6 +248,7 @@ pub record IsSound (p : Parts) : Type 0 where
   pub programs : AllByRecursion (IsSoundProgram p.types) p.programs
   pub few_programs : length p.programs ≤ 256
   pub handlers : (t : ℕ) → length p.types ≤ t → named_of p.declared.handlers t ≡ []
+  pub shaped : (t : ℕ) → length p.types ≤ t → read None p.shaped t ≡ None
 
 abbrev pub class_of_place : Option machine.Place → ℕ
 class_of_place None = 0
@@ -260,14 +278,12 @@ if_object d place = if is_object_there (lookups.place_at d place) then Some plac
 abbrev pub object_place : definition.Definition → List ℕ → Option ℕ
 object_place d id = option_and_then (if_object d) (lookups.place_of d id)
 
--- What a definition does not have so far: shapes and peers. Its objects come first among its places.
+-- What is known of every definition. Its objects come first among its places.
 pub record IsBasic (d : definition.Definition) : Type 0 where
-  pub shapes : (t : ℕ) → (lookups.class_of d t).shape ≡ None
   pub plain : (t slot : ℕ) (s : Spec) → lookups.spec_of d t slot ≡ Some s → IsPlain d.types s
   pub prototypes : (p : ℕ) (place : machine.Place) → slice_get d.places p ≡ Some place → place.is_prototype ≡ nat_le (object_count d) p
   pub no_parents : (p : ℕ) (place : machine.Place) → slice_get d.places p ≡ Some place → place.is_prototype ≡ true → place.parent ≡ None
   pub silent : (p : ℕ) (place : machine.Place) → slice_get d.places p ≡ Some place → place.is_prototype ≡ true → place.signals ≡ []
-  pub peers : (p : ℕ) (place : machine.Place) → slice_get d.places p ≡ Some place → place.peers ≡ []
   pub few_programs : length d.programs ≤ 256
   pub shaped : (number : ℕ) (p : Program) → lookups.program_at d number ≡ Some p → shape_fault p ≡ None
   pub few_registers : (number : ℕ) (p : Program) → lookups.program_at d number ≡ Some p → p.registers ≤ 32

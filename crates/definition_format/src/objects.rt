@@ -56,18 +56,23 @@ pub struct Bind {
     pub at: usize,
 }
 
-/// What an object has under its id: its class, its parent, if it is a child, the given values in the given order, and its signals.
+/// What an object has under its id: its class, its parent, if it is a child, its peer, if its class has a shape, the given values in the given
+/// order, and its signals.
 #[derive(Drop)]
 pub struct ObjectBody {
     pub class: TypeId,
     pub parent: Option<Place>,
+    /// The name of its peer; no more than one.
+    pub peers: Vec<String>,
     pub given: Vec<GivenValue>,
     pub signals: Vec<Attached>,
 }
 
-/// What a prototype has under its id: its class, and the given values in the given order.
+/// What a prototype has under its id: its class, the given values in the given order, and the peers that its objects get.
 #[derive(Drop)]
 pub struct PrototypeBody {
     pub class: TypeId,
     pub given: Vec<GivenValue>,
+    /// The names of the peers, in the order in which objects take them.
+    pub peers: Vec<String>,
 }

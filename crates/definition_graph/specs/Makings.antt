@@ -5,8 +5,7 @@ use Rattle.ui_machine.specs.Definition.Properties.{Spec, is_readable}
 use Rattle.ui_machine.specs.Rules.Construction.{is_at_construction, is_forward}
 use Rattle.ui_machine.specs.Definition.{Definition}
 use Rattle.ui_machine.specs.Definition.Places.{GivenProperty, Place}
-use Rattle.definitions.specs.declared.object_entries.ObjectEntry.{ObjectEntry}
-use Rattle.definition_format.specs.Meaning.{attached_view, bare_place, given_property, place_number}
+use Rattle.definition_format.specs.Meaning.{given_property}
 use Rattle.definition_format.specs.declared.objects.GivenValue.{GivenValue}
 use Rattle.law_typing.specs.Graph.{forwards_of, is_given}
 use Rattle.law_typing.specs.Graph.Channels.{Channel, present, property}
@@ -19,10 +18,6 @@ gives place slot g = is_given place slot (given_property g)
 abbrev pub built_one : (place slot : ℕ) → Bool → Option Spec → List Channel
 built_one place slot given None = []
 built_one place slot given (Some s) = cond (is_at_construction s || given) (cond (is_readable s) (property place slot ∷ []) []) []
-
--- the place of an entry
-abbrev pub entry_view : ObjectEntry → Place
-entry_view o = bare_place o.id.now o.class o.is_prototype (place_number o.parent) (map given_property o.given.now) (map attached_view o.signals.now)
 
 -- what the forward ones of some given values raise
 abbrev pub forwards_in : Definition → ℕ → List GivenProperty → List Channel

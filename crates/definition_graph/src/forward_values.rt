@@ -6,7 +6,8 @@ ghost use Rattle.definition_format.specs.Meaning.{given_property};
 ghost use Rattle.law_typing.specs.Graph.{forwards_from};
 ghost use Rattle.law_typing.specs.Rules.RegisterKinds.{class_at};
 ghost use Rattle.definition_graph.specs.ChannelView.{channels_of};
-ghost use Rattle.definition_graph.specs.Makings.{entry_view, forwards_at, forwards_in};
+ghost use Rattle.definitions.specs.EntryView.{entry_view};
+ghost use Rattle.definition_graph.specs.Makings.{forwards_at, forwards_in};
 
 use crate::makings::is_forward;
 use definition_format::GivenValue;

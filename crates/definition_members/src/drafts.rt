@@ -17,7 +17,6 @@ use definition_parts::entries::TypeNames;
 use param_specs::SpecTable;
 use signal_core::SignalTable;
 use type_tree::{TypeId, TypeTree};
-use ui_machine::ProgramId;
 
 /// Types with their properties and signals, while they are read.
 #[derive(Drop)]
@@ -25,15 +24,6 @@ pub struct Draft {
     pub types: TypeTree,
     pub specs: SpecTable,
     pub signals: SignalTable,
-}
-
-/// The same, with the programs that classes name for their objects once they are constructed.
-#[derive(Drop)]
-pub struct ClassDraft {
-    pub types: TypeTree,
-    pub specs: SpecTable,
-    pub signals: SignalTable,
-    pub constructed: Vec<Option<ProgramId>>,
 }
 
 // Gives a type the properties of its entry.

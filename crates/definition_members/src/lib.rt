@@ -10,4 +10,4 @@ pub mod signal_flags;
 pub mod signals;
 
 pub use defaults::value_of;
-pub use drafts::{ClassDraft, Draft};
+pub use drafts::Draft;

@@ -1,9 +1,10 @@
 pub mod Nested
 pub mod Pushed
 pub mod AddedPrograms
-pub mod AddedPrototypes
 pub mod PlaceIds
 pub mod Outlines
 pub mod PlainKinds
 pub mod BindNames
 pub mod Filling
+pub mod StockProofs
+pub mod NamedPeers

@@ -1,3 +1,5 @@
 pub mod BindNames
 pub mod BindView
 pub mod ScopeView
+pub mod PeerDrafts
+pub mod PeerViews

@@ -7,6 +7,7 @@ mod binds;
 mod filled;
 mod given;
 mod objects;
+mod peer_names;
 mod places;
 mod programs;
 mod prototypes;
@@ -14,6 +15,7 @@ mod targets;
 
 pub use given::reference;
 pub use objects::{ReadObjects, read_objects};
+pub use peer_names::PeerNames;
 pub use places::read_places;
 pub use programs::read_programs;
-pub use prototypes::read_prototypes;
+pub use prototypes::{Classes, ReadPrototypes, read_prototypes};

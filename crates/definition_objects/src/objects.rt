@@ -1,14 +1,22 @@
 //! The objects of a definition, and the bindings among them.
 
-ghost use Rattle.std.specs.Prelude.{◌≡◌, ◌+◌, ◌<◌, ◌≤◌, false, [], codes, map, length, is_some, string_bytes, None, IfOk};
+ghost use Rattle.std.specs.Prelude.{◌≡◌, ◌+◌, ◌<◌, ◌≤◌, ◌++◌, false, [], codes, map, length, is_some, string_bytes, None, IfOk};
+ghost use Rattle.serde_json.specs.Find.{get};
 ghost use Rattle.serde_json.specs.View.{view, items_view};
 ghost use Rattle.ui_machine.specs.Definition.Names.{place_named};
-ghost use Rattle.std.specs.List.{AllByRecursion};
-ghost use Rattle.definition_format.specs.Meaning.{ArePlain, HasOwnName, plain_object, plain_program, plain_prototype, place_number, places_of};
+ghost use Rattle.std.specs.List.{AllByRecursion, list_any};
+ghost use Rattle.std.specs.Str.{bytes_eq};
+ghost use Rattle.definition_format.specs.Meaning.{ArePlain, HasOwnName, name_bytes, plain_object, plain_program, plain_prototype, place_number, places_of};
 ghost use Rattle.param_specs.specs.Table.{own_of};
 ghost use Rattle.definition_format.specs.Refusals.{Gives, Leads};
-ghost use Rattle.definition_format.specs.Document.{under, path_of, each, at_entry};
-ghost use Rattle.definition_format.specs.Denoted.Objects.{room_for_object, unless_taken, unless_abstract, class_at_key, built_view, no_objects, place_at, added_at, object_at};
+ghost use Rattle.definition_format.specs.Document.{under, path_of, is_among, each, at_entry};
+ghost use Rattle.ui_machine.specs.Seq.{read};
+ghost use Rattle.definition_format.specs.Denoted.Enums.{unless_there};
+ghost use Rattle.definition_format.specs.Denoted.Names.{unless_taken};
+ghost use Rattle.definition_format.specs.Denoted.Peers.{one_peer, peer_or, peers_of};
+ghost use Rattle.definition_format.specs.Denoted.Shapes.{is_shaped_by};
+ghost use Rattle.definition_objects.specs.PeerViews.{is_named_in};
+ghost use Rattle.definition_format.specs.Denoted.Objects.{room_for_object, unless_abstract, class_at_key, built_view, no_objects, place_at, added_at, object_at};
 ghost use Rattle.definition_format.specs.Denoted.{scope_with};
 ghost use Rattle.definition_objects.specs.ScopeView.{scope_of, built_of, IsReady};
 ghost use Rattle.definition_format.specs.Denoted.Entries.{most_levels, object_names};
@@ -17,17 +25,19 @@ ghost use Rattle.definition_format.specs.Denoted.Properties.{specs_by};
 use crate::attached::read_attached;
 use crate::bind_lists::BindList;
 use crate::filled::read_properties;
+use crate::peer_names::PeerNames;
+use crate::prototypes::{Classes, ReadPrototypes};
 use crate::targets::Target;
 use definition_format::{
     Bind, DefinitionFault, DefinitionLimit, ObjectBody, Path, ReadError, TypeCause,
 };
 use definition_parts::document::{Entries, Part, bad_shape, path_text, path_under, unknown_name};
 use definition_parts::entries::{MOST_LEVELS, ObjectNames};
-use definition_parts::names::is_name;
+use definition_parts::names::{is_name, name_under};
 use definitions::places::{MOST_PLACES, Objects, Prototypes, place_in};
 use definitions::programs::Programs;
 use indexmap::IndexMap;
-use param_specs::SpecTable;
+use serde_json::Value;
 use type_tree::{TypeId, TypeTree};
 use ui_machine::Place;
 
@@ -97,6 +107,38 @@ pub(crate) fn class_of(part: Part<'_>, types: &TypeTree) -> Result<TypeId, ReadE
     }
 }
 
+// Whether one of these peers has a name.
+fn is_named(peers: &[String], name: &str) -> bool
+    ensures { result ≡ list_any (λ peer. bytes_eq (string_bytes peer) name.now) peers.now }
+{
+    peers.iter().any(|peer| peer.as_str() == name)
+}
+
+// Whether the peer of an object has a name.
+fn has_peer(objects: &Objects, name: &str) -> bool
+    ensures { result ≡ is_among (peers_of (map plain_object objects.now.entries)) name.now }
+{
+    'objects: for number in 0..objects.len() {
+        if let Some((_, body)) = objects.get_index(number) {
+            if is_named(body.peers.as_slice(), name) {
+                return true;
+            }
+        }
+    }
+    false
+}
+
+// Refuses a peer whose name is taken.
+fn check_unnamed(part: Part<'_>, is_taken: bool) -> Result<(), ReadError>
+    ensures { Gives (λ _. tt) result (unless_there (under (path_of part.entry.path) (codes "peer")) is_taken) }
+{
+    if is_taken {
+        let path = path_under(part.alloc, part.path, "peer")?;
+        return Err(ReadError::Refused(DefinitionFault::Duplicate(path)));
+    }
+    Ok(())
+}
+
 // An object that is not yet among the others.
 #[derive(Drop)]
 struct NewObject {
@@ -118,19 +160,64 @@ pub struct ReadObjects {
     pub bindings: Vec<Bind>,
 }
 
-// What is known where objects are read: the types with their properties, the programs, the prototypes, how many objects may live, and the names
-// of all objects.
+// What is known where objects are read: the types with their properties and shapes, the programs, the prototypes with the names of their peers,
+// how many objects may live, and the names of all objects.
 #[derive(Clone, Copy)]
 struct Scope<'a, 'b> {
-    types: &'a TypeTree,
-    specs: &'a SpecTable,
+    classes: Classes<'a>,
     programs: &'a Programs,
     prototypes: &'a Prototypes,
+    named: &'a PeerNames,
     most: usize,
     names: &'b ObjectNames<'a>,
 }
 
 impl<'a, 'b> Scope<'a, 'b> {
+    // Whether a peer of this name is one of a prototype or of an object before.
+    fn has_peer(&self, objects: &Objects, name: &str) -> bool
+        requires { IsReady self.now }
+        ensures { result ≡ is_among (peers_of (scope_of self.now).prototypes ++ peers_of (map plain_object objects.now.entries)) name.now }
+    {
+        self.named.has(name) || has_peer(objects, name)
+    }
+
+    // The peer that a value names.
+    #[tactic(auto, unfolding(definition_format::specs::Denoted::Peers::one_peer, definition_format::specs::Denoted::Peers::peer_at))]
+    fn read_peer(
+        &self,
+        part: Part<'_>,
+        objects: &Objects,
+        value: &Value,
+    ) -> Result<Vec<String>, ReadError>
+        requires { IsReady self.now }
+        ensures { Gives (λ v. name_bytes v.items) result (one_peer (under (path_of part.entry.path) (codes "peer")) (peers_of (scope_of self.now).prototypes ++ peers_of (map plain_object objects.now.entries)) (view value.now)) }
+    {
+        let name = name_under(part, "peer", value)?;
+        check_unnamed(part, self.has_peer(objects, name))?;
+        let name = String::from_str(part.alloc, name)?;
+        let mut peers = Vec::new(part.alloc);
+        peers.push(name)?;
+        Ok(peers)
+    }
+
+    // The peer of the entry of an object of a class: it has one just where the class has a shape.
+    fn read_peers(
+        &self,
+        part: Part<'_>,
+        class: TypeId,
+        objects: &Objects,
+    ) -> Result<Vec<String>, ReadError>
+        requires { IsReady self.now }
+        ensures { Gives (λ v. name_bytes v.items) result (peer_or (under (path_of part.entry.path) (codes "peer")) ((scope_of self.now).has_shape class) (peers_of (scope_of self.now).prototypes ++ peers_of (map plain_object objects.now.entries)) (get (codes "peer") (view part.entry.value.now))) }
+    {
+        let is_shaped = self.classes.is_shaped(class);
+        match part.value.get("peer") {
+            Some(value) if is_shaped => self.read_peer(part, objects, value),
+            None if !is_shaped => Ok(Vec::new(part.alloc)),
+            _ => Err(bad_shape(part.alloc, part.path, "peer")?),
+        }
+    }
+
     // The object of an entry, the child of the object at a place, if it is a child. Its bindings come behind these.
     #[tactic(auto, unfolding(definition_format::specs::Denoted::Objects::place_at))]
     fn read_object(
@@ -148,11 +235,11 @@ impl<'a, 'b> Scope<'a, 'b> {
         check_room(objects, self.prototypes, self.most)?;
         let id = part.text("id")?;
         check_id(part, id, has_place(objects, self.prototypes, id))?;
-        let class = class_of(part, self.types)?;
-        part.check_absent(&["peer"])?;
+        let class = class_of(part, self.classes.types)?;
+        let peers = self.read_peers(part, class, objects)?;
         let target = Target {
-            types: self.types,
-            specs: self.specs,
+            types: self.classes.types,
+            specs: self.classes.specs,
             objects: self.names,
             place: Place(objects.len() as u16),
             class,
@@ -163,6 +250,7 @@ impl<'a, 'b> Scope<'a, 'b> {
         let body = ObjectBody {
             class,
             parent,
+            peers,
             given: filled.given,
             signals,
         };
@@ -265,25 +353,25 @@ fn read_within(list: Entries<'_>, scope: &Scope<'_, '_>) -> Result<ReadObjects, 
 // The same, beside these prototypes, where so many may live and the names of all objects are known.
 fn read_named<'a, 'b>(
     list: Entries<'_>,
-    types: &'a TypeTree,
-    specs: &'a SpecTable,
+    classes: Classes<'a>,
     programs: &'a Programs,
-    prototypes: &'a Prototypes,
+    prototypes: &'a ReadPrototypes,
     most: usize,
     names: &'b ObjectNames<'a>,
 ) -> Result<ReadObjects, ReadError>
-    requires plain { ArePlain types.now specs.now }
+    requires plain { ArePlain classes.types.now classes.specs.now }
     requires named { AllByRecursion HasOwnName programs.now.entries }
     requires few { length programs.now.entries ≤ 256 }
-    requires few_prototypes { length prototypes.now.entries ≤ 512 }
+    requires few_prototypes { length prototypes.now.prototypes.entries ≤ 512 }
+    requires peers { is_named_in prototypes.now.named ≡ is_among (peers_of (map plain_prototype prototypes.now.prototypes.entries)) }
     requires names { names.now ≡ object_names (items_view list.items.now) }
-    ensures { Gives (λ v. built_view v.objects.entries v.bindings.items) result (each (at_entry (object_at most_levels (scope_with types.now (specs_by types.now (own_of specs.now)) (map plain_program programs.now.entries) (map plain_prototype prototypes.now.entries) most (items_view list.entry.items.now)) None) list.entry.path.now) 0 no_objects (items_view list.entry.items.now)) }
+    ensures { Gives (λ v. built_view v.objects.entries v.bindings.items) result (each (at_entry (object_at most_levels (scope_with classes.entry.types.now (specs_by classes.entry.types.now (own_of classes.entry.specs.now)) (is_shaped_by classes.entry.types.now (read None classes.entry.shaped.now)) (map plain_program programs.now.entries) (map plain_prototype prototypes.now.prototypes.entries) most (items_view list.entry.items.now)) None) list.entry.path.now) 0 no_objects (items_view list.entry.items.now)) }
 {
     let scope = Scope {
-        types,
-        specs,
+        classes,
         programs,
-        prototypes,
+        prototypes: &prototypes.prototypes,
+        named: &prototypes.named,
         most,
         names,
     };
@@ -293,18 +381,18 @@ fn read_named<'a, 'b>(
 /// The objects of a list beside these prototypes, where so many may live, and the bindings among them.
 pub fn read_objects<'a>(
     list: Entries<'a>,
-    types: &'a TypeTree,
-    specs: &'a SpecTable,
+    classes: Classes<'a>,
     programs: &'a Programs,
-    prototypes: &'a Prototypes,
+    prototypes: &'a ReadPrototypes,
     most: usize,
 ) -> Result<ReadObjects, ReadError>
-    requires plain { ArePlain types.now specs.now }
+    requires plain { ArePlain classes.types.now classes.specs.now }
     requires named { AllByRecursion HasOwnName programs.now.entries }
     requires few { length programs.now.entries ≤ 256 }
-    requires few_prototypes { length prototypes.now.entries ≤ 512 }
-    ensures { Gives (λ v. built_view v.objects.entries v.bindings.items) result (each (at_entry (object_at most_levels (scope_with types.now (specs_by types.now (own_of specs.now)) (map plain_program programs.now.entries) (map plain_prototype prototypes.now.entries) most (items_view list.entry.items.now)) None) list.entry.path.now) 0 no_objects (items_view list.entry.items.now)) }
+    requires few_prototypes { length prototypes.now.prototypes.entries ≤ 512 }
+    requires peers { is_named_in prototypes.now.named ≡ is_among (peers_of (map plain_prototype prototypes.now.prototypes.entries)) }
+    ensures { Gives (λ v. built_view v.objects.entries v.bindings.items) result (each (at_entry (object_at most_levels (scope_with classes.entry.types.now (specs_by classes.entry.types.now (own_of classes.entry.specs.now)) (is_shaped_by classes.entry.types.now (read None classes.entry.shaped.now)) (map plain_program programs.now.entries) (map plain_prototype prototypes.now.prototypes.entries) most (items_view list.entry.items.now)) None) list.entry.path.now) 0 no_objects (items_view list.entry.items.now)) }
 {
     let names = ObjectNames::new(list.alloc, list.items)?;
-    read_named(list, types, specs, programs, prototypes, most, &names)
+    read_named(list, classes, programs, prototypes, most, &names)
 }

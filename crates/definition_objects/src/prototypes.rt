@@ -9,12 +9,18 @@ ghost use Rattle.param_specs.specs.View.{spec_view};
 ghost use Rattle.param_specs.specs.Table.{own_of, specs_of};
 ghost use Rattle.definition_format.specs.Meaning.{ArePlain, given_view, given_property, plain_prototype};
 ghost use Rattle.definition_format.specs.Refusals.{Gives, Leads};
-ghost use Rattle.definition_format.specs.Document.{under, path_of, each, at_entry};
+ghost use Rattle.definition_format.specs.Document.{under, path_of, is_among, each, at_entry};
+ghost use Rattle.definition_format.specs.Denoted.Peers.{peers_of};
 ghost use Rattle.definition_format.specs.Denoted.Properties.{specs_by};
-ghost use Rattle.definition_format.specs.Denoted.Prototypes.{if_writable, plain_value, plain_at, all_plain_at, room_for_prototype, prototype_in, prototype_at};
+ghost use Rattle.definition_format.specs.Denoted.Prototypes.{if_writable, plain_value, plain_at, all_plain_at, room_for_prototype, prototype_at};
+ghost use Rattle.definition_format.specs.Denoted.Shapes.{is_shaped_by};
+ghost use Rattle.ui_machine.specs.Seq.{read};
+ghost use Rattle.definition_objects.specs.PeerDrafts.{stock_at, stock_in};
+ghost use Rattle.definition_objects.specs.PeerViews.{is_named_in, new_seen, stock_seen};
 
 use crate::given::{check_once, property_named};
 use crate::objects::{check_id, class_of};
+use crate::peer_names::{PeerNames, read_own_peers};
 use definition_format::{
     DefinitionFault, DefinitionLimit, Given, GivenValue, PrototypeBody, ReadError, SpecCause,
 };
@@ -22,14 +28,33 @@ use definition_parts::document::{Entries, Part, bad_shape, path_under};
 use definition_parts::reads::{Reads, read_each};
 use definition_types::value_of;
 use definitions::places::{MOST_PLACES, Prototypes, prototype_of};
+use definitions::shapes::shape_number;
 use g_values::Kind;
 use indexmap::IndexMap;
 use param_specs::{Spec, SpecTable};
+use std::mem::replace;
 use type_tree::{TypeId, TypeTree};
 
 const MEMBERS: [&str; 4] = ["id", "class", "properties", "peers"];
 
 const MEMBERS_OF_GIVEN: [&str; 2] = ["name", "value"];
+
+/// What is known of classes where objects are read: the types, with their properties and the shapes that they name.
+#[derive(Clone, Copy)]
+pub struct Classes<'a> {
+    pub types: &'a TypeTree,
+    pub specs: &'a SpecTable,
+    pub shaped: &'a [Option<usize>],
+}
+
+impl Classes<'_> {
+    /// Whether a class has a shape.
+    pub fn is_shaped(&self, class: TypeId) -> bool
+        ensures { result ≡ is_shaped_by self.now.types.now (read None self.now.shaped.now) class }
+    {
+        shape_number(self.types, self.shaped, class).is_some()
+    }
+}
 
 // Tests that a property takes a value.
 fn check_writable(part: Part<'_>, spec: &Spec) -> Result<(), ReadError>
@@ -157,96 +182,124 @@ fn has_prototype(prototypes: &Prototypes, id: &str) -> bool
     prototype_of(prototypes, id).is_some()
 }
 
-// A prototype that is not yet among the others.
+// A prototype that is not yet among the others, and the names of all peers so far.
 #[derive(Drop)]
 struct NewPrototype {
     id: String,
     body: PrototypeBody,
+    named: PeerNames,
+}
+
+// The prototypes that were read so far, and the names of their peers.
+#[derive(Drop)]
+struct PrototypeDraft {
+    prototypes: Prototypes,
+    named: PeerNames,
+}
+
+/// The prototypes of a definition, and the names of their peers.
+#[derive(Drop)]
+pub struct ReadPrototypes {
+    pub prototypes: Prototypes,
+    pub named: PeerNames,
 }
 
 // The prototype of an entry beside those before.
-#[tactic(auto, unfolding(definition_format::specs::Denoted::Prototypes::prototype_in))]
+#[tactic(auto, unfolding(crate::specs::PeerDrafts::stock_in))]
 fn prototype_in(
     part: Part<'_>,
-    types: &TypeTree,
-    specs: &SpecTable,
+    known: &Classes<'_>,
     prototypes: &Prototypes,
+    named: PeerNames,
 ) -> Result<NewPrototype, ReadError>
-    requires { ArePlain types.now specs.now }
-    ensures prototype { Gives (λ n. plain_prototype (n.id, n.body)) result (prototype_in (path_of part.entry.path) types.now (specs_by types.now (own_of specs.now)) (map plain_prototype prototypes.now.entries) (view part.entry.value.now)) }
+    requires { ArePlain known.now.types.now known.now.specs.now }
+    ensures prototype { Gives new_seen result (stock_in (path_of part.entry.path) known.now.types.now (specs_by known.now.types.now (own_of known.now.specs.now)) (is_shaped_by known.now.types.now (read None known.now.shaped.now)) (record { places = map plain_prototype prototypes.now.entries; is_named = is_named_in named }) (view part.entry.value.now)) }
     ensures new { IfOk result (λ n. place_named (λ p. p.id) (map plain_prototype prototypes.now.entries) (string_bytes n.id) ≡ None) }
 {
     let members = part.members()?;
     check_room(prototypes)?;
     let id = part.text("id")?;
     check_id(part, id, has_prototype(prototypes, id))?;
-    let class = class_of(part, types)?;
-    let given = read_givens(part, types, specs, class)?;
-    part.check_absent(&["peers"])?;
+    let class = class_of(part, known.types)?;
+    let given = read_givens(part, known.types, known.specs, class)?;
+    let own = read_own_peers(part, known.is_shaped(class), named)?;
     part.check_only(members, &MEMBERS)?;
     let id = String::from_str(part.alloc, id)?;
-    let body = PrototypeBody { class, given };
-    Ok(NewPrototype { id, body })
+    let body = PrototypeBody {
+        class,
+        given,
+        peers: own.peers,
+    };
+    Ok(NewPrototype {
+        id,
+        body,
+        named: own.named,
+    })
 }
 
 // Adds the prototype of an entry to those before.
+#[tactic(auto, unfolding(crate::specs::PeerDrafts::stock_at))]
 fn read_entry(
     part: Part<'_>,
-    types: &TypeTree,
-    specs: &SpecTable,
-    prototypes: &mut Prototypes,
+    known: &Classes<'_>,
+    draft: &mut PrototypeDraft,
 ) -> Result<(), ReadError>
-    requires { ArePlain types.now specs.now }
-    ensures { Leads result (prototype_at (path_of part.entry.path) types.now (specs_by types.now (own_of specs.now)) (map plain_prototype prototypes.old.entries) (view part.entry.value.now)) (map plain_prototype prototypes.new.entries) }
+    requires { ArePlain known.now.types.now known.now.specs.now }
+    ensures { Leads result (stock_at (path_of part.entry.path) known.now.types.now (specs_by known.now.types.now (own_of known.now.specs.now)) (is_shaped_by known.now.types.now (read None known.now.shaped.now)) (stock_seen draft.old) (view part.entry.value.now)) (stock_seen draft.new) }
 {
-    let new = prototype_in(part, types, specs, prototypes)?;
-    prototypes.insert(new.id, new.body)?;
+    let named = replace(&mut draft.named, PeerNames::new(part.alloc));
+    let new = prototype_in(part, known, &draft.prototypes, named)?;
+    draft.named = new.named;
+    draft.prototypes.insert(new.id, new.body)?;
     Ok(())
 }
 
 // How the entries of prototypes are read.
 #[derive(Clone, Copy)]
 struct PrototypeEntries<'a> {
-    types: &'a TypeTree,
-    specs: &'a SpecTable,
+    known: Classes<'a>,
 }
 
-impl<'a> Reads<Prototypes> for PrototypeEntries<'a> {
-    ghost use Rattle.std.specs.Prelude.{List, map};
-    ghost use Rattle.ui_machine.specs.Definition.Places as machine;
+impl<'a> Reads<PrototypeDraft> for PrototypeEntries<'a> {
+    ghost use Rattle.std.specs.Prelude.{None};
+    ghost use Rattle.ui_machine.specs.Seq.{read};
     ghost use Rattle.param_specs.specs.Table.{own_of};
-    ghost use Rattle.definition_format.specs.Meaning.{ArePlain, plain_prototype};
+    ghost use Rattle.definition_format.specs.Meaning.{ArePlain};
     ghost use Rattle.definition_format.specs.Denoted.Properties.{specs_by};
-    ghost use Rattle.definition_format.specs.Denoted.Prototypes.{prototype_at};
+    ghost use Rattle.definition_format.specs.Denoted.Shapes.{is_shaped_by};
+    ghost use Rattle.definition_objects.specs.PeerDrafts.{Stock, stock_at};
+    ghost use Rattle.definition_objects.specs.PeerViews.{stock_seen};
 
-    ghost State = { List machine.Place };
+    ghost State = { Stock };
 
-    ghost seen = { λ prototypes. map plain_prototype prototypes.entries };
+    ghost seen = { λ draft. stock_seen draft };
 
     ghost Unchanged = { Unit {0} };
 
-    ghost kept = { λ prototypes. tt };
+    ghost kept = { λ draft. tt };
 
-    ghost known = { λ r. ArePlain r.types.now r.specs.now };
+    ghost known = { λ r. ArePlain r.known.types.now r.known.specs.now };
 
-    ghost step = { λ r path prototypes d. prototype_at path r.types.now (specs_by r.types.now (own_of r.specs.now)) prototypes d };
+    ghost step = { λ r path stock d. stock_at path r.known.types.now (specs_by r.known.types.now (own_of r.known.specs.now)) (is_shaped_by r.known.types.now (read None r.known.shaped.now)) stock d };
 
-    fn read(&self, part: Part<'_>, prototypes: &mut Prototypes) -> Result<(), ReadError> {
-        read_entry(part, self.types, self.specs, prototypes)
+    fn read(&self, part: Part<'_>, draft: &mut PrototypeDraft) -> Result<(), ReadError> {
+        read_entry(part, &self.known, draft)
     }
 }
 
-/// The prototypes of a list.
-pub fn read_prototypes(
-    list: Entries<'_>,
-    types: &TypeTree,
-    specs: &SpecTable,
-) -> Result<Prototypes, ReadError>
-    requires { ArePlain types.now specs.now }
-    ensures { Gives (λ v. map plain_prototype v.entries) result (each (at_entry (λ path. prototype_at path types.now (specs_by types.now (own_of specs.now))) list.entry.path.now) 0 [] (items_view list.entry.items.now)) }
+/// The prototypes of a list, where classes have these properties and shapes, and the names of their peers.
+pub fn read_prototypes(list: Entries<'_>, known: Classes<'_>) -> Result<ReadPrototypes, ReadError>
+    requires { ArePlain known.types.now known.specs.now }
+    ensures prototypes { Gives (λ r. map plain_prototype r.prototypes.entries) result (each (at_entry (λ path. prototype_at path known.entry.types.now (specs_by known.entry.types.now (own_of known.entry.specs.now)) (is_shaped_by known.entry.types.now (read None known.entry.shaped.now))) list.entry.path.now) 0 [] (items_view list.entry.items.now)) }
+    ensures named { IfOk result (λ r. is_named_in r.named ≡ is_among (peers_of (map plain_prototype r.prototypes.entries))) }
 {
-    let mut prototypes = IndexMap::new(list.alloc);
-    let reader = PrototypeEntries { types, specs };
-    read_each(&reader, list, &mut prototypes)?;
-    Ok(prototypes)
+    let mut draft = PrototypeDraft {
+        prototypes: IndexMap::new(list.alloc),
+        named: PeerNames::new(list.alloc),
+    };
+    read_each(&PrototypeEntries { known }, list, &mut draft)?;
+    Ok(ReadPrototypes {
+        prototypes: draft.prototypes,
+        named: draft.named,
+    })
 }

@@ -6,7 +6,7 @@ use Rattle.std.specs.Map.{keys_of}
 use Rattle.std.specs.Str.{bytes_eq}
 use Rattle.serde_json.specs.declared.value.Value.{Value}
 use Rattle.serde_json.specs.View.{members_view, items_view}
-use Rattle.definition_format.specs.Document.{is_among, is_empty_list, first_other}
+use Rattle.definition_format.specs.Document.{is_among, first_other}
 
 found_or : (known : Bool) (key : String Global) (rest : Option (List ℕ)) (later : Option (String Global)) → rest ≡ option_map string_bytes later → cond known rest (Some (string_bytes key)) ≡ option_map string_bytes (cond (not known) (Some key) later)
 found_or true key rest later e = e
@@ -26,18 +26,3 @@ first_other_is name ks [] = refl
 first_other_is name ks (e ∷ es) =
     ap (λ b. cond b (first_other (map name ks) (members_view es)) (Some (string_bytes e.0))) (any_map name (string_bytes e.0) ks)
     ∙ found_or (list_any (λ k. bytes_eq (name k) (string_bytes e.0)) ks) e.0 _ _ (first_other_is name ks es)
-
-find_or : {A : Type 0} (name : A → List ℕ) (b : Bool) (x : A) (rest : Option A) (r : Option (List ℕ)) → r ≡ option_map name rest → cond b (Some (name x)) r ≡ option_map name (cond b (Some x) rest)
-find_or name true x rest r e = refl
-find_or name false x rest r e = e
-
-pub find_map : {A : Type 0} (test : List ℕ → Bool) (name : A → List ℕ) (xs : List A) → find test (map name xs) ≡ option_map name (find (λ x. test (name x)) xs)
-find_map test name [] = refl
-find_map test name (x ∷ xs) = find_or name (test (name x)) x (find (λ y. test (name y)) xs) _ (find_map test name xs)
-
-some_items : (n : ℕ) → false ≡ nat_eq (suc n) 0
-some_items n = grind (arith, nat_tests)
-
-pub no_items_is : (vs : List Value) → is_empty_list (Some (items_view vs)) ≡ nat_eq (length vs) 0
-no_items_is [] = refl
-no_items_is (v ∷ vs) = some_items (length vs)

@@ -10,7 +10,7 @@ use Rattle.ui_machine.specs.Definition.Properties.{Spec}
 use Rattle.ui_machine.specs.Definition.Signals.{ClassHandler, Signal}
 use Rattle.definition_format.specs.declared.faults.ReadError.{ReadError}
 use Rattle.definition_format.specs.Refusals.{Refusal, Fails, shape, or_refused}
-use Rattle.definition_format.specs.Document.{under, nothing_at, listed_ahead, entries_at, each, at_entry}
+use Rattle.definition_format.specs.Document.{under, listed_ahead, entries_at, each, at_entry}
 use Rattle.definition_format.specs.Denoted.Enums.{three_in, some_items, some_entries_at, enum_at, flags_at}
 use Rattle.definition_format.specs.Denoted.Entries.{ProgramNames, TypeNames}
 use Rattle.definition_format.specs.Denoted.Properties.{property_at}
@@ -19,7 +19,8 @@ use Rattle.definition_format.specs.Denoted.Drafts.{ClassDraft, bare_draft, prope
 use Rattle.definition_format.specs.Denoted.Interfaces.{interface_at}
 use Rattle.definition_format.specs.Denoted.ClassHandlers.{two_in, class_handler_at, class_handlers_at}
 use Rattle.definition_format.specs.Denoted.Classes.{class_at}
-use Rattle.definition_format.specs.Denoted.{unset_before_classes, enums_in, flags_in, interfaces_in, classes_in}
+use Rattle.definition_format.specs.Denoted.Shapes.{shape_at, shapes_in}
+use Rattle.definition_format.specs.Denoted.{enums_in, flags_in, interfaces_in, classes_in}
 use Rattle.definition_parts.proofs.Chains.{fails_as}
 
 pub not_three : (vs : List Value) → (length vs ≡ 3 → ⊥) → None ≡ three_in (items_view vs)
@@ -60,13 +61,18 @@ interfaces_fail names types d list e read fails =
     fails_as e _ _
     (ap (λ (r : Result Items Refusal). r >>= λ list. each (at_entry (λ path. interface_at path (length types) list (listed_ahead (codes "classes") d) names) (codes "/interfaces")) 0 (bare_draft types) list) read) fails
 
-pub classes_fail : (names : TypeNames) (programs : ProgramNames) (draft : ClassDraft) (d : Data) (list : Items) (e : ReadError) → nothing_at [] d unset_before_classes ≡ Ok tt → entries_at [] d (codes "classes") ≡ Ok list
+pub shapes_read_fail : (d : Data) (list : Items) (e : ReadError) → entries_at [] d (codes "shapes") ≡ Ok list
+    → Fails e (each (at_entry shape_at (codes "/shapes")) 0 [] list) → Fails e (shapes_in d)
+unfolding shapes_in
+shapes_read_fail d list e read fails =
+    fails_as e _ _ (ap (λ (r : Result Items Refusal). r >>= λ list. each (at_entry shape_at (codes "/shapes")) 0 [] list) read) fails
+
+pub classes_fail : (names : TypeNames) (programs : ProgramNames) (draft : ClassDraft) (d : Data) (list : Items) (e : ReadError) → entries_at [] d (codes "classes") ≡ Ok list
     → Fails e (each (at_entry (λ path. class_at path (length draft.types) list names programs) (codes "/classes")) 0 draft list) → Fails e (classes_in names programs draft d)
 unfolding classes_in
-classes_fail names programs draft d list e unset read fails =
+classes_fail names programs draft d list e read fails =
     fails_as e _ _
-    (ap (λ (r : Result (Unit {0}) Refusal). r >>= λ u. entries_at [] d (codes "classes") >>= λ list. each (at_entry (λ path. class_at path (length draft.types) list names programs) (codes "/classes")) 0 draft list) unset
-    ∙ ap (λ (r : Result Items Refusal). r >>= λ list. each (at_entry (λ path. class_at path (length draft.types) list names programs) (codes "/classes")) 0 draft list) read) fails
+    (ap (λ (r : Result Items Refusal). r >>= λ list. each (at_entry (λ path. class_at path (length draft.types) list names programs) (codes "/classes")) 0 draft list) read) fails
 
 pub properties_read_fail : (path : List ℕ) (types : List GType) (names : TypeNames) (t : ℕ) (own : ℕ → List Spec) (d : Data) (list : Items) (e : ReadError)
     → entries_at path d (codes "properties") ≡ Ok list

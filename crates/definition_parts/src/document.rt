@@ -8,7 +8,7 @@ ghost use Rattle.std.specs.BTreeMap.{keys};
 ghost use Rattle.serde_json.specs.View.{view, items_view, members_view};
 ghost use Rattle.serde_json.specs.Find.{as_str, get};
 ghost use Rattle.definition_format.specs.Refusals.{Gives, IsRefusal, or_refused, shape, unknown, value_fault};
-ghost use Rattle.definition_format.specs.Document.{under, nth, path_of, at_key, members_at, text_at, truth_at, entries_at, is_absent_or_empty, listed_ahead, nothing_at, absent_at, escaped, only_at, document};
+ghost use Rattle.definition_format.specs.Document.{under, nth, path_of, at_key, members_at, text_at, truth_at, entries_at, listed_ahead, escaped, only_at, document};
 
 use definition_format::{DefinitionFault, Path, ReadError};
 use g_values::JsonFault;
@@ -155,20 +155,6 @@ pub fn bad_value(
     Ok(ReadError::Refused(DefinitionFault::ValueFault(path, cause)))
 }
 
-// Whether a member is absent or an empty list.
-#[tactic(auto, using(crate::proofs::Members::no_items_is))]
-fn is_absent_or_empty(member: Option<&Value>) -> bool
-    ensures { result ≡ is_absent_or_empty (option_map (λ m. view m.now) member.entry) }
-{
-    match member {
-        None => true,
-        Some(value) => match value.as_array() {
-            Some(items) => items.is_empty(),
-            None => false,
-        },
-    }
-}
-
 /// The entries of a member that is a list, read ahead; none where it is no list.
 pub fn listed_ahead<'a>(value: &'a Value, key: &str) -> &'a [Value]
     ensures { items_view result.now ≡ listed_ahead key.now (view value.now) }
@@ -228,28 +214,6 @@ impl<'a> Part<'a> {
         }
     }
 
-    /// Tests that lists, of which there is nothing so far, are absent or empty.
-    #[tactic(auto, using(crate::proofs::Members::find_map))]
-    pub fn check_nothing(self, keys: &[&str]) -> Result<(), ReadError>
-        ensures { Gives (λ _. tt) result (nothing_at (path_of self.entry.path) (view self.entry.value.now) (map (λ k. k.now) keys.now)) }
-    {
-        match first_given(self.value, keys) {
-            None => Ok(()),
-            Some(key) => Err(bad_shape(self.alloc, self.path, key)?),
-        }
-    }
-
-    /// Tests that members, which are no lists, are absent so far.
-    #[tactic(auto, using(crate::proofs::Members::find_map))]
-    pub fn check_absent(self, keys: &[&str]) -> Result<(), ReadError>
-        ensures { Gives (λ _. tt) result (absent_at (path_of self.entry.path) (view self.entry.value.now) (map (λ k. k.now) keys.now)) }
-    {
-        match first_present(self.value, keys) {
-            None => Ok(()),
-            Some(key) => Err(bad_shape(self.alloc, self.path, key)?),
-        }
-    }
-
     /// Tests that the members have no other keys.
     #[tactic(auto, using(crate::proofs::Members::first_other_is))]
     pub fn check_only(self, members: &Map<String, Value>, keys: &[&str]) -> Result<(), ReadError>
@@ -263,22 +227,6 @@ impl<'a> Part<'a> {
             }
         }
     }
-}
-
-// The first member of these that is there.
-fn first_present<'a>(value: &Value, keys: &[&'a str]) -> Option<&'a str>
-    ensures { result ≡ find (λ k. is_some (get k.now (view value.now))) keys.now }
-{
-    keys.iter().copied().find(|key| value.get(*key).is_some())
-}
-
-// The first member of these that is neither absent nor an empty list.
-fn first_given<'a>(value: &Value, keys: &[&'a str]) -> Option<&'a str>
-    ensures { result ≡ find (λ k. not (is_absent_or_empty (get k.now (view value.now)))) keys.now }
-{
-    keys.iter()
-        .copied()
-        .find(|key| !is_absent_or_empty(value.get(*key)))
 }
 
 // Whether a key is one of these.

@@ -15,8 +15,8 @@ use definition_format::ReadError;
 use g_values::Kind;
 use type_tree::{TypeId, TypeTree};
 
-// The kind of a word that names no type, of the kinds that there are so far.
-fn kind_named(word: &str) -> Option<Kind>
+/// The kind of a word that names no type.
+pub fn kind_named(word: &str) -> Option<Kind>
     ensures kind { option_map kind_view result ≡ kind_named word.now }
     ensures known { IfSome result (λ k. (types : List GType) → IsKnown types k) }
 {

@@ -1,9 +1,18 @@
 //! Names of what is neither a type nor a property.
 
-ghost use Rattle.std.specs.Prelude.{◌≡◌};
+ghost use Rattle.std.specs.Prelude.{◌≡◌, option_map};
+ghost use Rattle.serde_json.specs.Find.{as_str};
+ghost use Rattle.serde_json.specs.View.{view};
 ghost use Rattle.std.specs.List.{list_all};
 ghost use Rattle.type_tree.specs.TypeName.{is_within};
+ghost use Rattle.definition_format.specs.Denoted.Enums.{name_at, name_if};
 ghost use Rattle.definition_format.specs.Denoted.Names.{is_name_byte, is_name};
+ghost use Rattle.definition_format.specs.Document.{path_of, under};
+ghost use Rattle.definition_format.specs.Refusals.{Gives};
+
+use crate::document::{Part, bad_shape, bad_shape_at};
+use definition_format::ReadError;
+use serde_json::Value;
 
 // An ASCII letter, a digit, `-` or `_`.
 fn is_name_byte(byte: u8) -> bool
@@ -31,4 +40,32 @@ pub fn is_name(name: &str) -> bool
     ensures { result ≡ is_name name.now }
 {
     is_name_length(name.len()) && are_name_bytes(name)
+}
+
+/// The name that a value is, if it is one.
+pub fn name_in(value: &Value) -> Option<&str>
+    ensures { option_map (λ s. s.now) result ≡ name_if (as_str (view value.now)) }
+{
+    let name = value.as_str()?;
+    if is_name(name) { Some(name) } else { None }
+}
+
+/// The name that a member of an entry is.
+pub fn name_under<'a>(part: Part<'_>, key: &str, value: &'a Value) -> Result<&'a str, ReadError>
+    ensures { Gives (λ s. s.now) result (name_at (under (path_of part.entry.path) key.now) (view value.now)) }
+{
+    match name_in(value) {
+        Some(name) => Ok(name),
+        None => Err(bad_shape(part.alloc, part.path, key)?),
+    }
+}
+
+/// The name that an entry is.
+pub fn name_of_entry<'a>(part: Part<'a>) -> Result<&'a str, ReadError>
+    ensures { Gives (λ s. s.now) result (name_at (path_of part.entry.path) (view part.entry.value.now)) }
+{
+    match name_in(part.value) {
+        Some(name) => Ok(name),
+        None => Err(bad_shape_at(part, None)?),
+    }
 }

@@ -9,7 +9,8 @@ ghost use Rattle.signal_core.specs.SignalView.{declared_view};
 ghost use Rattle.law_typing.specs.Rules.Handlers.{attached_faults, attached_fits, class_faults, class_handler_faults, class_handler_fits, constructed_faults, constructed_fits, handler_faults, place_faults};
 ghost use Rattle.law_typing.specs.Rules.Signatures.{given_kinds, is_taken_by};
 ghost use Rattle.definition_rules.specs.Faults.{handling_fault};
-ghost use Rattle.definition_rules.specs.Parts.{entry_view, faults_of_class};
+ghost use Rattle.definitions.specs.EntryView.{entry_view};
+ghost use Rattle.definition_rules.specs.Parts.{faults_of_class};
 
 use bytecode::RegisterKind;
 use definition_format::Attached;

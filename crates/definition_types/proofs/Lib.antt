@@ -3,9 +3,10 @@ pub mod Finding
 pub mod OwnAhead
 pub mod NamesAhead
 pub mod Implementing
-pub mod ByType
+pub mod NamedByType
 pub mod Answering
 pub mod EnumParts
 pub mod Drafting
 pub mod HandlerParts
 pub mod ImplementParts
+pub mod AddedShapes

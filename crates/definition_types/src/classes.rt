@@ -1,23 +1,27 @@
 //! The classes of a definition.
 
-ghost use Rattle.std.specs.Prelude.{◌≡◌, ◌<◌, codes, length, IfOk};
+ghost use Rattle.std.specs.Prelude.{◌≡◌, ◌<◌, codes, length, map, IfOk};
 ghost use Rattle.serde_json.specs.View.{view, items_view};
 ghost use Rattle.serde_json.specs.Find.{get};
 ghost use Rattle.definition_format.specs.Causes.{cause_view};
+ghost use Rattle.definition_format.specs.Meaning.{plain_shape};
 ghost use Rattle.definition_format.specs.Refusals.{Gives, Leads, IsRefusal, bad_type};
 ghost use Rattle.definition_format.specs.Document.{under, path_of, each, at_entry};
 ghost use Rattle.definition_format.specs.Denoted.Drafts.{answers_of, class_draft_of, draft_of};
 ghost use Rattle.definition_format.specs.Denoted.Classes.{parent_called, named_parent, parent_at, parent_ahead, check_depth, flags_at, declared_at, answers_at, class_at};
 
+use crate::class_drafts::ClassDraft;
 use crate::class_handlers::give_class_handlers;
+use crate::class_shapes::give_shape;
 use crate::constructed::give_constructed;
 use crate::implements::read_implements;
 use crate::types::{check_room, check_type_name, is_declared};
 use definition_format::{DefinitionFault, DefinitionLimit, ReadError, TypeCause};
-use definition_members::drafts::{ClassDraft, give_members};
+use definition_members::drafts::give_members;
 use definition_parts::document::{Entries, Part, bad_shape, path_under, unknown_name};
 use definition_parts::entries::{ProgramNames, TypeNames};
 use definition_parts::reads::{Reads, read_each};
+use definitions::shapes::Shapes;
 use param_specs::SpecTable;
 use serde_json::Value;
 use signal_core::SignalTable;
@@ -160,25 +164,28 @@ fn declare(
     Ok(class)
 }
 
-// Gives a class the programs of its entry.
+// Gives a class what its entry names.
 #[tactic(auto, unfolding(definition_format::specs::Denoted::Classes::answers_at))]
 fn give_answers(
     part: Part<'_>,
     programs: &ProgramNames<'_>,
+    types: &TypeTree,
+    shapes: &Shapes,
     signals: &mut SignalTable,
     constructed: &mut Vec<Option<ProgramId>>,
+    shaped: &mut Vec<Option<usize>>,
     class: TypeId,
 ) -> Result<(), ReadError>
-    ensures answers { Leads result (answers_at (path_of part.entry.path) programs.now class (answers_of signals.old.handlers constructed.old.items) (view part.entry.value.now)) (answers_of signals.new.handlers constructed.new.items) }
+    ensures answers { Leads result (answers_at (path_of part.entry.path) programs.now types.now class (answers_of (map plain_shape shapes.now.entries) signals.old.handlers constructed.old.items shaped.old.items) (view part.entry.value.now)) (answers_of (map plain_shape shapes.now.entries) signals.new.handlers constructed.new.items shaped.new.items) }
     ensures signals { signals.new.signals ≡ signals.old.signals }
 {
     give_class_handlers(part, programs, signals, class)?;
     give_constructed(part, programs, constructed, class)?;
-    part.check_absent(&["shape"])?;
+    give_shape(part, types, shapes, shaped, class)?;
     Ok(())
 }
 
-// Adds the class of an entry, with its properties, its signals and the programs that it names.
+// Adds the class of an entry, with its properties, its signals and what it names.
 #[tactic(auto, unfolding(definition_format::specs::Denoted::Drafts::type_at))]
 fn read_class(
     part: Part<'_>,
@@ -190,13 +197,24 @@ fn read_class(
     specs: &mut SpecTable,
     signals: &mut SignalTable,
     constructed: &mut Vec<Option<ProgramId>>,
+    shapes: &Shapes,
+    shaped: &mut Vec<Option<usize>>,
 ) -> Result<(), ReadError>
-    ensures { Leads result (class_at (path_of part.entry.path) first (items_view list.now) names.now programs.now (class_draft_of types.old specs.old signals.old constructed.old.items) (view part.entry.value.now)) (class_draft_of types.new specs.new signals.new constructed.new.items) }
+    ensures { Leads result (class_at (path_of part.entry.path) first (items_view list.now) names.now programs.now (class_draft_of types.old specs.old signals.old constructed.old.items (map plain_shape shapes.now.entries) shaped.old.items) (view part.entry.value.now)) (class_draft_of types.new specs.new signals.new constructed.new.items (map plain_shape shapes.now.entries) shaped.new.items) }
 {
     let members = part.members()?;
     let class = declare(part, first, list, names, types, specs, signals)?;
     give_members(part, types, names, specs, signals, class)?;
-    give_answers(part, programs, signals, constructed, class)?;
+    give_answers(
+        part,
+        programs,
+        types,
+        shapes,
+        signals,
+        constructed,
+        shaped,
+        class,
+    )?;
     part.check_only(members, &MEMBERS)?;
     Ok(())
 }
@@ -214,10 +232,12 @@ impl<'a> Reads<ClassDraft> for ClassEntries<'a> {
     ghost use Rattle.serde_json.specs.View.{items_view};
     ghost use Rattle.definition_format.specs.Denoted.Classes as denoted;
     ghost use Rattle.definition_format.specs.Denoted.Drafts as drafts;
+    ghost use Rattle.definition_format.specs.Meaning.{plain_shape};
+    ghost use Rattle.std.specs.Prelude.{map};
 
     ghost State = { drafts.ClassDraft };
 
-    ghost seen = { λ draft. drafts.class_draft_of draft.types draft.specs draft.signals draft.constructed.items };
+    ghost seen = { λ draft. drafts.class_draft_of draft.types draft.specs draft.signals draft.constructed.items (map plain_shape draft.shapes.entries) draft.shaped.items };
 
     ghost Unchanged = { Unit {0} };
 
@@ -238,6 +258,8 @@ impl<'a> Reads<ClassDraft> for ClassEntries<'a> {
             &mut draft.specs,
             &mut draft.signals,
             &mut draft.constructed,
+            &draft.shapes,
+            &mut draft.shaped,
         )
     }
 }
@@ -249,7 +271,7 @@ pub fn read_classes(
     programs: &ProgramNames<'_>,
     draft: &mut ClassDraft,
 ) -> Result<(), ReadError>
-    ensures { Leads result (each (at_entry (λ path. class_at path (length draft.old.types) (items_view list.entry.items.now) names.now programs.now) list.entry.path.now) 0 (class_draft_of draft.old.types draft.old.specs draft.old.signals draft.old.constructed.items) (items_view list.entry.items.now)) (class_draft_of draft.new.types draft.new.specs draft.new.signals draft.new.constructed.items) }
+    ensures { Leads result (each (at_entry (λ path. class_at path (length draft.old.types) (items_view list.entry.items.now) names.now programs.now) list.entry.path.now) 0 (class_draft_of draft.old.types draft.old.specs draft.old.signals draft.old.constructed.items (map plain_shape draft.old.shapes.entries) draft.old.shaped.items) (items_view list.entry.items.now)) (class_draft_of draft.new.types draft.new.specs draft.new.signals draft.new.constructed.items (map plain_shape draft.new.shapes.entries) draft.new.shaped.items) }
 {
     let reader = ClassEntries {
         first: draft.types.len(),

@@ -1,35 +1,24 @@
 //! The programs that classes run on their objects once these are constructed.
 
-ghost use Rattle.std.specs.Prelude.{◌≡◌, ◌≤◌, ℕ, None, Ok, OnOk, codes, vec_len};
+ghost use Rattle.std.specs.Prelude.{None, Ok, codes};
 ghost use Rattle.serde_json.specs.Find.{get};
 ghost use Rattle.serde_json.specs.View.{view};
 ghost use Rattle.ui_machine.specs.Seq.{read};
 ghost use Rattle.definition_format.specs.Refusals.{Gives, Leads};
 ghost use Rattle.definition_format.specs.Document.{path_of, under};
-ghost use Rattle.definition_format.specs.Denoted.Enums.{name_at};
 ghost use Rattle.definition_format.specs.Denoted.ClassHandlers.{program_at};
-ghost use Rattle.definition_format.specs.Denoted.Constructed.{add_program, constructed_at, program_or, set_program};
+ghost use Rattle.definition_format.specs.Denoted.Constructed.{add_program, constructed_at, program_or};
 
-use crate::enums::name_in;
+use crate::by_type::set_named;
 use definition_format::ReadError;
-use definition_parts::document::{Part, bad_shape, unknown_name};
+use definition_parts::document::{Part, unknown_name};
 use definition_parts::entries::ProgramNames;
+use definition_parts::names::name_under;
 use serde_json::Value;
-use std::alloc::AllocError;
 use type_tree::TypeId;
 use ui_machine::ProgramId;
 
 const MEMBER: &str = "constructed";
-
-// The name of a program.
-fn name_of<'a>(part: Part<'_>, value: &'a Value) -> Result<&'a str, ReadError>
-    ensures { Gives (λ s. s.now) result (name_at (under (path_of part.entry.path) (codes "constructed")) (view value.now)) }
-{
-    match name_in(value) {
-        Some(name) => Ok(name),
-        None => Err(bad_shape(part.alloc, part.path, MEMBER)?),
-    }
-}
 
 // The program that is named.
 #[tactic(auto, unfolding(definition_format::specs::Denoted::ClassHandlers::program_at))]
@@ -40,7 +29,7 @@ fn program_in(
 ) -> Result<ProgramId, ReadError>
     ensures { Gives (λ n. n) result (program_at (under (path_of part.entry.path) (codes "constructed")) programs.now (view value.now)) }
 {
-    let name = name_of(part, value)?;
+    let name = name_under(part, MEMBER, value)?;
     match programs.number(name) {
         Some(number) => Ok(number),
         None => Err(unknown_name(part, MEMBER, name)?),
@@ -59,33 +48,7 @@ fn program_of(part: Part<'_>, programs: &ProgramNames<'_>) -> Result<Option<Prog
     Ok(Some(program))
 }
 
-// Goes on with types that name no program until there are so many.
-fn grow(constructed: &mut Vec<Option<ProgramId>>, len: usize) -> Result<(), AllocError>
-    requires { len ≤ 65536 }
-    ensures same { (u : ℕ) → read None constructed.new.items u ≡ read None constructed.old.items u }
-    ensures ok { OnOk result (len ≤ vec_len constructed.new) }
-{
-    'growing: while constructed.len() < len {
-        constructed.push(None)?;
-    }
-    Ok(())
-}
-
-// Gives a type a program.
-fn set_program(
-    constructed: &mut Vec<Option<ProgramId>>,
-    t: TypeId,
-    program: ProgramId,
-) -> Result<(), AllocError>
-    ensures { (u : ℕ) → OnOk result (read None constructed.new.items u ≡ set_program (read None constructed.old.items) t program u) }
-{
-    let at = t.index();
-    grow(constructed, at + 1)?;
-    constructed[at] = Some(program);
-    Ok(())
-}
-
-// The same, if there is one.
+// Gives a type a program, if there is one.
 fn add_program(
     constructed: &mut Vec<Option<ProgramId>>,
     t: TypeId,
@@ -94,7 +57,7 @@ fn add_program(
     ensures { Leads result (Ok (add_program (read None constructed.old.items) t program)) (read None constructed.new.items) }
 {
     if let Some(program) = program {
-        set_program(constructed, t, program)?;
+        set_named(constructed, t, program)?;
     }
     Ok(())
 }

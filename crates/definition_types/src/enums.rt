@@ -15,7 +15,7 @@ use crate::enum_drafts::EnumDraft;
 use crate::types::{check_room, check_type_name};
 use definition_format::{DefinitionFault, ReadError};
 use definition_parts::document::{Entries, Part, bad_shape, path_text, path_under, path_within};
-use definition_parts::names::is_name;
+use definition_parts::names::name_in;
 use definition_parts::numbers::whole_number;
 use definition_parts::reads::{Reads, read_each};
 use serde_json::Value;
@@ -53,14 +53,6 @@ pub(crate) fn bad_part(part: Part<'_>, index: usize) -> Result<ReadError, ReadEr
     ensures { IsRefusal (shape (nth (path_of part.entry.path) index)) result }
 {
     Ok(ReadError::Refused(DefinitionFault::Shape(path_within(part.alloc, part.path, index)?)))
-}
-
-// A name, if the value is one.
-pub(crate) fn name_in(value: &Value) -> Option<&str>
-    ensures { option_map (λ s. s.now) result ≡ name_if (as_str (view value.now)) }
-{
-    let name = value.as_str()?;
-    if is_name(name) { Some(name) } else { None }
 }
 
 // A name, the part of an entry with this index.

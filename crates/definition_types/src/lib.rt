@@ -1,8 +1,11 @@
 //! The types of a definition, read from its document: enums, flags types, interfaces and classes, with their properties, their signals and the
-//! programs that they name.
+//! programs and shapes that they name; and shapes.
 #![tactic(auto)]
 
+mod by_type;
+mod class_drafts;
 mod class_handlers;
+mod class_shapes;
 mod classes;
 mod constructed;
 mod enum_drafts;
@@ -13,10 +16,13 @@ mod implements;
 mod interfaces;
 mod overrides;
 mod own_signals;
+mod shapes;
 mod spelling;
 mod types;
 
+pub use class_drafts::ClassDraft;
 pub use classes::read_classes;
-pub use definition_members::{ClassDraft, Draft, value_of};
+pub use definition_members::{Draft, value_of};
 pub use enums::{read_enums, read_flags_types};
 pub use interfaces::read_interfaces;
+pub use shapes::read_shapes;

@@ -1,1 +1,2 @@
 pub mod PartsView
+pub mod EntryView

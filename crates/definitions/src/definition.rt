@@ -5,6 +5,7 @@ ghost use Rattle.ui_machine.specs.Definition.Names.{place_named};
 ghost use Rattle.ui_machine.specs.Definition.Lookups.{class_of, place_of, program_at, program_of, spec_of, specs_of, slot_of, type_of};
 ghost use Rattle.ui_machine.specs.Seq.{read};
 ghost use Rattle.ui_machine.specs.Rules.Connections.{signal_number};
+ghost use Rattle.ui_machine.specs.Rules.Construction.{nearest_shape};
 ghost use Rattle.ui_machine.specs.Rules.EmissionPlan.{class_handler_of, signal_of};
 ghost use Rattle.bytecode.specs.Known.{HasKnownBlocks};
 ghost use Rattle.bytecode.specs.View.{program_view};
@@ -12,25 +13,28 @@ ghost use Rattle.param_specs.specs.View.{spec_view};
 ghost use Rattle.signal_core.specs.Emission.{begun};
 ghost use Rattle.signal_core.specs.Laws.{walk_for};
 ghost use Rattle.signal_core.specs.SignalView.{declared_view};
-ghost use Rattle.definition_format.specs.Meaning.{AreLimits, IsBasic, attached_view, bare_place, bind_view, place_number, places_of, class_at, object_count, object_place, plain_object, plain_prototype, planned, given_property, meaning};
+ghost use Rattle.definition_format.specs.Meaning.{AreLimits, IsBasic, bind_view, places_of, class_at, object_count, object_place, plain_object, plain_prototype, planned, meaning};
 ghost use Rattle.definition_format.specs.Origin.{IsDenoted};
+ghost use Rattle.definitions.specs.EntryView.{entry_view};
 ghost use Rattle.definitions.specs.PartsView.{AreRead, parts_of};
 
 use crate::object_entries::ObjectEntry;
 use crate::parts::Parts;
 use crate::places::{Objects, Prototypes, place_in, position_of};
 use crate::programs::{Programs, number_of};
+use crate::shapes::{Shapes, shape_number};
 use crate::types::type_name;
 use bytecode::Program;
 use definition_format::Bind;
 use param_specs::{Spec, SpecTable};
+use peer_shapes::Shape;
 use signal_core::{ClassHandler, DeclaredSignal, Emission, SignalTable};
 use std::marker::Model;
 use type_tree::{TypeId, TypeTree};
 use ui_machine::{Limits, ObjectId, Place, ProgramId, SignalId, Slot};
 
-/// A definition: its types with their properties and signals, and the programs that classes name; its programs, its prototypes and its objects
-/// in document order; its bindings; and its limits. Its places are its objects and, behind them, its prototypes. It is seen as the machine's.
+/// A definition: its types with their properties and signals, and the programs and shapes that classes name; its shapes, its programs, its
+/// prototypes and its objects in document order; its bindings; and its limits. Its places are its objects and, behind them, its prototypes. It is seen as the machine's.
 #[derive(Drop)]
 pub struct Definition {
     types: TypeTree,
@@ -38,6 +42,9 @@ pub struct Definition {
     signals: SignalTable,
     // The programs that classes name for their objects once they are constructed, by class.
     constructed: Vec<Option<ProgramId>>,
+    shapes: Shapes,
+    // The shapes that classes name, by class.
+    shaped: Vec<Option<usize>>,
     programs: Programs,
     prototypes: Prototypes,
     objects: Objects,
@@ -53,9 +60,9 @@ impl Model for Definition {
     ghost use Rattle.definition_format.specs.Meaning.{meaning, parts};
     ghost use Rattle.definitions.specs.PartsView.{AreRead};
 
-    ghost view = { λ d. meaning (parts d.types d.specs d.signals d.constructed.items d.programs.entries d.prototypes.entries d.objects.entries d.bindings.items d.limits) };
+    ghost view = { λ d. meaning (parts d.types d.specs d.signals d.constructed.items d.shapes.entries d.shaped.items d.programs.entries d.prototypes.entries d.objects.entries d.bindings.items d.limits) };
 
-    ghost invariant = { λ d. AreRead (parts d.types d.specs d.signals d.constructed.items d.programs.entries d.prototypes.entries d.objects.entries d.bindings.items d.limits) };
+    ghost invariant = { λ d. AreRead (parts d.types d.specs d.signals d.constructed.items d.shapes.entries d.shaped.items d.programs.entries d.prototypes.entries d.objects.entries d.bindings.items d.limits) };
 }
 
 impl Definition {
@@ -69,6 +76,8 @@ impl Definition {
             specs: parts.specs,
             signals: parts.signals,
             constructed: parts.constructed,
+            shapes: parts.shapes,
+            shaped: parts.shaped,
             programs: parts.programs,
             prototypes: parts.prototypes,
             objects: parts.objects,
@@ -77,7 +86,7 @@ impl Definition {
         }
     }
 
-    /// Its types. Some bytes denote the definition, which has no bindings or peers.
+    /// Its types. Some bytes denote the definition.
     pub fn types(&self) -> &TypeTree
         ensures types { result.now ≡ self.now.types }
         ensures basic { IsBasic self.now }
@@ -113,7 +122,7 @@ impl Definition {
 
     /// The object or prototype at a place, if there is one.
     pub fn object(&self, place: usize) -> Option<ObjectEntry<'_>>
-        ensures { option_map (λ o. bare_place o.id.now o.class o.is_prototype (place_number o.parent) (map given_property o.given.now) (map attached_view o.signals.now)) result ≡ slice_get self.now.places place }
+        ensures { option_map entry_view result ≡ slice_get self.now.places place }
     {
         let count = self.objects.len();
         if place < count {
@@ -266,6 +275,31 @@ impl Definition {
         number_at(self.constructed.as_slice(), class.index())
     }
 
+    /// The number of the shape of a class: the one that it names, or that of its nearest ancestor that names one.
+    pub fn shape_number(&self, class: TypeId) -> Option<usize>
+        ensures { result ≡ nearest_shape self.now class }
+    {
+        shape_number(&self.types, self.shaped.as_slice(), class)
+    }
+
+    /// The methods of the shape of a number, if there are so many shapes: they are numbered in document order.
+    pub fn shape(&self, number: usize) -> Option<&Shape>
+        ensures { option_map (λ s. s.now) result ≡ option_map (λ s. s.methods) (slice_get self.now.shapes number) }
+    {
+        let (_, shape) = self.shapes.get_index(number)?;
+        Some(shape)
+    }
+
+    /// The name of the shape of a number, and nothing where there are not so many.
+    pub fn shape_name(&self, number: usize) -> &str
+        ensures { IfSome (slice_get self.now.shapes number) (λ s. result.now ≡ s.name) }
+    {
+        match self.shapes.get_index(number) {
+            Some((name, _)) => name.as_str(),
+            None => "",
+        }
+    }
+
     /// How many types it has, classes among them.
     pub fn class_count(&self) -> usize
         ensures count { result ≡ length self.now.classes }
@@ -313,7 +347,7 @@ impl Definition {
 
 // The object of a number, if there is one.
 fn object_entry(objects: &Objects, number: usize) -> Option<ObjectEntry<'_>>
-    ensures { option_map (λ o. bare_place o.id.now o.class o.is_prototype (place_number o.parent) (map given_property o.given.now) (map attached_view o.signals.now)) result ≡ slice_get (map plain_object objects.now.entries) number }
+    ensures { option_map entry_view result ≡ slice_get (map plain_object objects.now.entries) number }
 {
     let (id, body) = objects.get_index(number)?;
     Some(ObjectEntry {
@@ -321,6 +355,7 @@ fn object_entry(objects: &Objects, number: usize) -> Option<ObjectEntry<'_>>
         class: body.class,
         is_prototype: false,
         parent: body.parent,
+        peers: body.peers.as_slice(),
         given: body.given.as_slice(),
         signals: body.signals.as_slice(),
     })
@@ -328,7 +363,7 @@ fn object_entry(objects: &Objects, number: usize) -> Option<ObjectEntry<'_>>
 
 // The prototype of a number, if there is one.
 fn prototype_entry(prototypes: &Prototypes, number: usize) -> Option<ObjectEntry<'_>>
-    ensures { option_map (λ o. bare_place o.id.now o.class o.is_prototype (place_number o.parent) (map given_property o.given.now) (map attached_view o.signals.now)) result ≡ slice_get (map plain_prototype prototypes.now.entries) number }
+    ensures { option_map entry_view result ≡ slice_get (map plain_prototype prototypes.now.entries) number }
 {
     let (id, body) = prototypes.get_index(number)?;
     Some(ObjectEntry {
@@ -336,6 +371,7 @@ fn prototype_entry(prototypes: &Prototypes, number: usize) -> Option<ObjectEntry
         class: body.class,
         is_prototype: true,
         parent: None,
+        peers: body.peers.as_slice(),
         given: body.given.as_slice(),
         signals: &[],
     })

@@ -6,6 +6,7 @@ mod object_entries;
 mod parts;
 pub mod places;
 pub mod programs;
+pub mod shapes;
 pub mod types;
 
 pub use definition::Definition;

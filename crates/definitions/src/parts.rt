@@ -2,6 +2,7 @@
 
 use crate::places::{Objects, Prototypes};
 use crate::programs::Programs;
+use crate::shapes::Shapes;
 use definition_format::Bind;
 use param_specs::SpecTable;
 use signal_core::SignalTable;
@@ -16,6 +17,9 @@ pub struct Parts {
     pub signals: SignalTable,
     /// The programs that classes name for their objects once they are constructed, by class.
     pub constructed: Vec<Option<ProgramId>>,
+    pub shapes: Shapes,
+    /// The shapes that classes name, by class.
+    pub shaped: Vec<Option<usize>>,
     pub programs: Programs,
     pub prototypes: Prototypes,
     pub objects: Objects,

@@ -196,6 +196,8 @@ module _ (d : Definition) (hs : List Handler) (w : World) (rest : List Task) whe
   gives_other (tasks.Connecting place number) None other = refl
   gives_other (tasks.Connecting place number) (Some v) other = refl
   gives_other (tasks.Answering source) given other = absurd other
+  gives_other (tasks.Calling call) None other = refl
+  gives_other (tasks.Calling call) (Some v) other = refl
   gives_other (tasks.Due source) None other = refl
   gives_other (tasks.Handling event) None other = refl
   gives_other (tasks.Due source) (Some v) other = refl

@@ -1,6 +1,6 @@
 -- What the instruction `new` comes to, and how many objects the builder has still to make.
 use Rattle.std.proofs.Common.{◌≡◌, ◌∙◌, refl, sym, ap, ℕ, zero, suc, ◌+◌, ◌-◌, ◌<◌, ◌≤◌, nat_le, nat_lt, min, Bool, true, false, cond, not, ◌&&◌, ◌||◌, List, [], ◌∷◌, length, map, drop, Option, None, Some, is_some, slice_get, Ok, Err, arith}
-use Rattle.std.specs.Prelude.{codes, count_by}
+use Rattle.std.specs.Prelude.{count_by}
 use Rattle.std.proofs.lemmas.Bool.Decides.{nat_tests}
 use Rattle.std.proofs.lemmas.List.Sums.{sum_by-cons}
 use Rattle.ui_machine.specs.declared.arm.Arm.{Arm}
@@ -13,25 +13,23 @@ use Rattle.ui_machine.specs.Definition.Places.{Attached, Bind, Place}
 use Rattle.ui_machine.specs.Definition.Values.{Value}
 use Rattle.ui_machine.specs.Definition.Values as values
 use Rattle.ui_machine.specs.Instructions.{in_front}
-use Rattle.ui_machine.specs.Instructions.Objects.{creating, has_room_for_object, made_if_room, made_new}
-use Rattle.ui_machine.specs.Instructions.Registers.{gives, goes_on, with_register, written_to}
+use Rattle.ui_machine.specs.Instructions.Objects.{creating, made_if_room, made_new}
+use Rattle.ui_machine.specs.Instructions.Registers.{goes_on, with_register, written_to}
 use Rattle.ui_machine.specs.Outcome.{Answer, Stops, known, only_if, ◌>>=◌}
-use Rattle.ui_machine.specs.Output.Lines as lines
 use Rattle.ui_machine.specs.Rules.Build.{adopts_if, connected_items, is_making, made_items, numbered, to_make}
-use Rattle.ui_machine.specs.Rules.Construction.{making, peer_left}
+use Rattle.ui_machine.specs.Rules.Construction.{has_shape, making, peer_left, peer_to_take}
 use Rattle.ui_machine.specs.Seq.{total}
-use Rattle.ui_machine.specs.State.Config.{Config, Started, World, said, starts}
+use Rattle.ui_machine.specs.State.Config.{Config, Started, World, starts}
 use Rattle.ui_machine.specs.State.Objects.{live, most_identities}
 use Rattle.ui_machine.specs.State.Tasks.{Frame, Registers, Running, Task, adopts, connects, makes, binds}
 use Rattle.ui_machine.specs.Steps.{left}
 use Rattle.definition_format.specs.Meaning.{IsBasic, is_object, object_count}
-use Rattle.engine_instructions.specs.CreateView.{created, created_if, has_room, prototype_named}
+use Rattle.engine_instructions.specs.CreateView.{Prototype, created, created_if, has_room, prototype_named}
 use Rattle.engine_world.specs.EngineView.{config_of}
 use Rattle.engine_world.specs.TaskView.{agenda_of, build_end, build_from, connects_from, item_of, signals_of, binds_from}
 use Rattle.engine_world.specs.View.{world_of}
 use Rattle.engine_world.specs.declared.engine.Engine.{Engine}
 use Rattle.engine_world.specs.declared.task.ForwardReference.{ForwardReference}
-use Rattle.engine_world.proofs.Building.{no_shape}
 use Rattle.engine_world.proofs.Emits.{stops_on}
 use Rattle.engine_world.proofs.Lists.{total-append}
 use Rattle.engine_world.proofs.Signals.{bind_same}
@@ -39,58 +37,42 @@ use Rattle.engine_instructions.proofs.Starting.{stops_as}
 
 -- ** what it comes to
 
-and_true : (b : Bool) → (b && true) ≡ b
-and_true true = refl
-and_true false = refl
+-- whether there is room, and then a peer
+with_peer : (few more there : Bool) → (few && (more && there)) ≡ ((few && more) && there)
+with_peer true more there = refl
+with_peer false more there = refl
 
-module _ (d : Definition) (basic : IsBasic d) (w : World) (rest : List Task) (f : Frame) (to : ℕ) where
-  -- no class has a shape, and so no peer is wanted
-  same_room : (n : ℕ) (p : Place) → has_room_for_object d w n p ≡ has_room d w n
-  same_room n p =
-      let few = nat_lt (live w.objects + n) d.most_objects in
-      let more = nat_lt (length w.objects + n) most_identities in
-      ap (λ (shaped : Bool). few && (more && (not shaped || is_some (peer_left w p)))) (no_shape d basic p.class) ∙ ap (λ (b : Bool). few && b) (and_true more)
+module _ (d : Definition) (w : World) (rest : List Task) (f : Frame) (to : ℕ) (id : List ℕ) where
+  abbrev created_so : Prototype → Answer Started
+  created_so q = made_if_room d w (to_make rest) f to q.number q.place
 
-  same_made : (place : ℕ) (p : Place) → made_new d w f to place p ≡ created d w f to place
-  unfolding made_new created
-  same_made place p =
-      ap (λ (shaped : Bool). making d w place (cond shaped (peer_left w p) None) false >>= λ (made : Started).
-      with_register to (Some (values.object (Some (suc (length w.objects))))) f.registers >>= λ (registers : Registers). goes_on made.world made.tasks (record f { registers = registers }))
-      (no_shape d basic p.class)
+  by_prototype : creating d w rest f to id ≡ (prototype_named d id >>= created_so)
+  unfolding creating
+  by_prototype = bind_same (known arms.Code (place_of d id)) _ _ _ (λ place. bind_same (known arms.Code (place_at d place)) _ _ _ (λ p. by p place p.is_prototype))
+    where
+      by : (p : Place) (place : ℕ) (b : Bool) → only_if b arms.Code (made_if_room d w (to_make rest) f to place p) ≡ (only_if b arms.Code (Ok (record { number = place; place = p })) >>= created_so)
+      by p place true = refl
+      by p place false = refl
 
-  refused : Answer Started
-  refused = gives (said d w (lines.limit (codes "new"))) to (values.object None) f
+  -- no prototype has the id
+  pub creates_none : (arm : Arm) → prototype_named d id ≡ Err arm → creating d w rest f to id ≡ Err arm
+  creates_none arm is = by_prototype ∙ ap (λ (a : Answer Prototype). a >>= created_so) is
 
-  same_if : (n place : ℕ) (p : Place) → made_if_room d w n f to place p ≡ created_if (has_room d w n) d w f to place
-  unfolding refused
-  same_if n place p =
-      ap (λ room. cond room (made_new d w f to place p) refused) (same_room n p)
-      ∙ ap (λ (a : Answer Started). cond (has_room d w n) a refused) (same_made place p)
-
-  abbrev created_so : ℕ → Answer Started
-  created_so place = created_if (has_room d w (to_make rest)) d w f to place
-
-  module _ (id : List ℕ) where
-    by_prototype : creating d w rest f to id ≡ (prototype_named d id >>= created_so)
-    unfolding creating
-    by_prototype = bind_same (known arms.Code (place_of d id)) _ _ _ (λ place. bind_same (known arms.Code (place_at d place)) _ _ _ (λ p. by p place p.is_prototype))
-      where
-        by : (p : Place) (place : ℕ) (b : Bool) → only_if b arms.Code (made_if_room d w (to_make rest) f to place p) ≡ (only_if b arms.Code (Ok place) >>= created_so)
-        by p place true = same_if (to_make rest) place p
-        by p place false = refl
-
-    -- no prototype has the id
-    pub creates_none : (arm : Arm) → prototype_named d id ≡ Err arm → creating d w rest f to id ≡ Err arm
-    creates_none arm is = by_prototype ∙ ap (λ (a : Answer ℕ). a >>= created_so) is
-
-    -- one is made, or there is no room
-    pub creates : (place : ℕ) (room : Bool) → prototype_named d id ≡ Ok place → has_room d w (to_make rest) ≡ room → creating d w rest f to id ≡ created_if room d w f to place
-    creates place room is so = by_prototype ∙ ap (λ (a : Answer ℕ). a >>= created_so) is ∙ ap (λ (b : Bool). created_if b d w f to place) so
+  -- one is made, or there is no room or no peer
+  pub creates : (q : Prototype) (room there : Bool) (peer : Option ℕ) → prototype_named d id ≡ Ok q → (has_room d w (to_make rest) && there) ≡ room
+      → there ≡ (not (has_shape d q.place.class) || is_some (peer_left w q.place)) → peer ≡ peer_to_take d w q.place → creating d w rest f to id ≡ created_if room d w f to q.number peer
+  unfolding created made_new
+  creates q room there peer is so wanted takes =
+      by_prototype ∙ ap (λ (a : Answer Prototype). a >>= created_so) is
+      ∙ ap (λ (b : Bool). created_if b d w f to q.number (peer_to_take d w q.place))
+      (with_peer (nat_lt (live w.objects + to_make rest) d.most_objects) (nat_lt (length w.objects + to_make rest) most_identities) (not (has_shape d q.place.class) || is_some (peer_left w q.place))
+      ∙ ap (λ (b : Bool). has_room d w (to_make rest) && b) (sym wanted) ∙ so)
+      ∙ ap (λ (p : Option ℕ). created_if room d w f to q.number p) (sym takes)
 
 -- what stops the making stops the program
-pub created_stops : (d : Definition) (w : World) (f : Frame) (to place : ℕ) (halt : Halt) → Stops halt (making d w place None false) → Stops halt (created d w f to place)
+pub created_stops : (d : Definition) (w : World) (f : Frame) (to place : ℕ) (peer : Option ℕ) (halt : Halt) → Stops halt (making d w place peer false) → Stops halt (created d w f to place peer)
 unfolding created
-created_stops d w f to place halt s = stops_on halt (making d w place None false) _ s
+created_stops d w f to place peer halt s = stops_on halt (making d w place peer false) _ s
 
 -- ** a register that is written behind the making
 
@@ -121,13 +103,13 @@ module _ (n : ℕ) (rest : List Task) (to : ℕ) (v : Option Value) (f : Frame) 
       by (Err other) e = e
       by (Ok r) e = absurd (cc e)
 
-module _ (d : Definition) (e m : Engine) (f : Frame) (to place : ℕ) (u : World) (t : Task) (v : Value) (made : making d (world_of e.world) place None false ≡ starts u (t ∷ []))
+module _ (d : Definition) (e m : Engine) (f : Frame) (to place : ℕ) (peer : Option ℕ) (u : World) (t : Task) (v : Value) (made : making d (world_of e.world) place peer false ≡ starts u (t ∷ []))
     (agenda : agenda_of d m ≡ agenda_of d e) (count : m.counted ≡ e.counted) (names : v ≡ values.object (Some (suc (length (world_of e.world).objects)))) where
   abbrev writing_so : Answer Config
   writing_so = left m.counted (in_front (agenda_of d m) (written_to (world_of m.world) to (Some v) f))
 
   abbrev creating_so : Answer Config
-  creating_so = left e.counted (in_front (agenda_of d e) (created d (world_of e.world) f to place))
+  creating_so = left e.counted (in_front (agenda_of d e) (created d (world_of e.world) f to place peer))
 
   same_place : writing_so ≡ left e.counted (in_front (agenda_of d e) (written_to (world_of m.world) to (Some v) f))
   same_place =

@@ -1,7 +1,6 @@
--- How an object is disposed where there are no peers.
-use Rattle.std.proofs.Common.{◌≡◌, ◌∙◌, refl, sym, ap, subst, ℕ, Bool, true, false, List, [], ◌∷◌, ◌++◌, map, Option, Some, None, is_some, Result, Ok, Err, arith}
+-- How an object is disposed.
+use Rattle.std.proofs.Common.{◌≡◌, ◌∙◌, refl, sym, ap, subst, ℕ, false, List, [], ◌∷◌, map, Option, Result, Ok, Err, arith}
 use Rattle.std.specs.Prelude.{OnOk}
-use Rattle.ui_machine.specs.declared.arm.Arm.TheVariants as arms
 use Rattle.ui_machine.specs.declared.arm.Halt.{Halt}
 use Rattle.ui_machine.specs.declared.arm.Halt.TheVariants as halts
 use Rattle.ui_machine.specs.Definition.{Definition}
@@ -9,10 +8,7 @@ use Rattle.ui_machine.specs.Instructions.{in_front}
 use Rattle.ui_machine.specs.Instructions.Objects.{disposing}
 use Rattle.ui_machine.specs.Instructions.Registers.{operand_in}
 use Rattle.ui_machine.specs.Outcome.{Goes, Stops}
-use Rattle.ui_machine.specs.Output.Lines as lines
-use Rattle.ui_machine.specs.Output.Text.{text_of_line}
-use Rattle.ui_machine.specs.Rules.Disposal.{closing, disposed, is_first, objects_disposed, peer_of, said_if}
-use Rattle.ui_machine.specs.Rules.Disposal as disposal
+use Rattle.ui_machine.specs.Rules.Disposal.{closing, disposed}
 use Rattle.ui_machine.specs.Rules.Sets.{is_disposed}
 use Rattle.ui_machine.specs.Seq.{total}
 use Rattle.ui_machine.specs.State.Config.{World}
@@ -20,13 +16,12 @@ use Rattle.ui_machine.specs.State.Objects.{living}
 use Rattle.ui_machine.specs.State.References.{in_task}
 use Rattle.ui_machine.specs.State.Tasks.{Frame, Running, Task}
 use Rattle.ui_machine.specs.Steps.{left}
-use Rattle.ui_machine.specs.State.Bindings.{bindings_without_end}
 use Rattle.bindings.specs.Made.{Made}
 use Rattle.instances.specs.Release.{Disposes}
 use Rattle.instances.specs.Store.{Store}
 use Rattle.instances.specs.Weak.{Knows}
 use Rattle.instances.proofs.Disposed.{dispose_exact}
-use Rattle.signal_core.specs.Connected.{Connected, without_object}
+use Rattle.signal_core.specs.Connected.{Connected}
 use Rattle.machine_laws.specs.GoneLaws.{Gone, pruned}
 use Rattle.machine_laws.proofs.GoneProofs.{hold_as}
 use Rattle.engine_world.specs.Counting.{KeepsCounts}
@@ -42,42 +37,14 @@ use Rattle.engine_instructions.proofs.Pushed.{count_pushed, world_pushed}
 use Rattle.engine_instructions.proofs.Starting.{started_left}
 use Rattle.engine_world.proofs.Registers.{stops_left}
 
-module _ (d : Definition) (v : code.World) (id : ℕ) where
-  -- the world after a dispose
-  abbrev gone : Bool → World
-  gone first = said_if d first (disposal.without_object d (world_of v) id) (lines.dispose id)
-
-  by_peer : (peer : Option ℕ) → peer_of (living v.table.objects id) ≡ peer → disposed d (world_of v) id ≡ closing d peer (gone (is_first (living v.table.objects id)))
-  by_peer peer is = ap (λ (p : Option ℕ). closing d p (gone (is_first (living v.table.objects id)))) is
-
-  pub no_peer_to_close : (peer : Option ℕ) → peer_of (living v.table.objects id) ≡ peer → is_some peer ≡ true → disposed d (world_of v) id ≡ Err arms.Code
-  unfolding closing
-  no_peer_to_close None is some = cc some
-  no_peer_to_close (Some n) is some = by_peer (Some n) is ∙ by (is_first (living v.table.objects id))
-    where
-      by : (first : Bool) → closing d (Some n) (gone first) ≡ Err arms.Code
-      by true = refl
-      by false = refl
-
-  -- what code leaves after it
-  pub disposed_now : (t : Store) (hs : Connected) (bs : Made) (x : List ℕ) (new : World) → peer_of (living v.table.objects id) ≡ None → is_first (living v.table.objects id) ≡ true
-      → Disposes d id v.table t → hs ≡ record v.handlers { handlers = without_object id v.handlers.handlers }
-      → bs ≡ record v.bindings { bindings = bindings_without_end id v.bindings.bindings } → x ≡ text_of_line d.types (lines.dispose id)
-      → new ≡ record (world_of (record v { table = t; handlers = hs; bindings = bs })) { transcript = (world_of v).transcript ++ x ∷ [] } → disposed d (world_of v) id ≡ Ok new
-  unfolding closing
-  disposed_now t hs bs x new none first disposes left ends ex is =
-      let objects = disposes.objects in
-      let floating = disposes.floating in
-      by_peer None none ∙ ap (λ b. closing d None (gone b)) first ∙ rw (is, objects, floating, left, ends, ex) refl
-
 -- what is disposed held what it let go of; its handlers hold nothing
-pub keeps_disposed : (d : Definition) (e : Engine) (t : Store) (hs : Connected) (bs : Made) (w : code.World) (gone : Gone) (id : ℕ) → (Knows d e.world.weak → Disposes d id e.world.table t)
+pub keeps_disposed : (d : Definition) (e : Engine) (t : Store) (hs : Connected) (bs : Made) (w : code.World) (gone : Gone) (id : ℕ) (closing : Option ℕ) → (Knows d e.world.weak → Disposes d id e.world.table t)
     → hs ≡ record e.world.handlers { handlers = hs.handlers }
-    → w ≡ record (record e.world { table = t; handlers = hs; bindings = bs }) { transcript = w.transcript } → tasks_of d hs.handlers e.stack ≡ map (pruned gone) (agenda_of d e)
-    → KeepsCounts d e (record e { world = w })
-keeps_disposed d e t hs bs w gone id disposes only is left =
-    keeps_by d e (record e { world = w }) (ap (λ (v : code.World). v.weak) is) (ap (λ (v : code.World). v.context) is)
-    (λ h. handled d e (record e { world = w }) hs (ap (λ (v : code.World). v.handlers) is) only refl h) (λ taken knows h.
+    → w ≡ record (record e.world { table = t; handlers = hs; bindings = bs }) { seats = w.seats; transcript = w.transcript } → tasks_of d hs.handlers e.stack ≡ map (pruned gone) (agenda_of d e)
+    → KeepsCounts d e (record e { world = w; closing = closing })
+keeps_disposed d e t hs bs w gone id closing disposes only is left =
+    keeps_by d e (record e { world = w; closing = closing }) (ap (λ (v : code.World). v.weak) is) (ap (λ (v : code.World). v.context) is)
+    (λ h. handled d e (record e { world = w; closing = closing }) hs (ap (λ (v : code.World). v.handlers) is) only refl h) (λ taken knows h.
     let b = map held_of e.world.builder.items in
     let a = agenda_of d e in
     let after = from_counted d taken t b a (dispose_exact d (beside_of taken b a) e.world.table t id (disposes knows) (to_counted d taken e.world.table b a h)) in

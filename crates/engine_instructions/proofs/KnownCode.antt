@@ -1,5 +1,5 @@
 -- The kinds that an instruction names are known, wherever a program takes it.
-use Rattle.std.proofs.Common.{◌≡◌, ℕ, zero, suc, false, List, [], ◌∷◌, Option, None, Some, option_map, option_and_then, slice_get, refl, sym, ap, subst, ◌∙◌, arith}
+use Rattle.std.proofs.Common.{◌≡◌, ℕ, zero, suc, List, [], ◌∷◌, Option, None, Some, option_map, option_and_then, slice_get, refl, sym, ap, subst, ◌∙◌, arith}
 use Rattle.std.specs.Prelude.{All, IfSome}
 use Rattle.std.proofs.lemmas.Option.{slice_get-map}
 use Rattle.ui_machine.specs.Definition.Programs as words
@@ -27,8 +27,7 @@ use Rattle.bytecode.specs.declared.programs.Block.{Block}
 use Rattle.bytecode.specs.declared.programs.Program.{Program}
 use Rattle.bytecode.specs.Computing.{HasKnownKind, instruction_of}
 use Rattle.frames.specs.FrameView.{Taken, taken_in, taken_of}
-use Rattle.bytecode.specs.Known.{HasKnownBlocks, HasKnownCode, HasKnownKinds, IsKnownInstruction}
-use Rattle.bytecode.specs.Later.{is_later}
+use Rattle.bytecode.specs.Known.{HasKnownBlocks, HasKnownCode, HasKnownKinds}
 use Rattle.bytecode.specs.View.{block_view, control_view, instruction_view, object_instruction_view, program_view, property_instruction_view, signal_instruction_view, source_instruction_view}
 use Rattle.definition_format.specs.Meaning.{IsKnownKind}
 
@@ -42,10 +41,6 @@ all_get P (y ∷ ys) (suc i) x p h = all_get P ys i x (λ k d less. p (suc k) d 
 abbrev KnownWord : List GType → words.Instruction → Type 0
 KnownWord types (words.convert to from kind) = IsKnownKind types kind
 KnownWord types _ = Unit {0}
-
--- and it is one that programs have
-abbrev IsKnownWord : List GType → words.Instruction → Type 0
-IsKnownWord types word = KnownWord types word × (is_later word ≡ false)
 
 module _ (types : List GType) where
   seen_kind : (kind : Kind) → IsKnown types kind → IsKnownKind types (kind_view kind)
@@ -150,21 +145,21 @@ module _ (types : List GType) where
   known_result (Some kind) h = seen_kind kind h
 
   -- of the instruction at a place of a block
-  of_code : (b : Block) (at : ℕ) (word : words.Instruction) → HasKnownCode types b → slice_get (block_view b).code at ≡ Some word → IsKnownWord types word
+  of_code : (b : Block) (at : ℕ) (word : words.Instruction) → HasKnownCode types b → slice_get (block_view b).code at ≡ Some word → KnownWord types word
   of_code b at word known is = by (slice_get b.code.items at) refl (sym (slice_get-map instruction_view b.code.items at) ∙ is)
     where
-      by : (found : Option Instruction) → slice_get b.code.items at ≡ found → option_map instruction_view found ≡ Some word → IsKnownWord types word
+      by : (found : Option Instruction) → slice_get b.code.items at ≡ found → option_map instruction_view found ≡ Some word → KnownWord types word
       by None there e = absurd (cc e)
       by (Some i) there e =
           let same : instruction_view i ≡ word = cc e in
-          let of = all_get (λ i. IsKnownInstruction types i) b.code.items at i known there in
-          subst (IsKnownWord types) same (seen_instruction i of.0, of.1)
+          let of = all_get (λ i. HasKnownKinds types i) b.code.items at i known there in
+          subst (KnownWord types) same (seen_instruction i of)
 
   of_block : (p : Program) (n at : ℕ) (block : words.Block) (word : words.Instruction) → HasKnownBlocks types p → slice_get (program_view p).blocks n ≡ Some block
-      → slice_get block.code at ≡ Some word → IsKnownWord types word
+      → slice_get block.code at ≡ Some word → KnownWord types word
   of_block p n at block word known there is = by (slice_get p.blocks.items n) refl (sym (slice_get-map block_view p.blocks.items n) ∙ there)
     where
-      by : (found : Option Block) → slice_get p.blocks.items n ≡ found → option_map block_view found ≡ Some block → IsKnownWord types word
+      by : (found : Option Block) → slice_get p.blocks.items n ≡ found → option_map block_view found ≡ Some block → KnownWord types word
       by None none e = absurd (cc e)
       by (Some b) some e =
           let same : block ≡ block_view b = cc e in
@@ -172,18 +167,18 @@ module _ (types : List GType) where
 
   -- an instruction that a frame takes
   pub taken_known : (p : Program) (f g : config.Frame) (i : Instruction) → HasKnownBlocks types p
-      → taken_in (program_view p) f ≡ Some (record { instruction = instruction_view i; frame = g }) → IsKnownInstruction types i
+      → taken_in (program_view p) f ≡ Some (record { instruction = instruction_view i; frame = g }) → HasKnownKinds types i
   taken_known p f g i known is = by (slice_get (program_view p).blocks f.block) refl is
     where
       in_code : (block : words.Block) → slice_get (program_view p).blocks f.block ≡ Some block → (found : Option words.Instruction) → slice_get block.code (in_pass block f).at ≡ found
-          → ◌≡◌ {A = Option Taken} (option_map (λ w. record { instruction = w; frame = past (in_pass block f) }) found) (Some (record { instruction = instruction_view i; frame = g })) → IsKnownInstruction types i
+          → ◌≡◌ {A = Option Taken} (option_map (λ w. record { instruction = w; frame = past (in_pass block f) }) found) (Some (record { instruction = instruction_view i; frame = g })) → HasKnownKinds types i
       in_code block there None at e = absurd (cc e)
       in_code block there (Some word) at e =
           let taken : ◌≡◌ {A = Taken} (record { instruction = word; frame = past (in_pass block f) }) (record { instruction = instruction_view i; frame = g }) = cc e in
           let same : word ≡ instruction_view i = ap (λ (t : Taken). t.instruction) taken in
-          let of = subst (IsKnownWord types) same (of_block p f.block (in_pass block f).at block word known there at) in
-          (instruction_seen i of.0, of.1)
+          let of = subst (KnownWord types) same (of_block p f.block (in_pass block f).at block word known there at) in
+          instruction_seen i of
 
-      by : (block : Option words.Block) → slice_get (program_view p).blocks f.block ≡ block → option_and_then (taken_of f) block ≡ Some (record { instruction = instruction_view i; frame = g }) → IsKnownInstruction types i
+      by : (block : Option words.Block) → slice_get (program_view p).blocks f.block ≡ block → option_and_then (taken_of f) block ≡ Some (record { instruction = instruction_view i; frame = g }) → HasKnownKinds types i
       by None none e = absurd (cc e)
       by (Some block) there e = in_code block there (slice_get block.code (in_pass block f).at) refl e

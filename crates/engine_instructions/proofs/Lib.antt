@@ -17,3 +17,4 @@ pub mod Whole
 mod Creating
 mod SourceSteps
 mod Unbinding
+mod PeerCalls

@@ -205,6 +205,7 @@ module _ (d : Definition) (hs : List Handler) where
   stops_none (tasks.Binding number) rest other = refl
   stops_none (tasks.Connecting place number) rest other = refl
   stops_none (tasks.Answering source) rest other = refl
+  stops_none (tasks.Calling call) rest other = refl
   stops_none (tasks.Due source) rest other = refl
   stops_none (tasks.Handling event) rest other = refl
 

@@ -6,6 +6,8 @@ pub mod JumpView
 pub mod PropertyView
 pub mod CreateView
 pub mod UnbindView
+pub mod CallingView
+pub mod ClosedPeers
 pub use Rattle.engine_world.specs.ConnectView
 pub use Rattle.engine_world.specs.Counting
 pub use Rattle.engine_world.specs.EngineView

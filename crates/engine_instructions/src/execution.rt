@@ -1,21 +1,22 @@
 //! Instructions: what each of them does.
 
-ghost use Rattle.std.specs.Prelude.{◌≡◌, false, Some, IfSome, OnOk, OnErr};
+ghost use Rattle.std.specs.Prelude.{◌≡◌, Some, IfSome, OnOk, OnErr};
 ghost use Rattle.ui_machine.specs.Definition.Lookups.{program_at};
 ghost use Rattle.ui_machine.specs.Instructions.{instruction_step};
 ghost use Rattle.ui_machine.specs.Outcome.{Goes};
 ghost use Rattle.ui_machine.specs.Steps.{left};
 ghost use Rattle.g_values.specs.View.{IsKnown};
 ghost use Rattle.frames.specs.FrameView.{frame_view};
-ghost use Rattle.bytecode.specs.Known.{IsKnownInstruction};
-ghost use Rattle.bytecode.specs.Later.{is_later};
+ghost use Rattle.bytecode.specs.Known.{HasKnownKinds};
 ghost use Rattle.bytecode.specs.View.{control_view, instruction_view, object_instruction_view, program_view, property_instruction_view, signal_instruction_view, source_instruction_view};
 ghost use Rattle.engine_world.specs.View.{world_of};
 ghost use Rattle.engine_world.specs.TaskView.{agenda_of};
 ghost use Rattle.engine_world.specs.Counting.{Counts, in_frame, nothing};
 ghost use Rattle.engine_world.specs.EngineView.{config_of};
 ghost use Rattle.engine_world.specs.Standing.{GoesWithoutGone};
+ghost use Rattle.engine_instructions.specs.ClosedPeers.{LeavesClosed};
 
+use crate::calls::call_from_program;
 use crate::connects::connect_from_program;
 use crate::emits::{Emit, emit_from_program};
 use crate::jumps::{branch, branch_null, jump};
@@ -38,9 +39,9 @@ use definitions::Definition;
 use engine_world::arguments::as_text;
 use engine_world::engine::Engine;
 use frames::Frame;
-use ui_machine::{Arm, Halt};
+use ui_machine::Halt;
 
-/// Does what an instruction says, which is counted already. Handlers that it disconnects have no more turns in the emissions that go on.
+/// Does what an instruction says, which is counted already. The number of a peer that it closes is left in the engine. Handlers that it disconnects have no more turns in the emissions that go on.
 pub fn execute(
     engine: &mut Engine,
     definition: &Definition,
@@ -49,13 +50,14 @@ pub fn execute(
     instruction: &Instruction,
 ) -> Result<(), Halt>
     requires program { program_at definition.now (frame_view frame).program ≡ Some (program_view program.now) }
-    requires known { IsKnownInstruction definition.now.types instruction.now }
+    requires known { HasKnownKinds definition.now.types instruction.now }
     requires result { IfSome program.now.result (IsKnown definition.now.types) }
     requires counted { Counts definition.now (λ o. in_frame o (frame_view frame)) engine.now }
     ensures step { GoesWithoutGone result
         (left engine.old.counted (instruction_step definition.now (world_of engine.old.world) (agenda_of definition.now engine.old) (frame_view frame) (instruction_view instruction.now)))
         (config_of definition.now engine.new) }
     ensures quiet { OnErr result ((world_of engine.new.world).transcript ≡ (world_of engine.old.world).transcript) }
+    ensures closing { OnOk result (LeavesClosed (instruction_view instruction.now) (world_of engine.old.world) (frame_view frame) engine.old.closing engine.new.closing) }
     ensures counted { OnOk result (Counts definition.now nothing engine.new) }
 {
     match instruction {
@@ -71,7 +73,7 @@ pub fn execute(
         Instruction::Object(object) => execute_on_objects(engine, definition, frame, object),
         Instruction::Signal(signal) => execute_on_signals(engine, definition, frame, signal),
         Instruction::Source(source) => execute_on_sources(engine, definition, frame, source),
-        Instruction::Peer(_) => Err(Halt::Stuck(Arm::Code)),
+        Instruction::Peer(call) => call_from_program(engine, definition, frame, call),
     }
 }
 
@@ -155,6 +157,7 @@ fn execute_on_objects(
         (left engine.old.counted (instruction_step definition.now (world_of engine.old.world) (agenda_of definition.now engine.old) (frame_view frame) (object_instruction_view instruction.now)))
         (config_of definition.now engine.new) }
     ensures quiet { OnErr result ((world_of engine.new.world).transcript ≡ (world_of engine.old.world).transcript) }
+    ensures closing { OnOk result (LeavesClosed (object_instruction_view instruction.now) (world_of engine.old.world) (frame_view frame) engine.old.closing engine.new.closing) }
     ensures counted { OnOk result (Counts definition.now nothing engine.new) }
 {
     match instruction {
@@ -226,7 +229,6 @@ fn execute_on_sources(
     frame: Frame,
     instruction: &SourceInstruction,
 ) -> Result<(), Halt>
-    requires later { is_later (source_instruction_view instruction.now) ≡ false }
     requires counted { Counts definition.now (λ o. in_frame o (frame_view frame)) engine.now }
     ensures step { Goes result
         (left engine.old.counted (instruction_step definition.now (world_of engine.old.world) (agenda_of definition.now engine.old) (frame_view frame) (source_instruction_view instruction.now)))

@@ -2,6 +2,7 @@
 #![tactic(auto)]
 
 pub mod accumulation;
+pub mod calls;
 pub mod connects;
 pub mod emits;
 pub mod execution;

@@ -1,46 +1,55 @@
 //! `new`: an object of a prototype is made (GObject manual, GObject: `g_object_new`).
 
-ghost use Rattle.std.specs.Prelude.{◌≡◌, ◌-◌, List, min, OnOk, OnErr};
+ghost use Rattle.std.specs.Prelude.{◌≡◌, ◌<◌, ◌-◌, ◌&&◌, List, min, length, IfSome, OnOk, OnErr, option_map};
 ghost use Rattle.ui_machine.specs.Instructions.{in_front};
 ghost use Rattle.ui_machine.specs.Instructions.Objects.{creating};
-ghost use Rattle.ui_machine.specs.Outcome.{Goes};
+ghost use Rattle.ui_machine.specs.Outcome.{Goes, known};
+ghost use Rattle.ui_machine.specs.declared.arm.Arm.TheVariants as arms;
 ghost use Rattle.ui_machine.specs.Rules.Build.{is_making, of_items, to_make};
 ghost use Rattle.ui_machine.specs.State.Handlers.{Handler};
 ghost use Rattle.ui_machine.specs.Steps.{left};
 ghost use Rattle.definition_format.specs.Meaning.{object_count};
 ghost use Rattle.frames.specs.FrameView.{frame_view};
-ghost use Rattle.instances.specs.Store.{Shows};
 ghost use Rattle.engine_world.specs.Counting.{Counts, in_frame, nothing};
-ghost use Rattle.engine_instructions.specs.CreateView.{created, has_room, prototype_named};
+ghost use Rattle.engine_instructions.specs.CreateView.{created, has_room, prototype_named, prototype_of};
 ghost use Rattle.engine_world.specs.EngineView.{config_of};
+ghost use Rattle.engine_world.specs.PeerPlaces.{is_there};
 ghost use Rattle.engine_world.specs.TaskView.{agenda_of, task_of};
 ghost use Rattle.engine_world.specs.View.{world_of};
 
 use crate::registers::{write_null_and_say_limit, write_register};
 use bytecode::Register;
-use definitions::Definition;
+use definitions::{Definition, ObjectEntry};
 use engine_world::engine::Engine;
 use engine_world::given::{object_or_null, object_value};
+use engine_world::object_peers::{NewPeer, new_peer};
 use engine_world::objects::{begin_construction, make};
 use engine_world::places::entry_at;
 use engine_world::task::Task;
 use frames::Frame;
 use ui_machine::{Arm, Halt, Place};
 
-// The place of the prototype of an id.
-fn prototype_named(definition: &Definition, id: &str) -> Result<Place, Arm>
-    ensures { Shows (λ (place : Place). place.0) result (prototype_named definition.now id.now) }
+// A prototype, lent, and its place.
+#[derive(Clone, Copy)]
+struct Prototype<'a> {
+    place: Place,
+    entry: ObjectEntry<'a>,
+}
+
+// The prototype of an id.
+fn prototype_named<'a>(definition: &'a Definition, id: &str) -> Option<Prototype<'a>>
+    ensures { known arms.Code (option_map prototype_of result) ≡ prototype_named definition.now id.now }
 {
     let Some(place) = definition.place(id) else {
-        return Err(Arm::Code);
+        return None;
     };
     let Some(entry) = entry_at(definition, place) else {
-        return Err(Arm::Code);
+        return None;
     };
     if !entry.is_prototype {
-        return Err(Arm::Code);
+        return None;
     }
-    Ok(place)
+    Some(Prototype { place, entry })
 }
 
 // How many objects of a definition stand from a place on.
@@ -88,22 +97,31 @@ fn has_room(engine: &Engine, definition: &Definition) -> bool
         .has_room_below(definition.limits().objects, to_come)
 }
 
-// A register gets a new object of the prototype at a place. The rest of its construction comes before the program goes on.
+// Whether a new object may be made, for which there is this peer: there is room, and a peer, if it wants one.
+fn may_create(engine: &Engine, definition: &Definition, peer: NewPeer) -> bool
+    ensures { result ≡ (has_room definition.now (world_of engine.now.world) (to_make (agenda_of definition.now engine.now)) && is_there peer) }
+{
+    has_room(engine, definition) && peer.is_there()
+}
+
+// A register gets a new object of the prototype at a place, which gets this peer. The rest of its construction comes before the program goes on.
 fn create_at(
     engine: &mut Engine,
     definition: &Definition,
     frame: Frame,
     to: Register,
     place: Place,
+    peer: Option<usize>,
 ) -> Result<(), Halt>
+    requires peer { IfSome peer (λ number. number < length engine.now.world.seats) }
     requires counted { Counts definition.now (λ o. in_frame o (frame_view frame)) engine.now }
     ensures step { Goes result
-        (left engine.old.counted (in_front (agenda_of definition.now engine.old) (created definition.now (world_of engine.old.world) (frame_view frame) to.0 place.0)))
+        (left engine.old.counted (in_front (agenda_of definition.now engine.old) (created definition.now (world_of engine.old.world) (frame_view frame) to.0 place.0 peer)))
         (config_of definition.now engine.new) }
     ensures quiet { OnErr result ((world_of engine.new.world).transcript ≡ (world_of engine.old.world).transcript) }
     ensures counted { OnOk result (Counts definition.now nothing engine.new) }
 {
-    let new = make(engine, definition, place)?;
+    let new = make(engine, definition, place, peer)?;
     write_register(
         engine,
         definition,
@@ -115,8 +133,8 @@ fn create_at(
     Ok(())
 }
 
-/// A register gets a new object of the prototype of an id, or null where no more objects may live, of which a line tells. The rest of the
-/// object's construction comes before the program goes on.
+/// A register gets a new object of the prototype of an id, with the first of its peers that is left where its class has a shape; or null where
+/// no more objects may live or no peer is left, of which a line tells. The rest of the object's construction comes before the program goes on.
 pub(crate) fn create(
     engine: &mut Engine,
     definition: &Definition,
@@ -134,9 +152,19 @@ pub(crate) fn create(
 {
     // For the proof: what is known of a definition's places.
     let _types = definition.types();
-    let place = prototype_named(definition, id)?;
-    if !has_room(engine, definition) {
+    let Some(prototype) = prototype_named(definition, id) else {
+        return Err(Halt::Stuck(Arm::Code));
+    };
+    let peer = new_peer(engine, definition, &prototype.entry);
+    if !may_create(engine, definition, peer) {
         return write_null_and_say_limit(engine, definition, frame, to, object_or_null(None), "new");
     }
-    create_at(engine, definition, frame, to, place)
+    create_at(
+        engine,
+        definition,
+        frame,
+        to,
+        prototype.place,
+        peer.number(),
+    )
 }

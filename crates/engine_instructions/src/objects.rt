@@ -1,8 +1,9 @@
 //! Instructions on objects: `object`, `sink`, `orphan`, `adopt`, `dispose`, `freeze` and `thaw`.
 
-ghost use Rattle.std.specs.Prelude.{◌≡◌, false, map, IsSome, OnOk, OnErr};
+ghost use Rattle.std.specs.Prelude.{◌≡◌, map, IsSome, OnOk, OnErr};
 ghost use Rattle.ui_machine.specs.Instructions.{in_front};
 ghost use Rattle.ui_machine.specs.Instructions.Objects.{adopting, disposing, freezing, look_up_object, orphaning, sinking, thaw_notify};
+ghost use Rattle.ui_machine.specs.Instructions.Registers.{operand_in};
 ghost use Rattle.ui_machine.specs.Outcome.{Goes};
 ghost use Rattle.ui_machine.specs.Rules.Children.{orphaned};
 ghost use Rattle.ui_machine.specs.Rules.Disposal.{disposed};
@@ -15,15 +16,18 @@ ghost use Rattle.instances.specs.Weak.{Knows};
 ghost use Rattle.machine_laws.specs.GoneLaws.{pruned};
 ghost use Rattle.engine_world.specs.View.{world_of};
 ghost use Rattle.engine_world.specs.TaskView.{agenda_of};
+ghost use Rattle.engine_world.specs.ClosingView.{closed_with, or_number};
 ghost use Rattle.engine_world.specs.Counting.{Counts, KeepsCounts, in_frame, nothing};
 ghost use Rattle.engine_world.specs.EngineView.{config_of};
 ghost use Rattle.engine_world.specs.Standing.{GoesWithoutGone, gone_handlers};
+ghost use Rattle.engine_instructions.specs.ClosedPeers.{closed_in};
 
 use crate::operands::object_in;
 use crate::registers::write_register;
 use bytecode::Register;
 use definitions::Definition;
 use engine_world::children::join_objects;
+use engine_world::closings::{closing_with, dispose_line, say_and_close};
 use engine_world::engine::Engine;
 use engine_world::given::object_or_null;
 use engine_world::lines::Line;
@@ -197,34 +201,31 @@ pub(crate) fn adopt_from_program(
     join_objects(engine, definition, parent, child)
 }
 
-// An object that was not disposed is: it lets go what it holds, and all forget it. Its handlers go, and have no more turns in the
-// emissions that go on, and its bindings end.
+// An object that was not disposed is: it lets go what it holds, and all forget it. Its peer is closed, if it has one that is open. Its
+// handlers go, and have no more turns in the emissions that go on, and its bindings end.
 fn dispose(engine: &mut Engine, definition: &Definition, object: ObjectId) -> Result<(), Halt>
     requires live { IsSome (living engine.now.world.table.objects object.0) }
-    requires first { is_disposed (living engine.now.world.table.objects object.0) ≡ false }
     requires knows { Knows definition.now engine.now.world.weak }
     ensures step { Goes result (disposed definition.now (world_of engine.old.world) object.0) (world_of engine.new.world) }
     ensures agenda { OnOk result (agenda_of definition.now engine.new ≡ map (pruned (gone_handlers (world_of engine.new.world))) (agenda_of definition.now engine.old)) }
     ensures quiet { OnErr result ((world_of engine.new.world).transcript ≡ (world_of engine.old.world).transcript) }
     ensures same { OnOk result (engine.new.counted ≡ engine.old.counted) }
+    ensures closing { OnOk result (engine.new.closing ≡ or_number (closed_with (world_of engine.old.world) object.0) engine.old.closing) }
     ensures counted { OnOk result (KeepsCounts definition.now engine.old engine.new) }
 {
-    // No peer is lent so far.
-    if engine.world.table.peer_of(object).is_some() {
-        return Err(Halt::Stuck(Arm::Code));
-    }
-    let line = Line::Dispose { object }.text(engine.alloc, definition.types())?;
+    let line = dispose_line(engine, definition, object)?;
+    let closed = closing_with(engine, definition, object)?;
     // For the proof: what is known of the numbers of handlers.
     let _last = engine.world.handlers.last();
     engine.world.table.dispose(&engine.world.weak, object);
     engine.world.handlers.disconnect_object(object);
     engine.world.bindings.end_of(object);
-    engine.world.say(line)?;
+    say_and_close(engine, line, closed, None)?;
     Ok(())
 }
 
-/// An object is disposed, unless it was before: it lets go what it holds, and all forget it. Its handlers have no more turns in the
-/// emissions that go on, and its bindings end.
+/// An object is disposed, unless it was before: it lets go what it holds, and all forget it. Its peer is closed, if it has one that is open.
+/// Its handlers have no more turns in the emissions that go on, and its bindings end.
 pub(crate) fn run_dispose(
     engine: &mut Engine,
     definition: &Definition,
@@ -236,6 +237,8 @@ pub(crate) fn run_dispose(
         (left engine.old.counted (in_front (agenda_of definition.now engine.old) (disposing definition.now (world_of engine.old.world) (frame_view frame) object.0)))
         (config_of definition.now engine.new) }
     ensures quiet { OnErr result ((world_of engine.new.world).transcript ≡ (world_of engine.old.world).transcript) }
+    ensures closing { OnOk result (engine.new.closing
+        ≡ or_number (closed_in (world_of engine.old.world) (operand_in (world_of engine.old.world) (frame_view frame) object.0)) engine.old.closing) }
     ensures counted { OnOk result (Counts definition.now nothing engine.new) }
 {
     let object = object_in(engine, &frame, object)?;

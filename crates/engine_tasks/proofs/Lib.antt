@@ -7,3 +7,4 @@ mod Emitted
 mod Binding
 mod Carrying
 mod Sourcing
+mod CallSteps

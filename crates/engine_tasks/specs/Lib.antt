@@ -1,4 +1,5 @@
 pub mod BindView
+pub mod CallView
 pub mod TurnView
 pub mod TransferSteps
 pub use Rattle.engine_world.specs.ConnectView

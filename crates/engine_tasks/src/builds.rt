@@ -1,6 +1,6 @@
 //! The build: how objects are made one after the other, and how their construction goes on and ends.
 
-ghost use Rattle.std.specs.Prelude.{◌≡◌, ◌<◌, List, true, ℕ, None, Some, [], ◌∷◌, OnOk, OnErr};
+ghost use Rattle.std.specs.Prelude.{◌≡◌, ◌<◌, List, true, ℕ, Some, [], ◌∷◌, IfSome, OnOk, OnErr, length};
 ghost use Rattle.ui_machine.specs.Outcome.{Goes};
 ghost use Rattle.ui_machine.specs.Definition.Values as machine_values;
 ghost use Rattle.ui_machine.specs.Rules.Programs.{program_before};
@@ -24,6 +24,7 @@ use definitions::Definition;
 use engine_world::builder::{BuilderEntry, set_builder_entry};
 use engine_world::engine::Engine;
 use engine_world::given::object_value;
+use engine_world::object_peers::own_peer;
 use engine_world::objects::{begin_construction, make};
 use engine_world::places::{entry_at, is_object, next_place};
 use engine_world::properties::spec_of;
@@ -214,20 +215,26 @@ pub fn construct(
     }
 }
 
-// An object of the build is made. The builder holds it at the end of its construction.
-fn make_from_build(engine: &mut Engine, definition: &Definition, place: Place) -> Result<(), Halt>
+// An object of the build is made, and gets this peer. The builder holds it at the end of its construction.
+fn make_from_build(
+    engine: &mut Engine,
+    definition: &Definition,
+    place: Place,
+    peer: Option<usize>,
+) -> Result<(), Halt>
+    requires peer { IfSome peer (λ number. number < length engine.now.world.seats) }
     ensures step { Goes result
-        (uncounted (agenda_of definition.now engine.old) engine.old.counted (making definition.now (world_of engine.old.world) place.0 None true))
+        (uncounted (agenda_of definition.now engine.old) engine.old.counted (making definition.now (world_of engine.old.world) place.0 peer true))
         (config_of definition.now engine.new) }
     ensures quiet { OnErr result ((world_of engine.new.world).transcript ≡ (world_of engine.old.world).transcript) }
     ensures counted { OnOk result (KeepsCounts definition.now engine.old engine.new) }
 {
-    let new = make(engine, definition, place)?;
+    let new = make(engine, definition, place, peer)?;
     begin_construction(engine, new, true)?;
     Ok(())
 }
 
-/// The next object of the build, or the next forward reference where all objects stand.
+/// The next object of the build, with the peer that it has for its own, or the next forward reference where all objects stand.
 #[tactic(auto, unfolding(ui_machine::specs::Rules::Build::building_object))]
 pub fn build(
     engine: &mut Engine,
@@ -247,8 +254,9 @@ pub fn build(
     if !is_object(definition, place) {
         return set_forward_reference(engine, definition, place, forwards);
     }
+    let peer = own_peer(engine, definition, place)?;
     push_task(engine, behind(definition, place, forwards))?;
-    make_from_build(engine, definition, place)
+    make_from_build(engine, definition, place, peer)
 }
 
 // What the build does behind the making of an object: the object becomes its parent's child, if it is one, and then the next place comes.

@@ -9,18 +9,20 @@ ghost use Rattle.ui_machine.specs.Steps.{counted, finalising, most_steps};
 ghost use Rattle.instances.specs.Store.{count_of};
 ghost use Rattle.instances.specs.Weak.{Knows};
 ghost use Rattle.machine_laws.specs.GoneLaws.{pruned};
+ghost use Rattle.engine_world.specs.ClosingView.{closed_with, or_number};
 ghost use Rattle.engine_world.specs.View.{world_of};
 ghost use Rattle.engine_world.specs.TaskView.{agenda_of};
 ghost use Rattle.engine_world.specs.Counting.{KeepsCounts};
 ghost use Rattle.engine_world.specs.Standing.{gone_handlers};
 
 use definitions::Definition;
+use engine_world::closings::{closing_with, dispose_line, say_and_close};
 use engine_world::counted_steps::count;
 use engine_world::engine::Engine;
 use engine_world::lines::Line;
-use ui_machine::{Arm, Halt, ObjectId};
+use ui_machine::{Halt, ObjectId};
 
-/// An object that nothing holds is disposed, again if it was, and taken out. Its handlers go, and have no more turns in the emissions that
+/// An object that nothing holds is disposed, again if it was, and taken out. Its peer is closed, if it has one that is open. Its handlers go, and have no more turns in the emissions that
 /// go on, and its bindings end. It is a counted step.
 pub fn finalise(engine: &mut Engine, definition: &Definition, object: ObjectId) -> Result<(), Halt>
     requires live { IsSome (living engine.now.world.table.objects object.0) }
@@ -33,23 +35,19 @@ pub fn finalise(engine: &mut Engine, definition: &Definition, object: ObjectId) 
     ensures quiet { OnErr result ((world_of engine.new.world).transcript ≡ (world_of engine.old.world).transcript) }
     ensures counts { OnOk result ((engine.old.counted < most_steps) × (engine.new.counted ≡ suc engine.old.counted)) }
     ensures same { OnOk result ((engine.new.stack ≡ engine.old.stack) × (engine.new.world.table.floating ≡ engine.old.world.table.floating)) }
+    ensures closing { OnOk result (engine.new.closing ≡ or_number (closed_with (world_of engine.old.world) object.0) engine.old.closing) }
     ensures grows { OnOk result (IsPrefix (world_of engine.old.world).transcript (world_of engine.new.world).transcript) }
     ensures counted { OnOk result (KeepsCounts definition.now engine.old engine.new) }
 {
     count(engine)?;
-    // No peer is lent so far.
-    if engine.world.table.peer_of(object).is_some() {
-        return Err(Halt::Stuck(Arm::Code));
-    }
-    let types = definition.types();
-    let disposed = Line::Dispose { object }.text(engine.alloc, types)?;
-    let finalised = Line::Final { object }.text(engine.alloc, types)?;
-    let is_first = !engine.world.table.is_disposed(object);
+    let disposed = dispose_line(engine, definition, object)?;
+    let closed = closing_with(engine, definition, object)?;
+    let finalised = Line::Final { object }.text(engine.alloc, definition.types())?;
     // For the proof: what is known of the numbers of handlers.
     let _last = engine.world.handlers.last();
     engine.world.table.finalise(&engine.world.weak, object);
     engine.world.handlers.disconnect_object(object);
     engine.world.bindings.end_of(object);
-    engine.world.say_both(is_first, disposed, finalised)?;
+    say_and_close(engine, disposed, closed, Some(finalised))?;
     Ok(())
 }

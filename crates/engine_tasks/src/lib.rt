@@ -3,6 +3,7 @@
 
 pub mod binds;
 pub mod builds;
+pub mod calls;
 pub mod children;
 pub mod emission;
 pub mod events;

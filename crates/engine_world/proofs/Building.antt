@@ -1,34 +1,33 @@
--- The build of a basic definition: what each step of it starts.
-use Rattle.std.proofs.Common.{◌≡◌, ℕ, zero, suc, ◌+◌, ◌<◌, ◌≤◌, Bool, true, false, cond, not, List, [], ◌∷◌, ◌++◌, length, map, reverse, take, drop, Option, Some, None, is_some, Ok, Err, slice_get, refl, sym, ap, ◌∙◌, arith, append_assoc, length-append}
+-- The build of a definition: what each step of it starts.
+use Rattle.std.proofs.Common.{◌≡◌, ℕ, zero, suc, ◌+◌, ◌<◌, ◌≤◌, Bool, true, false, cond, not, List, [], ◌∷◌, ◌++◌, length, map, reverse, take, drop, Option, Some, None, Ok, Err, slice_get, refl, sym, ap, ◌∙◌, arith, append_assoc, length-append}
 use Rattle.std.specs.List.{flat_map, list_all}
 use Rattle.std.proofs.lemmas.Option.{slice_get_within, get_or_from_slice_get}
 use Rattle.std.proofs.lemmas.List.{reverse-append}
 use Rattle.std.proofs.lemmas.List.Sums.{count_by-le-length}
 use Rattle.std.proofs.Math.Seq.{drop-cons}
+use Rattle.ui_machine.specs.declared.arm.Arm.{Arm}
 use Rattle.ui_machine.specs.declared.arm.Arm.TheVariants as arms
 use Rattle.ui_machine.specs.Definition.Properties.{Spec}
 use Rattle.ui_machine.specs.Definition.{Definition}
 use Rattle.ui_machine.specs.Definition.Places.{GivenProperty, Place}
 use Rattle.ui_machine.specs.Definition.Values as values
 use Rattle.ui_machine.specs.Seq.{read}
-use Rattle.ui_machine.specs.Definition.Lookups.{type_of, class_of, specs_of}
+use Rattle.ui_machine.specs.Definition.Lookups.{type_of, specs_of}
 use Rattle.ui_machine.specs.Output.Lines as lines
 use Rattle.ui_machine.specs.State.Tasks.{ConstructStep, sets, thaws, Item, makes, Task, Constructing, Building}
-use Rattle.ui_machine.specs.State.Config.{World, Started, starts, said}
-use Rattle.ui_machine.specs.Outcome.{Answer, ◌>>=◌, known, only_if}
-use Rattle.ui_machine.specs.Rules.Construction.{is_forward, not_forward, or_default, given_at, given_value, set_of, no_spec, is_at_construction, construct_sets, constructed_runs, given_sets, new_object, with_object, making, has_valid_default, has_shape}
-use Rattle.ui_machine.specs.Rules.Build.{made_items, adopts_if, forward_of, forward_items, first_peer, peer_for, building, building_object}
-use Rattle.ui_machine.specs.Rules.Ancestry.{lineage}
-use Rattle.ui_machine.specs.Rules.Transform.{same_bool}
+use Rattle.ui_machine.specs.State.Config.{Config, World, Started, starts, said}
+use Rattle.ui_machine.specs.Outcome.{Answer, ◌>>=◌, known}
+use Rattle.ui_machine.specs.Rules.Construction.{is_forward, not_forward, or_default, given_at, given_value, set_of, no_spec, is_at_construction, construct_sets, constructed_runs, given_sets, new_object, with_object, making, has_valid_default}
+use Rattle.ui_machine.specs.Rules.Build.{made_items, adopts_if, forward_of, forward_items, peer_for, building, building_object}
 use Rattle.ui_machine.specs.Steps.{uncounted}
 use Rattle.g_values.specs.declared.value.Value.{Value}
 use Rattle.g_values.specs.View.{value_view}
 use Rattle.definition_format.specs.Meaning.{IsPlain, IsBasic, is_object, object_count}
 use Rattle.engine_world.specs.declared.task.ForwardReference.{ForwardReference}
+use Rattle.engine_world.specs.PeerPlaces.{own_peer}
 use Rattle.engine_world.specs.TaskView.{forwards_of_place, forwards_at, adopts_of, build_from, build_end, build_behind}
 use Rattle.engine_world.specs.declared.task.ConstructStep as code
 use Rattle.engine_world.specs.MakingView.{making_of_code, making_steps, later_steps, making_of_object}
-use Rattle.engine_world.proofs.Notified.{none_given}
 use Rattle.engine_world.proofs.Prototypes.{made_past, object_there}
 
 -- ** lists
@@ -92,18 +91,15 @@ each_valid : (d : Definition) (specs : List Spec) → ((i : ℕ) (s : Spec) → 
 each_valid d [] plain = refl
 each_valid d (s ∷ specs) plain = rw (let e = (plain 0 s refl).default in e) (each_valid d specs (λ i t at. plain (suc i) t at))
 
-pub no_shape : (d : Definition) → IsBasic d → (class : ℕ) → has_shape d class ≡ false
-no_shape d basic class = ap is_some (none_given (λ c. (class_of d c).shape) basic.shapes (lineage d.types class))
-
 module _ (d : Definition) (basic : IsBasic d) where
   module _ (w : World) (place : ℕ) (p : Place) (at : slice_get d.places place ≡ Some p) where
     pub valid_defaults : list_all (has_valid_default d) (specs_of d p.class) ≡ true
     valid_defaults = each_valid d (specs_of d p.class) (λ i s has. basic.plain p.class i s has)
 
-    pub made_there : (held : Bool) → (type_of d p.class).is_abstract ≡ false
-        → making d w place None held ≡ starts (said d (with_object d w (new_object d place p None)) (lines.construct (suc (length w.objects)) (type_of d p.class).name)) (Constructing (suc (length w.objects)) (making_of_object d w p.class (not_forward place p.given)) held ∷ [])
+    pub made_there : (peer : Option ℕ) (held : Bool) → (type_of d p.class).is_abstract ≡ false
+        → making d w place peer held ≡ starts (said d (with_object d w (new_object d place p peer)) (lines.construct (suc (length w.objects)) (type_of d p.class).name)) (Constructing (suc (length w.objects)) (making_of_object d w p.class (not_forward place p.given)) held ∷ [])
     unfolding making
-    made_there held concrete = rw (at, concrete, valid_defaults) refl
+    made_there peer held concrete = rw (at, concrete, valid_defaults) refl
 
     pub next_made : p.is_prototype ≡ false → (fs : List ForwardReference) → build_from d place fs ≡ makes place ∷ build_behind d place fs
     next_made object fs =
@@ -113,29 +109,34 @@ module _ (d : Definition) (basic : IsBasic d) where
         ∙ ap (λ items. makes place ∷ items) (append_assoc (adopts_if place p.parent) others (build_end d fs))
         ∙ ap (λ found. makes place ∷ adopts_of place found ++ build_from d (suc place) fs) (sym at)
 
-    without_peer : peer_for d w p ≡ Ok None
-    without_peer =
-        ap (λ names. only_if (same_bool (has_shape d p.class) (is_some (first_peer w.peers names))) arms.Code (Ok (first_peer w.peers names))) (basic.peers place p at)
-        ∙ ap (λ shaped. only_if (same_bool shaped false) arms.Code (Ok None)) (no_shape d basic p.class)
-
     -- an item that waits below what making starts
     below : (rest : List Task) (n : ℕ) (items : List Item) (a : Answer Started)
         → uncounted (Building items ∷ rest) n a ≡ uncounted rest n (a >>= λ m. starts m.world (m.tasks ++ Building items ∷ []))
     below rest n items (Ok s) = ap (λ tasks. Ok (record { world = s.world; agenda = tasks; counted = n })) (one_more s.tasks (Building items) rest)
     below rest n items (Err arm) = refl
 
-    pub builds_next : p.is_prototype ≡ false → (fs : List ForwardReference) (rest : List Task) (n : ℕ)
-        → uncounted rest n (building d w (build_from d place fs)) ≡ uncounted (Building (build_behind d place fs) ∷ rest) n (making d w place None true)
-    unfolding building_object
-    builds_next object fs rest n =
-        ap (λ items. uncounted rest n (building d w items)) (next_made object fs)
-        ∙ ap (λ (found : Option Place). uncounted rest n (known arms.Code found >>= λ q. peer_for d w q >>= λ peer. making d w place peer true >>= λ m. starts m.world (m.tasks ++ Building (build_behind d place fs) ∷ []))) at
-        ∙ ap (λ (taken : Answer (Option ℕ)). uncounted rest n (taken >>= λ peer. making d w place peer true >>= λ m. starts m.world (m.tasks ++ Building (build_behind d place fs) ∷ []))) without_peer
-        ∙ sym (below rest n (build_behind d place fs) (making d w place None true))
+    module _ (object : p.is_prototype ≡ false) (fs : List ForwardReference) (rest : List Task) (n : ℕ) where
+      -- what is made of the peer that the object has for its own
+      abbrev made_with : Answer (Option ℕ) → Answer Config
+      made_with peer = uncounted rest n (peer >>= λ q. making d w place q true >>= λ m. starts m.world (m.tasks ++ Building (build_behind d place fs) ∷ []))
 
-pub no_place : (d : Definition) (w : World) (place : ℕ) (held : Bool) → slice_get d.places place ≡ None → making d w place None held ≡ Err arms.Code
+      builds_by : uncounted rest n (building d w (build_from d place fs)) ≡ made_with (own_peer d w place)
+      unfolding building_object
+      builds_by =
+          ap (λ items. uncounted rest n (building d w items)) (next_made object fs)
+          ∙ ap (λ (found : Option Place). uncounted rest n (known arms.Code found >>= λ q. peer_for d w q >>= λ peer. making d w place peer true >>= λ m. starts m.world (m.tasks ++ Building (build_behind d place fs) ∷ []))) at
+          ∙ ap (λ (found : Option Place). made_with (known arms.Code found >>= λ (q : Place). peer_for d w q)) (sym at)
+
+      pub builds_next : (peer : Option ℕ) → own_peer d w place ≡ Ok peer
+          → uncounted rest n (building d w (build_from d place fs)) ≡ uncounted (Building (build_behind d place fs) ∷ rest) n (making d w place peer true)
+      builds_next peer is = builds_by ∙ ap made_with is ∙ sym (below rest n (build_behind d place fs) (making d w place peer true))
+
+      pub builds_stuck : (arm : Arm) → own_peer d w place ≡ Err arm → uncounted rest n (building d w (build_from d place fs)) ≡ Err arm
+      builds_stuck arm is = builds_by ∙ ap made_with is
+
+pub no_place : (d : Definition) (w : World) (place : ℕ) (peer : Option ℕ) (held : Bool) → slice_get d.places place ≡ None → making d w place peer held ≡ Err arms.Code
 unfolding making
-no_place d w place held none = rw none refl
+no_place d w place peer held none = rw none refl
 
 -- the forward references of an object stand before those of the objects behind it
 pub forwards_before : (d : Definition) (place : ℕ) (p : Place) → slice_get d.places place ≡ Some p → p.is_prototype ≡ false

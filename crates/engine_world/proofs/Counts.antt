@@ -359,13 +359,13 @@ finds_mentioned d e h =
     counted_finds e.world.table.objects (count_of e.world.table.counts) (mentions d (config_of d e)) (λ id some. omega (arith, h.exact id))
 
 -- what is finalised held what it let go of; its handlers hold nothing
-pub keeps_finalised : (d : Definition) (e : Engine) (t : Store) (hs : Connected) (bs : Made) (w : World) (gone : Gone) (id n : ℕ) → (Knows d e.world.weak → Finalises d id e.world.table t)
+pub keeps_finalised : (d : Definition) (e : Engine) (t : Store) (hs : Connected) (bs : Made) (w : World) (gone : Gone) (id n : ℕ) (closing : Option ℕ) → (Knows d e.world.weak → Finalises d id e.world.table t)
     → hs ≡ record e.world.handlers { handlers = hs.handlers }
-    → w ≡ record (record e.world { table = t; handlers = hs; bindings = bs }) { transcript = w.transcript } → tasks_of d hs.handlers e.stack ≡ map (pruned gone) (agenda_of d e)
-    → KeepsCounts d e (record e { world = w; counted = n })
-keeps_finalised d e t hs bs w gone id n finalises only is left =
-    keeps_by d e (record e { world = w; counted = n }) (ap (λ (v : World). v.weak) is) (ap (λ (v : World). v.context) is)
-    (λ h. handled d e (record e { world = w; counted = n }) hs (ap (λ (v : World). v.handlers) is) only refl h) (λ taken knows h.
+    → w ≡ record (record e.world { table = t; handlers = hs; bindings = bs }) { seats = w.seats; transcript = w.transcript } → tasks_of d hs.handlers e.stack ≡ map (pruned gone) (agenda_of d e)
+    → KeepsCounts d e (record e { world = w; counted = n; closing = closing })
+keeps_finalised d e t hs bs w gone id n closing finalises only is left =
+    keeps_by d e (record e { world = w; counted = n; closing = closing }) (ap (λ (v : World). v.weak) is) (ap (λ (v : World). v.context) is)
+    (λ h. handled d e (record e { world = w; counted = n; closing = closing }) hs (ap (λ (v : World). v.handlers) is) only refl h) (λ taken knows h.
     let b = map held_of e.world.builder.items in
     let a = agenda_of d e in
     let after = from_counted d taken t b a (finalise_exact d (beside_of taken b a) e.world.table t id (finalises knows) (to_counted d taken e.world.table b a h)) in

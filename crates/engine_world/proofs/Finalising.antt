@@ -1,21 +1,22 @@
--- How an object that nothing holds is finalised where there are no peers.
-use Rattle.std.proofs.Common.{◌≡◌, ℕ, suc, Bool, true, false, cond, not, List, [], ◌∷◌, ◌++◌, map, Option, Some, None, IsSome, is_some, Ok, Err, refl, sym, ap, subst, ◌∙◌}
-use Rattle.ui_machine.specs.declared.arm.Arm.TheVariants as arms
+-- How an object is disposed, and how one that nothing holds is finalised.
+use Rattle.std.proofs.Common.{◌≡◌, ◌<◌, ℕ, suc, Bool, true, false, not, String, Global, string_bytes, List, [], map, Option, Some, None, IsSome, Ok, refl, sym, ap, subst, ◌∙◌}
+use Rattle.ui_machine.specs.declared.arm.Halt.{Halt}
+use Rattle.ui_machine.specs.declared.arm.Halt.TheVariants as halts
 use Rattle.ui_machine.specs.Definition.{Definition}
 use Rattle.ui_machine.specs.Output.Lines as lines
 use Rattle.ui_machine.specs.Output.Text.{text_of_line}
-use Rattle.ui_machine.specs.Outcome.{Answer, ◌>>=◌}
-use Rattle.ui_machine.specs.Rules.Disposal.{is_of_object, closing, said_if, is_first, peer_of, objects_disposed, finalised}
+use Rattle.ui_machine.specs.Outcome.{Answer, Stops, ◌>>=◌}
+use Rattle.ui_machine.specs.Rules.Disposal.{is_of_object, closing, said_if, is_first, peer_of, disposed, finalised}
 use Rattle.ui_machine.specs.Rules.Disposal as disposal
 use Rattle.ui_machine.specs.Rules.Sets.{is_disposed}
 use Rattle.ui_machine.specs.State.Config.{World, Started, starts, said, with_objects}
 use Rattle.ui_machine.specs.State.Objects.{Object, Objects, living, put}
 use Rattle.ui_machine.specs.State.Tasks.{Task}
-use Rattle.ui_machine.specs.Steps.{finalising, uncounted}
+use Rattle.ui_machine.specs.Steps.{counted, finalising, most_steps, uncounted}
 use Rattle.ui_machine.specs.State.Bindings.{bindings_without_end}
 use Rattle.bindings.specs.Made.{Made}
 use Rattle.instances.specs.Store.{Store}
-use Rattle.instances.specs.Release.{Finalises}
+use Rattle.instances.specs.Release.{Disposes, Finalises}
 use Rattle.signal_core.specs.Connected.{Connected, Numbered, without_object}
 use Rattle.machine_laws.specs.GoneLaws.{pruned}
 use Rattle.engine_world.specs.Standing.{gone_handlers}
@@ -24,7 +25,11 @@ use Rattle.engine_world.specs.TaskView.{agenda_of, tasks_of}
 use Rattle.engine_world.specs.declared.engine.Engine.{Engine}
 use Rattle.engine_world.proofs.Gone.{kept_left, tasks_alike}
 use Rattle.engine_world.specs.declared.world.World as code
-use Rattle.engine_world.specs.View.{world_of}
+use Rattle.engine_world.specs.ClosingView.{with_closed}
+use Rattle.engine_world.specs.View.{with_line, with_line_if, world_of}
+use Rattle.engine_world.specs.declared.closings.Closing.{Closing}
+use Rattle.engine_world.proofs.Emits.{stops_on}
+use Rattle.engine_world.proofs.Notified.{counted_on}
 
 -- who is not disposed yet is told of
 pub first_time : (os : Objects) (id : ℕ) → IsSome (living os id) → is_first (living os id) ≡ not (is_disposed (living os id))
@@ -34,70 +39,85 @@ first_time os id some = by (living os id) some
     by None h = cc h
     by (Some o) h = refl
 
--- a peer that is not there
-pub no_peer_there : (found : Option ℕ) → is_some found ≡ false → {peer : Option ℕ} → peer ≡ found → peer ≡ None
-no_peer_there None none is = is
-no_peer_there (Some n) none is = cc none
+-- a line, if there is one, leaves the peers
+pub peers_with_line : (line : Option (String Global)) (w : World) → (with_line_if line w).peers ≡ w.peers
+peers_with_line None w = refl
+peers_with_line (Some line) w = refl
 
-module _ (d : Definition) (v : code.World) (id : ℕ) where
-  -- the world after a dispose, which is told of or not
-  abbrev gone : Bool → World
-  gone first = said_if d first (disposal.without_object d (world_of v) id) (lines.dispose id)
+-- what stops a step stops it where it is counted
+pub stops_counted : (halt : Halt) (rest : List Task) (n : ℕ) (a : Answer Started) → n < most_steps → Stops halt a → Stops halt (counted rest n a)
+stops_counted halts.OutOfMemory rest n a few s = tt
+stops_counted (halts.Stuck arm) rest n a few s = counted_on rest n a few ∙ ap (uncounted rest (suc n)) s
 
-  -- and taken out
-  abbrev taken_out : World → Answer Started
-  taken_out u = starts (said d (with_objects u (put u.objects id None)) (lines.final id)) []
+module _ (d : Definition) (v : code.World) (id : ℕ) (closed : Option Closing) (first : Option (String Global)) where
+  -- the peer is closed so, whatever else is of the world
+  abbrev pub ClosesSo : Type 0
+  ClosesSo = (w : World) → w.peers ≡ v.seats → closing d (peer_of (living v.table.objects id)) w ≡ Ok (with_closed closed w)
 
-  by_peer : (peer : Option ℕ) → peer_of (living (world_of v).objects id) ≡ peer
-      → finalising d (world_of v) id ≡ ((closing d peer (gone (is_first (living (world_of v).objects id))) >>= λ u. Ok (said d (with_objects u (put u.objects id None)) (lines.final id))) >>= λ u. starts u [])
+  -- the dispose is told of so
+  abbrev pub TellsSo : Type 0
+  TellsSo = (w : World) → with_line_if first w ≡ said_if d (is_first (living v.table.objects id)) w (lines.dispose id)
+
+  -- the world without the object, whose peer is closed
+  abbrev pub gone : World
+  gone = with_closed closed (with_line_if first (disposal.without_object d (world_of v) id))
+
+  pub disposed_so : ClosesSo → TellsSo → disposed d (world_of v) id ≡ Ok gone
+  disposed_so closes tells =
+      ap (closing d (peer_of (living v.table.objects id))) (sym (tells (disposal.without_object d (world_of v) id)))
+      ∙ closes (with_line_if first (disposal.without_object d (world_of v) id)) (peers_with_line first (disposal.without_object d (world_of v) id))
+
+  -- and it is taken out
+  abbrev pub taken_out : World
+  taken_out = said d (with_objects gone (put gone.objects id None)) (lines.final id)
+
+  pub finalised_so : ClosesSo → TellsSo → finalising d (world_of v) id ≡ starts taken_out []
   unfolding finalising finalised
-  by_peer peer is =
-      ap (λ (p : Option ℕ). (closing d p (gone (is_first (living (world_of v).objects id))) >>= λ u. Ok (said d (with_objects u (put u.objects id None)) (lines.final id))) >>= λ u. starts u []) is
+  finalised_so closes tells =
+      ap (λ (a : Answer World). (a >>= λ u. Ok (said d (with_objects u (put u.objects id None)) (lines.final id))) >>= λ u. starts u []) (disposed_so closes tells)
 
-  pub no_such_peer : (peer : Option ℕ) → peer_of (living (world_of v).objects id) ≡ peer → is_some peer ≡ true → finalising d (world_of v) id ≡ Err arms.Code
-  unfolding closing
-  no_such_peer None is some = cc some
-  no_such_peer (Some n) is some = by_peer (Some n) is ∙ by (is_first (living (world_of v).objects id))
-    where
-      by : (first : Bool) → ((closing d (Some n) (gone first) >>= λ u. Ok (said d (with_objects u (put u.objects id None)) (lines.final id))) >>= λ u. starts u []) ≡ Err arms.Code
-      by true = refl
-      by false = refl
+-- what stops the close of a peer stops the dispose, and the finalisation
+pub disposed_stops : (d : Definition) (v : code.World) (id : ℕ) (halt : Halt)
+    → ((w : World) → w.peers ≡ v.seats → Stops halt (closing d (peer_of (living v.table.objects id)) w)) → Stops halt (disposed d (world_of v) id)
+disposed_stops d v id halt stops = stops (said_if d (is_first (living v.table.objects id)) (disposal.without_object d (world_of v) id) (lines.dispose id)) (by (is_first (living v.table.objects id)))
+  where
+    by : (b : Bool) → (said_if d b (disposal.without_object d (world_of v) id) (lines.dispose id)).peers ≡ v.seats
+    by true = refl
+    by false = refl
 
-  pub finalised_now : peer_of (living (world_of v).objects id) ≡ None → (first : Bool) → is_first (living (world_of v).objects id) ≡ first
-      → finalising d (world_of v) id ≡ starts (record (world_of v) {
-        objects = put (objects_disposed d id v.table.objects) id None;
-        handlers = without_object id v.handlers.handlers;
-        bindings = bindings_without_end id v.bindings.bindings;
-        transcript = cond first ((world_of v).transcript ++ text_of_line d.types (lines.dispose id) ∷ []) (world_of v).transcript ++ text_of_line d.types (lines.final id) ∷ [];
-      }) []
-  unfolding closing
-  finalised_now none first is = by_peer None none ∙ ap (λ f. taken_out (gone f)) is ∙ by first
-    where
-      by : (f : Bool) → taken_out (gone f) ≡ starts (record (world_of v) {
-        objects = put (objects_disposed d id v.table.objects) id None;
-        handlers = without_object id v.handlers.handlers;
-        bindings = bindings_without_end id v.bindings.bindings;
-        transcript = cond f ((world_of v).transcript ++ text_of_line d.types (lines.dispose id) ∷ []) (world_of v).transcript ++ text_of_line d.types (lines.final id) ∷ [];
-      }) []
-      by true = refl
-      by false = refl
+pub finalised_stops : (d : Definition) (v : code.World) (id : ℕ) (halt : Halt)
+    → ((w : World) → w.peers ≡ v.seats → Stops halt (closing d (peer_of (living v.table.objects id)) w)) → Stops halt (finalising d (world_of v) id)
+unfolding finalising finalised
+finalised_stops d v id halt stops =
+    stops_on halt (disposed d (world_of v) id >>= λ u. Ok (said d (with_objects u (put u.objects id None)) (lines.final id))) (λ u. starts u [])
+    (stops_on halt (disposed d (world_of v) id) (λ u. Ok (said d (with_objects u (put u.objects id None)) (lines.final id))) (disposed_stops d v id halt stops))
 
--- what code leaves after it
-pub last_config : (d : Definition) (rest : List Task) (n : ℕ) (w : code.World) (t : Store) (hs : Connected) (bs : Made) (id : ℕ) (first : Bool) (x y : List ℕ) (new : World) (m : ℕ)
-    → new ≡ record (world_of (record w { table = t; handlers = hs; bindings = bs })) { transcript = cond first ((world_of w).transcript ++ x ∷ []) (world_of w).transcript ++ y ∷ [] }
-    → Finalises d id w.table t → hs ≡ record w.handlers { handlers = without_object id w.handlers.handlers }
-    → bs ≡ record w.bindings { bindings = bindings_without_end id w.bindings.bindings }
-    → x ≡ text_of_line d.types (lines.dispose id) → y ≡ text_of_line d.types (lines.final id) → m ≡ suc n
-    → uncounted rest (suc n) (starts (record (world_of w) {
-      objects = put (objects_disposed d id w.table.objects) id None;
-      handlers = without_object id w.handlers.handlers;
-      bindings = bindings_without_end id w.bindings.bindings;
-      transcript = cond first ((world_of w).transcript ++ text_of_line d.types (lines.dispose id) ∷ []) (world_of w).transcript ++ text_of_line d.types (lines.final id) ∷ [];
-    }) []) ≡ Ok (record { world = new; agenda = rest; counted = m })
-last_config d rest n w t hs bs id first x y new m is fin left ends ex ey em =
-    let objects = fin.objects in
-    let floating = fin.floating in
-    rw (is, objects, floating, left, ends, ex, ey, em) refl
+-- what code leaves of a dispose
+pub code_gone : (d : Definition) (v : code.World) (t : Store) (hs : Connected) (bs : Made) (id : ℕ) (closed : Option Closing) (first : Option (String Global))
+    → Disposes d id v.table t → hs ≡ record v.handlers { handlers = without_object id v.handlers.handlers }
+    → bs ≡ record v.bindings { bindings = bindings_without_end id v.bindings.bindings }
+    → with_closed closed (with_line_if first (world_of (record v { table = t; handlers = hs; bindings = bs }))) ≡ gone d v id closed first
+code_gone d v t hs bs id closed first dis left ends =
+    ap (λ (w : World). with_closed closed (with_line_if first w)) (let objects = dis.objects in let floating = dis.floating in rw (objects, floating, left, ends) refl)
+
+-- the object is taken out before or after its peer is closed
+taken_after : (d : Definition) (id : ℕ) (without : World) (closed : Option Closing) (first : Option (String Global))
+    → said d (with_closed closed (with_line_if first (with_objects without (put without.objects id None)))) (lines.final id)
+    ≡ said d (with_objects (with_closed closed (with_line_if first without)) (put (with_closed closed (with_line_if first without)).objects id None)) (lines.final id)
+taken_after d id without None None = refl
+taken_after d id without None (Some x) = refl
+taken_after d id without (Some c) None = refl
+taken_after d id without (Some c) (Some x) = refl
+
+-- what code leaves of a finalisation
+pub code_taken_out : (d : Definition) (v : code.World) (t : Store) (hs : Connected) (bs : Made) (id : ℕ) (closed : Option Closing) (first : Option (String Global)) (last : String Global)
+    → Finalises d id v.table t → hs ≡ record v.handlers { handlers = without_object id v.handlers.handlers }
+    → bs ≡ record v.bindings { bindings = bindings_without_end id v.bindings.bindings } → string_bytes last ≡ text_of_line d.types (lines.final id)
+    → with_line_if (Some last) (with_closed closed (with_line_if first (world_of (record v { table = t; handlers = hs; bindings = bs })))) ≡ taken_out d v id closed first
+code_taken_out d v t hs bs id closed first last fin left ends told =
+    ap (λ (x : List ℕ). with_line x (with_closed closed (with_line_if first (world_of (record v { table = t; handlers = hs; bindings = bs }))))) told
+    ∙ ap (λ (w : World). said d (with_closed closed (with_line_if first w)) (lines.final id)) (let objects = fin.objects in let floating = fin.floating in rw (objects, floating, left, ends) refl)
+    ∙ taken_after d id (disposal.without_object d (world_of v) id) closed first
 
 -- ** handlers of an object that goes
 

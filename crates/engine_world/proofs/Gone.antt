@@ -268,6 +268,7 @@ module _ (gone : Gone) (free : OnlyHandlers gone) (keeps : Handler → Bool) whe
     task_alike (tasks.Binding number) = refl
     task_alike (tasks.Connecting place number) = refl
     task_alike (tasks.Answering source) = refl
+    task_alike (tasks.Calling call) = refl
     task_alike (tasks.Due source) = refl
     task_alike (tasks.Handling event) = refl
 

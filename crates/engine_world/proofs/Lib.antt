@@ -27,3 +27,6 @@ pub mod Building
 pub mod MakingSteps
 mod ConstructedRuns
 pub mod Forwarded
+pub mod SeatedPeers
+mod PlainKinds
+mod ClosedPeers

@@ -23,5 +23,6 @@ parts d hs (tasks.Unsetting number) o = omega arith
 parts d hs (tasks.Binding number) o = omega arith
 parts d hs (tasks.Connecting place number) o = omega arith
 parts d hs (tasks.Answering source) o = omega arith
+parts d hs (tasks.Calling call) o = refl
 parts d hs (tasks.Due source) o = omega arith
 parts d hs (tasks.Handling event) o = omega arith

@@ -12,7 +12,7 @@ use Rattle.ui_machine.specs.State.Config.{Started, World}
 use Rattle.ui_machine.specs.Steps.{left}
 use Rattle.ui_machine.specs.declared.arm.Halt.TheVariants as halts
 use Rattle.ui_machine.specs.Outcome.{Answer, Stops, only_if, ◌>>=◌}
-use Rattle.ui_machine.specs.Rules.Accumulation.{passed_down, received_by, taken}
+use Rattle.ui_machine.specs.Rules.Accumulation.{passed_down, received, received_by, taken}
 use Rattle.ui_machine.specs.Seq.{read, total, write}
 use Rattle.ui_machine.specs.State.Handlers.{Handler}
 use Rattle.ui_machine.specs.State.References.{in_object, in_task, same}
@@ -72,8 +72,30 @@ passes_by d hs (tasks.Unsetting number) rest v other = refl
 passes_by d hs (tasks.Binding number) rest v other = refl
 passes_by d hs (tasks.Connecting place number) rest v other = refl
 passes_by d hs (tasks.Answering source) rest v other = refl
+passes_by d hs (tasks.Calling call) rest v other = refl
 passes_by d hs (tasks.Due source) rest v other = refl
 passes_by d hs (tasks.Handling event) rest v other = refl
+
+-- a task that is none of a program takes no answer
+pub not_received : (d : Definition) (hs : List Handler) (t : code.Task) (rest : List Task) (to : ℕ) (v : Option Value) → ((f : frames.Frame) → t ≡ tasks.Running f → ⊥)
+    → received (task_of d hs t ∷ rest) to v ≡ Err arms.Code
+not_received d hs (tasks.Running frame) rest to v other = absurd (other frame refl)
+not_received d hs (tasks.Setting id slot x) rest to v other = refl
+not_received d hs (tasks.Notifying id slot) rest to v other = refl
+not_received d hs (tasks.Beginning emission) rest to v other = refl
+not_received d hs (tasks.Emitting cursor args by_event transfers) rest to v other = refl
+not_received d hs (tasks.Thawing id slots) rest to v other = refl
+not_received d hs (tasks.Constructing id steps held) rest to v other = refl
+not_received d hs (tasks.Building place forwards) rest to v other = refl
+not_received d hs (tasks.Adopting place forwards) rest to v other = refl
+not_received d hs (tasks.Transferring number back) rest to v other = refl
+not_received d hs (tasks.Unsetting number) rest to v other = refl
+not_received d hs (tasks.Binding number) rest to v other = refl
+not_received d hs (tasks.Connecting place number) rest to v other = refl
+not_received d hs (tasks.Answering source) rest to v other = refl
+not_received d hs (tasks.Calling call) rest to v other = refl
+not_received d hs (tasks.Due source) rest to v other = refl
+not_received d hs (tasks.Handling event) rest to v other = refl
 
 -- ** counts
 

@@ -104,6 +104,16 @@ task_most d hs o (tasks.Unsetting number) = omega arith
 task_most d hs o (tasks.Binding number) = omega arith
 task_most d hs o (tasks.Connecting place number) = omega arith
 task_most d hs o (tasks.Answering source) = omega arith
+task_most d hs o (tasks.Calling call) =
+    omega (
+      arith,
+      same_most o call.object.0,
+      total_ones (in_value o) (value_most o) (map value_view call.args.items),
+      length-map call.args.items value_view,
+      call.args.ok.0,
+      call.args.ok.1,
+      call.args.small,
+    )
 task_most d hs o (tasks.Due source) = omega arith
 task_most d hs o (tasks.Handling event) = omega arith
 

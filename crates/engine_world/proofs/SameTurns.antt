@@ -104,6 +104,7 @@ module _ (d : Definition) (hs ks : List Handler) where
   task_same (tasks.Binding number) is = refl
   task_same (tasks.Connecting place number) is = refl
   task_same (tasks.Answering source) is = refl
+  task_same (tasks.Calling call) is = refl
   task_same (tasks.Due source) is = refl
   task_same (tasks.Handling event) is = refl
 
@@ -168,6 +169,7 @@ module _ (d : Definition) (change : Handler → Handler) (only : OnlyBlocks chan
       by (tasks.Binding number) = tt
       by (tasks.Connecting place number) = tt
       by (tasks.Answering source) = tt
+      by (tasks.Calling call) = tt
       by (tasks.Due source) = tt
       by (tasks.Handling event) = tt
 
@@ -218,6 +220,7 @@ module _ (d : Definition) (h : Handler) (hs : List Handler) (last : ℕ) (later 
       by (tasks.Binding number) begun = tt
       by (tasks.Connecting place number) begun = tt
       by (tasks.Answering source) begun = tt
+      by (tasks.Calling call) begun = tt
       by (tasks.Due source) begun = tt
       by (tasks.Handling event) begun = tt
 
@@ -243,6 +246,7 @@ begun_more last more few s begun = all_more s.tasks.items begun
     one_more (tasks.Binding number) begun = tt
     one_more (tasks.Connecting place number) begun = tt
     one_more (tasks.Answering source) begun = tt
+    one_more (tasks.Calling call) begun = tt
     one_more (tasks.Due source) begun = tt
     one_more (tasks.Handling event) begun = tt
 

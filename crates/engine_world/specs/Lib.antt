@@ -1,6 +1,7 @@
 pub mod GivenView
 pub mod KinView
 pub mod WeakView
+pub mod SeatView
 pub mod View
 pub mod MakingView
 pub mod LineView
@@ -10,6 +11,8 @@ pub mod KnownHandlers
 pub mod ConnectView
 pub mod SourceView
 pub mod Measure
+pub mod ClosingView
+pub mod PeerPlaces
 pub mod EngineView
 pub mod Standing
 pub mod Counting

@@ -14,6 +14,7 @@ use Rattle.signal_core.specs.Emission.{Walk, is_over, to_come}
 use Rattle.signal_core.specs.Laws.{entries_of}
 use Rattle.definition_format.specs.Meaning.{request_of}
 use Rattle.frames.specs.FrameView.{frame_view}
+use Rattle.engine_world.specs.declared.task.DueCall.{DueCall}
 use Rattle.engine_world.specs.declared.task.Task.{Task}
 use Rattle.engine_world.specs.declared.task.Task.TheVariants as tasks
 use Rattle.engine_world.specs.declared.task.ForwardReference.{ForwardReference}
@@ -93,6 +94,12 @@ emission_of w args by_event = record {
 abbrev pub entries_to_come : Walk → List Handler → Transfers → List config.PlanEntry
 entries_to_come w hs ts = entries_due_of (due_now ts) ++ flat_map (entries_of (entries_due_of (due_later ts))) (to_come w hs)
 
+-- ** calls
+
+-- a call of a peer
+abbrev pub call_of : DueCall → config.Call
+call_of c = record { object = c.object.0; peer = c.peer; method = c.method; args = map value_view c.args.items; to = c.to.0 }
+
 -- ** tasks
 
 -- a task, where these handlers are connected
@@ -111,6 +118,7 @@ task_of d hs (tasks.Adopting place forwards) = config.Building (config.adopts pl
 task_of d hs (tasks.Binding number) = config.Building (binds_from d number)
 task_of d hs (tasks.Connecting place number) = config.Building (connects_from d place.0 number)
 task_of d hs (tasks.Answering source) = config.Answering source
+task_of d hs (tasks.Calling call) = config.Calling (call_of call)
 task_of d hs (tasks.Handling event) = config.Handling (request_of event)
 task_of d hs (tasks.Due source) = config.Due source
 

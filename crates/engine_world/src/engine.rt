@@ -1,6 +1,6 @@
 //! The engine: the world, and the tasks that are left.
 
-ghost use Rattle.std.specs.Prelude.{◌≡◌, []};
+ghost use Rattle.std.specs.Prelude.{◌≡◌, None, []};
 ghost use Rattle.ui_machine.specs.Definition as machine;
 ghost use Rattle.ui_machine.specs.Runs.{first_world};
 ghost use Rattle.engine_world.specs.KnownHandlers.{AllTakeKnownHandlers};
@@ -8,6 +8,7 @@ ghost use Rattle.signal_core.specs.Connected.{none_connected};
 ghost use Rattle.engine_world.specs.View.{world_of};
 ghost use Rattle.engine_world.specs.TaskView.{agenda_of};
 
+use crate::seats::Seats;
 use crate::task::Stack;
 use crate::world::World;
 use bindings::Bindings;
@@ -24,6 +25,8 @@ pub struct Engine {
     pub stack: Stack,
     /// The counted steps of the dispatch.
     pub counted: u64,
+    /// The peer that a step closed, by its number, for whoever has the peers to take.
+    pub closing: Option<usize>,
     pub alloc: Global,
 }
 
@@ -37,13 +40,14 @@ pub enum StepKind {
 }
 
 impl Engine {
-    /// Nothing is built yet, and there is nothing to do.
-    pub fn new(alloc: Global, weak: WeakSlots, limits: Limits) -> Self
-        ensures world { (d : machine.Definition) → world_of result.world ≡ first_world d [] }
+    /// Nothing is built yet, there are these peers, and there is nothing to do.
+    pub fn new(alloc: Global, weak: WeakSlots, limits: Limits, seats: Seats) -> Self
+        ensures world { (d : machine.Definition) → world_of result.world ≡ first_world d seats }
         ensures counts { result.world.table.counts ≡ [] }
         ensures marks { result.world.weak ≡ weak }
         ensures handlers { result.world.handlers ≡ none_connected limits.handlers 0 }
         ensures begun { AllTakeKnownHandlers 0 result.stack }
+        ensures closing { result.closing ≡ None }
         ensures idle { (d : machine.Definition) → agenda_of d result ≡ [] }
     {
         Engine {
@@ -54,11 +58,13 @@ impl Engine {
                 bindings: Bindings::new(alloc),
                 context: Context::new(alloc),
                 builder: Vec::new(alloc),
+                seats,
                 transcript: Vec::new(alloc),
                 result: None,
             },
             stack: Stack::new(alloc),
             counted: 0,
+            closing: None,
             alloc,
         }
     }

@@ -2,7 +2,7 @@
 
 ghost use Rattle.std.specs.Prelude.{◌≡◌, ◌++◌, codes, decimal, map, option_map, OnOk, IfOk, string_bytes};
 ghost use Rattle.std.specs.Fmt.{signed_decimal};
-ghost use Rattle.ui_machine.specs.Output.Text.{detail_text, json_string, text_of_value, text_of_values, text_of_identity, text_of_line};
+ghost use Rattle.ui_machine.specs.Output.Text.{call_text, detail_text, json_string, text_of_value, text_of_values, text_of_identity, text_of_line};
 ghost use Rattle.serde_json.specs.Data.{string};
 ghost use Rattle.serde_json.specs.Written.{compact_text};
 ghost use Rattle.g_values.specs.View.{value_view};
@@ -57,6 +57,25 @@ pub enum Line<'a> {
         property: &'a str,
         value: &'a Value,
     },
+    /// A peer answers a call.
+    Call {
+        peer: &'a str,
+        method: &'a str,
+        args: &'a [Value],
+        answer: &'a Value,
+    },
+    /// A peer that is called answers no value.
+    Fault {
+        peer: &'a str,
+        method: &'a str,
+        args: &'a [Value],
+    },
+    /// A peer is not called, since it is closed.
+    Closed {
+        peer: &'a str,
+        method: &'a str,
+        args: &'a [Value],
+    },
     /// A limit was reached, of what the word says.
     Limit {
         word: &'a str,
@@ -81,6 +100,10 @@ pub enum Line<'a> {
     /// An object is disposed, for the first time.
     Dispose {
         object: ObjectId,
+    },
+    /// A peer is closed.
+    Close {
+        peer: &'a str,
     },
     /// An object is taken out.
     Final {
@@ -132,12 +155,25 @@ impl Line<'_> {
                 property,
                 value,
             } => value_line(alloc, types, "get #", object.0, property, value),
+            Line::Call {
+                peer,
+                method,
+                args,
+                answer,
+            } => answered_line(alloc, types, peer, method, args, answer),
+            Line::Fault { peer, method, args } => {
+                call_line(alloc, types, "fault ", peer, method, args)
+            }
+            Line::Closed { peer, method, args } => {
+                call_line(alloc, types, "closed ", peer, method, args)
+            }
             Line::Limit { word } => named_line(alloc, "limit ", word),
             Line::Adopt { parent, child } => adopt_line(alloc, parent.0, child.0),
             Line::Orphan { child } => object_line(alloc, "orphan #", child.0),
             Line::Release { id } => named_line(alloc, "release ", id),
             Line::Turn { moment } => object_line(alloc, "turn ", moment),
             Line::Dispose { object } => object_line(alloc, "dispose #", object.0),
+            Line::Close { peer } => named_line(alloc, "close ", peer),
             Line::Final { object } => object_line(alloc, "final #", object.0),
             Line::Result { value } => result_line(alloc, types, value),
             Line::End { steps } => end_line(alloc, steps),
@@ -209,6 +245,42 @@ fn emit_line(
     line.push_str("(")?;
     push_values(alloc, &mut line, types, args)?;
     line.push_str(")")?;
+    Ok(line)
+}
+
+// `fault p.m(V,V)`, or with another word in front
+fn call_line(
+    alloc: Global,
+    types: &TypeTree,
+    word: &str,
+    peer: &str,
+    method: &str,
+    args: &[Value],
+) -> Result<String, AllocError>
+    ensures { IfOk result (λ line. string_bytes line ≡ word.now ++ call_text types.now peer.now method.now (map value_view args.now)) }
+{
+    let mut line = String::with_capacity(alloc, room(peer))?;
+    write!(line, "{word}{peer}.{method}(")?;
+    push_values(alloc, &mut line, types, args)?;
+    line.push_str(")")?;
+    Ok(line)
+}
+
+// `call p.m(V,V) = V`
+fn answered_line(
+    alloc: Global,
+    types: &TypeTree,
+    peer: &str,
+    method: &str,
+    args: &[Value],
+    answer: &Value,
+) -> Result<String, AllocError>
+    ensures { IfOk result (λ line. string_bytes line
+        ≡ codes "call " ++ (call_text types.now peer.now method.now (map value_view args.now) ++ (codes " = " ++ text_of_value types.now (value_view answer.now)))) }
+{
+    let mut line = call_line(alloc, types, "call ", peer, method, args)?;
+    line.push_str(" = ")?;
+    push_value(alloc, &mut line, types, answer)?;
     Ok(line)
 }
 

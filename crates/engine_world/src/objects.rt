@@ -1,6 +1,6 @@
 //! Objects that are made: with their defaults, and with what their construction has still to do.
 
-ghost use Rattle.std.specs.Prelude.{◌≡◌, suc, length, ℕ, None, cond, [], ◌∷◌, ◌++◌, map, OnOk, OnErr, IfOk, IfErr, Bool, string_bytes};
+ghost use Rattle.std.specs.Prelude.{◌≡◌, ◌<◌, suc, length, ℕ, cond, [], ◌∷◌, ◌++◌, map, OnOk, OnErr, IfOk, IfErr, IfSome, Bool, string_bytes};
 ghost use Rattle.ui_machine.specs.Outcome.{Stops};
 ghost use Rattle.ui_machine.specs.Definition.Properties as machine;
 ghost use Rattle.ui_machine.specs.Definition.Lookups.{specs_of};
@@ -8,7 +8,7 @@ ghost use Rattle.instances.specs.Store.{made_object};
 ghost use Rattle.instances.specs.Laws.{Counted};
 ghost use Rattle.ui_machine.specs.State.References.{in_values};
 ghost use Rattle.ui_machine.specs.Definition as definition;
-ghost use Rattle.ui_machine.specs.Rules.Construction.{with_object, making};
+ghost use Rattle.ui_machine.specs.Rules.Construction.{lent, with_object, making};
 ghost use Rattle.ui_machine.specs.State.Config.{starts};
 ghost use Rattle.ui_machine.specs.State.Tasks.{Constructing};
 ghost use Rattle.g_values.specs.View.{value_view};
@@ -21,6 +21,7 @@ use crate::engine::Engine;
 use crate::lines::Line;
 use crate::places::entry_at;
 use crate::references::push_task;
+use crate::seats::Seats;
 use crate::task::{ConstructSteps, Task};
 use definitions::Definition;
 use g_values::Value;
@@ -40,15 +41,17 @@ pub struct NewObject {
     pub line: String,
 }
 
-// One more object with these values, under the next identity, which floats if its class says so.
+// One more object with these values, under the next identity, which floats if its class says so, and gets this peer.
 fn create_object(
     engine: &mut Engine,
     definition: &Definition,
     class: TypeId,
     place: Place,
     values: Vec<Value>,
+    peer: Option<usize>,
 ) -> Result<ObjectId, AllocError>
-    ensures world { OnOk result (world_of engine.new.world ≡ with_object definition.now (world_of engine.old.world) (made_object class place.0 (map value_view values.items) None)) }
+    requires peer { IfSome peer (λ number. number < length engine.now.world.seats) }
+    ensures world { OnOk result (world_of engine.new.world ≡ with_object definition.now (world_of engine.old.world) (made_object class place.0 (map value_view values.items) peer)) }
     ensures identity { IfOk result (λ id. id.0 ≡ suc (length (world_of engine.old.world).objects)) }
     ensures quiet { (world_of engine.new.world).transcript ≡ (world_of engine.old.world).transcript }
     ensures counted { ((o : ℕ) → in_values o (specs_of definition.now class) (map value_view values.items) ≡ 0) → OnOk result (KeepsCounts definition.now engine.old engine.new) }
@@ -58,22 +61,29 @@ fn create_object(
     let floats = definition
         .types()
         .is_a(class, TypeId::new(INITIALLY_UNOWNED));
-    let object = Object::new(engine.alloc, class, place, values, None);
+    let object = Object::new(engine.alloc, class, place, values, peer);
     // A definition has no more objects than may live, and a program looks for room first, so that what wants is memory.
     let Ok(id) = engine.world.table.create(object) else {
         return Err(AllocError);
     };
     float(&mut engine.world.table, id, floats)?;
+    lend(&mut engine.world.seats, peer, id);
     Ok(id)
 }
 
-/// The object of a place is made. Its line and its construction are still to come.
+/// The object of a place is made, and gets this peer. Its line and its construction are still to come.
 #[tactic(auto, unfolding(ui_machine::specs::Rules::Construction::making))]
-pub fn make(engine: &mut Engine, definition: &Definition, place: Place) -> Result<NewObject, Halt>
-    ensures made { IfOk result (λ new. (held : Bool) → making definition.now (world_of engine.old.world) place.0 None held
+pub fn make(
+    engine: &mut Engine,
+    definition: &Definition,
+    place: Place,
+    peer: Option<usize>,
+) -> Result<NewObject, Halt>
+    requires peer { IfSome peer (λ number. number < length engine.now.world.seats) }
+    ensures made { IfOk result (λ new. (held : Bool) → making definition.now (world_of engine.old.world) place.0 peer held
         ≡ starts (with_line (string_bytes new.line) (world_of engine.new.world)) (Constructing new.object.0 new.steps held ∷ [])) }
     ensures identity { IfOk result (λ new. new.object.0 ≡ suc (length (world_of engine.old.world).objects)) }
-    ensures stops { IfErr result (λ halt. (held : Bool) → Stops halt (making definition.now (world_of engine.old.world) place.0 None held)) }
+    ensures stops { IfErr result (λ halt. (held : Bool) → Stops halt (making definition.now (world_of engine.old.world) place.0 peer held)) }
     ensures quiet { (world_of engine.new.world).transcript ≡ (world_of engine.old.world).transcript }
     ensures counted { OnOk result (KeepsCounts definition.now engine.old engine.new) }
     ensures same { (engine.new.stack ≡ engine.old.stack) × (engine.new.counted ≡ engine.old.counted) }
@@ -94,7 +104,7 @@ pub fn make(engine: &mut Engine, definition: &Definition, place: Place) -> Resul
         entries: entry.given,
     };
     let steps = construction(engine.alloc, definition, class, given)?;
-    let object = create_object(engine, definition, class, place, values)?;
+    let object = create_object(engine, definition, class, place, values, peer)?;
     let told = Line::Construct {
         object,
         class: definition.class_name(class),
@@ -131,6 +141,16 @@ pub fn begin_construction(engine: &mut Engine, new: NewObject, held: bool) -> Re
     )?;
     engine.world.say(line)?;
     Ok(())
+}
+
+// A new object gets a peer, if there is one for it.
+fn lend(seats: &mut Seats, peer: Option<usize>, object: ObjectId)
+    requires { IfSome peer (λ number. number < length seats.now) }
+    ensures { seats.new ≡ lent peer object.0 seats.old }
+{
+    if let Some(number) = peer {
+        seats.lend(number, object);
+    }
 }
 
 // A new object floats or not.

@@ -1,7 +1,8 @@
 //! The places of a definition: what stands there, and how they are gone through.
 
 ghost use Rattle.std.specs.Prelude.{◌≡◌, ◌<◌, ◌≤◌, false, true, suc, map, option_map, slice_get};
-ghost use Rattle.definition_format.specs.Meaning.{attached_view, bare_place, given_property, object_count, place_number};
+ghost use Rattle.definition_format.specs.Meaning.{object_count};
+ghost use Rattle.definitions.specs.EntryView.{entry_view};
 
 use definitions::{Definition, ObjectEntry};
 use ui_machine::Place;
@@ -11,7 +12,7 @@ pub const FIRST_PLACE: Place = Place(0);
 
 /// The object or prototype at a place, if there is one.
 pub fn entry_at(definition: &Definition, place: Place) -> Option<ObjectEntry<'_>>
-    ensures { option_map (λ o. bare_place o.id.now o.class o.is_prototype (place_number o.parent) (map given_property o.given.now) (map attached_view o.signals.now)) result ≡ slice_get definition.now.places place.0 }
+    ensures { option_map entry_view result ≡ slice_get definition.now.places place.0 }
 {
     definition.object(usize::from(place.0))
 }

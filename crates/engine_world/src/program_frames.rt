@@ -4,7 +4,7 @@ ghost use Rattle.std.specs.Prelude.{◌≡◌, ℕ, ◌+◌, ◌≤◌, ◌∷�
 ghost use Rattle.ui_machine.specs.Definition as machine;
 ghost use Rattle.ui_machine.specs.Instructions.Registers.{with_register};
 ghost use Rattle.ui_machine.specs.Outcome.{Goes};
-ghost use Rattle.ui_machine.specs.Rules.Accumulation.{passed_down, received_by, taken};
+ghost use Rattle.ui_machine.specs.Rules.Accumulation.{passed_down, received, received_by, taken};
 ghost use Rattle.ui_machine.specs.State.Tasks.{Running};
 ghost use Rattle.g_values.specs.View.{value_view};
 ghost use Rattle.frames.specs.FrameView.{frame_view};
@@ -87,6 +87,29 @@ fn pass_to(engine: &mut Engine, frame: Frame, value: &Option<Value>) -> Result<(
         return Err(Halt::Stuck(Arm::Result));
     };
     let value = value.copied()?;
+    receive(engine, frame, to, value)
+}
+
+/// The answer of a peer goes to the task below its call: the program that called takes it.
+pub fn pass_answer(
+    engine: &mut Engine,
+    definition: &Definition,
+    to: Register,
+    value: Value,
+) -> Result<(), Halt>
+    requires held { HoldsTasks definition.now engine.now }
+    ensures agenda { Goes result (received (agenda_of definition.now engine.old) to.0 (Some (value_view value))) (agenda_of definition.now engine.new) }
+    ensures only { OnlyTasks engine.old engine.new }
+    ensures counted { OnOk result (KeepsCounts definition.now engine.old engine.new) }
+{
+    // For the proof: the clauses speak of the definition.
+    let _ = definition;
+    let Some(task) = engine.stack.pop() else {
+        return Err(Halt::Stuck(Arm::Code));
+    };
+    let Task::Running(frame) = task else {
+        return Err(Halt::Stuck(Arm::Code));
+    };
     receive(engine, frame, to, value)
 }
 

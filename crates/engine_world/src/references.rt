@@ -127,6 +127,7 @@ impl Task {
             Task::Binding { .. } => None,
             Task::Connecting { .. } => None,
             Task::Answering { .. } => None,
+            Task::Calling(call) => Some(call.object),
             Task::Handling(_) => None,
             Task::Due { .. } => None,
         }
@@ -185,6 +186,7 @@ fn hold_given(table: &mut Table, task: &Task) -> Result<(), AllocError>
         Task::Binding { .. } => Ok(()),
         Task::Connecting { .. } => Ok(()),
         Task::Answering { .. } => Ok(()),
+        Task::Calling(call) => hold_values(table, call.args.as_slice()),
         Task::Handling(_) => Ok(()),
         Task::Due { .. } => Ok(()),
     }

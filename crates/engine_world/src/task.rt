@@ -7,6 +7,7 @@ ghost use Rattle.ui_machine.specs.State.Handlers.{Handler};
 ghost use Rattle.engine_world.specs.TaskView.{making_of_code, task_of, tasks_of};
 
 use bindings::DueTransfers;
+use bytecode::Register;
 use definition_format::Request;
 use frames::Frame;
 use g_values::Value;
@@ -160,6 +161,17 @@ impl Transfers {
     }
 }
 
+/// A call of a peer that is due: the object whose peer it is, the peer and its method by their numbers, the arguments, and the register that
+/// waits for the answer.
+#[derive(Drop)]
+pub struct DueCall {
+    pub object: ObjectId,
+    pub peer: usize,
+    pub method: usize,
+    pub args: Vec<Value>,
+    pub to: Register,
+}
+
 /// What there is to do.
 #[derive(Drop)]
 pub enum Task {
@@ -230,6 +242,8 @@ pub enum Task {
     Answering {
         source: u64,
     },
+    /// A peer is to answer.
+    Calling(DueCall),
     /// A request of an event is to be carried out.
     Handling(Request),
     /// A ready source is to run.
@@ -246,6 +260,7 @@ pub struct Stack {
 
 impl Stack {
     ghost use Rattle.ui_machine.specs.Definition as machine;
+    ghost use Rattle.ui_machine.specs.State.Tasks as config;
     ghost use Rattle.ui_machine.specs.State.Handlers.{Handler};
     ghost use Rattle.engine_world.specs.KnownHandlers.{AllTakeKnownHandlers, TakesKnownHandlers};
     ghost use Rattle.engine_world.specs.TaskView.{task_of, tasks_of};
@@ -267,6 +282,14 @@ impl Stack {
     {
         self.tasks.push(task)?;
         Ok(())
+    }
+
+    /// The first task.
+    pub fn first(&self) -> Option<&Task>
+        ensures { (d : machine.Definition) (hs : List Handler) → MatchOption result (tasks_of d hs self.now ≡ [])
+            (λ task. (rest : List config.Task) × (tasks_of d hs self.now ≡ task_of d hs task.now ∷ rest)) }
+    {
+        self.tasks.last()
     }
 
     /// Takes the first task.

@@ -1,12 +1,13 @@
 //! All but the tasks.
 
-ghost use Rattle.std.specs.Prelude.{◌≡◌, ◌∷◌, [], ◌++◌, cond, OnOk, OnErr, slice_get, string_bytes};
+ghost use Rattle.std.specs.Prelude.{◌≡◌, ◌∷◌, [], ◌++◌, OnOk, OnErr, map, slice_get, string_bytes};
 ghost use Rattle.ui_machine.specs.State.Config.{builder_entry};
 ghost use Rattle.ui_machine.specs.Rules.Build.{identity_held};
 ghost use Rattle.instances.specs.Store.{id_of};
-ghost use Rattle.engine_world.specs.View.{held_of, world_of};
+ghost use Rattle.engine_world.specs.View.{held_of, with_lines, world_of};
 
 use crate::builder::BuilderEntry;
+use crate::seats::Seats;
 use bindings::Bindings;
 use g_values::Value;
 use instances::{Table, WeakSlots};
@@ -15,8 +16,8 @@ use signal_core::Handlers;
 use std::alloc::AllocError;
 use ui_machine::{ObjectId, Place};
 
-/// The objects, which of their properties are weak, the handlers, the bindings, the sources, what the builder holds of the objects, the
-/// transcript, and what the event answered.
+/// The objects, which of their properties are weak, the handlers, the bindings, the sources, what the builder holds of the objects, the peers,
+/// the transcript, and what the event answered.
 #[derive(Drop)]
 pub struct World {
     pub table: Table,
@@ -29,6 +30,8 @@ pub struct World {
     pub context: Context,
     /// What the builder has of each place, as far as it has built.
     pub builder: Vec<BuilderEntry>,
+    /// The peers of the pool.
+    pub seats: Seats,
     pub transcript: Vec<String>,
     pub result: Option<Value>,
 }
@@ -45,30 +48,14 @@ impl World {
         Ok(())
     }
 
-    /// Two lines more, the first only if it is to be told, or none.
-    pub fn say_both(
-        &mut self,
-        is_told: bool,
-        first: String,
-        second: String,
-    ) -> Result<(), AllocError>
-        ensures ok { OnOk result (world_of self.new ≡ record (world_of self.old) {
-          transcript =
-              cond is_told ((world_of self.old).transcript ++ string_bytes first ∷ []) (world_of self.old).transcript ++ string_bytes second ∷ [];
-        }) }
+    /// These lines more, or none of them.
+    pub fn say_all(&mut self, mut lines: Vec<String>) -> Result<(), AllocError>
+        ensures ok { OnOk result (world_of self.new ≡ with_lines (map string_bytes lines.items) (world_of self.old)) }
         ensures err { OnErr result (world_of self.new ≡ world_of self.old) }
         ensures beside { self.new ≡ record self.old { transcript = self.new.transcript } }
         ensures handlers { self.new.handlers ≡ self.old.handlers }
     {
-        if !is_told {
-            return self.say(second);
-        }
-        self.say(first)?;
-        let Ok(()) = self.say(second) else {
-            self.transcript.pop();
-            return Err(AllocError);
-        };
-        Ok(())
+        self.transcript.append(&mut lines)
     }
 
     // What stands at a place of the builder.

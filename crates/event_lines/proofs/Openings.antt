@@ -1,6 +1,6 @@
 -- How a run opens, and what follows.
 use Rattle.std.proofs.Common.{◌≡◌, ℕ, ◌+◌, ◌-◌, ◌/◌, Bool, true, false, List, [], ◌∷◌, ◌++◌, take, length, length-append, arith, append_assoc, append-nil, codes, String, Global, Option, Some, None, Result, Ok, Err, refl, sym, ap, subst, ◌∙◌, inl, inr}
-use Rattle.std.specs.Prelude.{IfSome, string_bytes, ◌⊎◌}
+use Rattle.std.specs.Prelude.{IfSome, OnErr, string_bytes, ◌⊎◌}
 use Rattle.std.proofs.KnownBytes.{Appends-trans}
 use Rattle.ui_machine.specs.declared.arm.Halt.TheVariants as halts
 use Rattle.ui_machine.specs.Definition.{Definition}
@@ -15,7 +15,9 @@ use Rattle.builder_defs.specs.FaultText.{refusal_text}
 use Rattle.event_lines.specs.declared.opening.Opening.TheVariants as code
 use Rattle.event_lines.specs.OpeningView.{IsOpening, Opened}
 use Rattle.event_lines.specs.CheckView.{IsUnread, IsRejected}
-use Rattle.event_lines.specs.Texts.{joined, lines_text, nothing_begun, build_stopped}
+use Rattle.law_pools.specs.Needs.{mismatch, missing}
+use Rattle.law_typing.specs.Verdict.Judges.{Judges}
+use Rattle.event_lines.specs.Texts.{joined, lines_text, mismatch_text, nothing_begun, build_stopped}
 use Rattle.event_lines.specs.EventFileRun.{EventFileRun, InStep, text_from}
 use Rattle.event_lines.specs.Events.{event_replies}
 use Rattle.event_lines.proofs.Runs.{few_writes, few_after}
@@ -24,7 +26,7 @@ use Rattle.event_lines.proofs.RunOver.{runs_over}
 use Rattle.event_lines.specs.Writing.{Sent, Passes, Tears, Finishes, Sends}
 use Rattle.ui_machine.specs.Prefix.{IsPrefix}
 use Rattle.event_lines.specs.Lines.{lines_of}
-use Rattle.event_lines.specs.Opening.{Opening, refused, rejected, unbegun, built, stopped, IsTaken, Opens, Concludes, Plays, Proceeds, Ran}
+use Rattle.event_lines.specs.Opening.{Opening, refused, rejected, mismatched, unbegun, built, stopped, IsTaken, Opens, Concludes, Plays, Proceeds, Ran}
 
 module _ (bytes : List ℕ) (d : Definition) (s : SessionState) (taken : IsTaken bytes d) where
   pub opens_built : (reply : Reply) → Comes (Ok reply) (building d) d s → Opens bytes (built s)
@@ -53,6 +55,16 @@ module _ (bytes : List ℕ) (d : Definition) (s : SessionState) (taken : IsTaken
 pub opens_refused : (bytes : List ℕ) (text : String Global) → IsUnread bytes (string_bytes text) ⊎ IsRejected bytes (string_bytes text) → Opened bytes (code.Refused text)
 opens_refused bytes text (inl (refusal, denotes, is)) = record { opening = refused refusal; is = is; opens = denotes }
 opens_refused bytes text (inr (d, fault, denotes, judged, is)) = record { opening = rejected d fault; is = is; opens = (denotes, judged) }
+
+-- the opening of what is accepted, but does not match
+pub opens_mismatched : (bytes : List ℕ) (d : Definition) (name : List ℕ) (text : String Global) → denoted bytes ≡ Ok d → Judges d None → mismatch d [] ≡ Some (missing name)
+    → string_bytes text ≡ mismatch_text (missing name) → Opened bytes (code.Refused text)
+opens_mismatched bytes d name text denotes judged lacks is = record { opening = mismatched d (missing name); is = is; opens = (denotes, judged, lacks) }
+
+-- where what is said of a refusal is so
+pub on_err : {A E : Type 0} {P : Type 0} (r : Result A E) → P → OnErr r P
+on_err (Ok x) p = tt
+on_err (Err e) p = p
 
 -- ** what is written
 
@@ -189,6 +201,7 @@ module _ (s : SessionState) (torn : Bool) (unread : Type 0) (first last : Option
 open_stopped : (bytes : List ℕ) (session : SessionState) (opening : Opening) → IsOpening (code.Stopped session) opening → Opens bytes opening → Opens bytes (stopped session)
 open_stopped bytes session (refused r) is opens = absurd is
 open_stopped bytes session (rejected d fault) is opens = absurd is
+open_stopped bytes session (mismatched d m) is opens = absurd is
 open_stopped bytes session unbegun is opens = absurd is
 open_stopped bytes session (stopped s) is opens = rw is opens
 open_stopped bytes session (built s) is opens = absurd is
@@ -196,6 +209,7 @@ open_stopped bytes session (built s) is opens = absurd is
 open_built : (bytes : List ℕ) (session : SessionState) (opening : Opening) → IsOpening (code.Built session) opening → Opens bytes opening → Opens bytes (built session)
 open_built bytes session (refused r) is opens = absurd is
 open_built bytes session (rejected d fault) is opens = absurd is
+open_built bytes session (mismatched d m) is opens = absurd is
 open_built bytes session unbegun is opens = absurd is
 open_built bytes session (stopped s) is opens = absurd is
 open_built bytes session (built s) is opens = rw is opens
@@ -230,6 +244,9 @@ module _ (bytes : List ℕ) (first last : Option (List ℕ)) (r r' : ℕ) (a c :
       by (rejected d fault) is opens =
           let written = subst (λ t. IsWritten t 1) (line_is d fault) (subst (λ t. IsWritten (line_of t) 1) is w) in
           (input.0, input.1, written.0, record { opening = rejected d fault; opens = opens; proceeds = (un, written.1) }, sends_more r r' a c written.0 written.2)
+      by (mismatched d m) is opens =
+          let written = subst (λ t. IsWritten (line_of t) 1) is w in
+          (input.0, input.1, written.0, record { opening = mismatched d m; opens = opens; proceeds = (un, written.1) }, sends_more r r' a c written.0 written.2)
       by unbegun is opens = absurd is
       by (stopped s) is opens = absurd is
       by (built s) is opens = absurd is

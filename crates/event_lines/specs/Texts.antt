@@ -1,6 +1,7 @@
 -- What is written of a line.
-use Rattle.std.specs.Prelude.{ℕ, List, [], ◌∷◌, flat_map, codes, decimal}
+use Rattle.std.specs.Prelude.{ℕ, List, [], ◌∷◌, ◌++◌, flat_map, codes, decimal}
 use Rattle.ui_machine.specs.Rules.Events as machine
+use Rattle.law_pools.specs.Needs.{Mismatch, missing, closed, misshapen, unused}
 use Rattle.builder_defs.specs.Refusals.{Refusal}
 use Rattle.builder_defs.specs.FaultText.{refusal_text}
 use Rattle.builder_defs.specs.EventMeaning.{EventRefusal, too_long, not_json, shape, unknown, not_readable, not_writable, construct_only, value_fault}
@@ -55,6 +56,17 @@ stopped_line n = joined (codes "line " ∷ decimal n ∷ codes " stopped: OutOfM
 -- a definition's bytes are refused
 abbrev pub definition_refused : Refusal → List ℕ
 definition_refused refusal = joined (codes "refused: " ∷ refusal_text refusal ∷ codes "\n" ∷ [])
+
+-- how a pool fails to match a definition
+abbrev pub mismatch_text : Mismatch → List ℕ
+mismatch_text (missing name) = codes "PeerMissing " ++ name
+mismatch_text (closed name) = codes "PeerClosed " ++ name
+mismatch_text (misshapen name) = codes "PeerShape " ++ name
+mismatch_text (unused name) = codes "PeerUnused " ++ name
+
+-- a definition does not match the pool
+abbrev pub definition_mismatched : Mismatch → List ℕ
+definition_mismatched mismatch = joined (codes "refused: " ∷ mismatch_text mismatch ∷ codes "\n" ∷ [])
 
 -- no memory was found before the build
 abbrev pub nothing_begun : List ℕ

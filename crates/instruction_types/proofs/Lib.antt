@@ -1,4 +1,3 @@
 mod ParameterLists
 mod ArgumentLists
 mod CodeSteps
-mod Shapes

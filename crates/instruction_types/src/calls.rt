@@ -1,30 +1,17 @@
 //! Calls of the methods of peers.
 
-ghost use Rattle.std.specs.Prelude.{◌≡◌};
 ghost use Rattle.bytecode.specs.View.{call_view};
 ghost use Rattle.ui_machine.specs.Definition.Programs as words;
-ghost use Rattle.ui_machine.specs.Outcome.{known};
-ghost use Rattle.ui_machine.specs.Rules.Construction.{nearest_shape};
-ghost use Rattle.law_typing.specs.Rules.Answers as rules;
 ghost use Rattle.law_typing.specs.Rules.Typing.{typed};
-ghost use Rattle.operand_types.specs.Views.{Leaves, kinds_of, rule_view};
+ghost use Rattle.operand_types.specs.Views.{Leaves, kinds_of};
 
+use crate::arguments::check_arguments;
 use bytecode::{Call, RegisterKind};
 use operand_types::operands::operand;
 use operand_types::{Lookups, Rule, TypingError, Written};
-use type_tree::TypeId;
 
-// Why no method of a class is called: no class has a shape so far.
-fn missing_methods(lookups: &Lookups<'_>, class: TypeId) -> Rule
-    ensures { known (rule_view result) (nearest_shape lookups.now class) ≡ Err rules.unknown }
-{
-    // For the proof: no class has a shape.
-    let _ = lookups.types();
-    Rule::Unknown
-}
-
-/// What a call of a method leaves, or the rule that it breaks.
-#[tactic(auto, unfolding(law_typing::specs::Rules::Typing::calling, law_typing::specs::Rules::Typing::methods_for))]
+/// What a call of a method leaves, or the rule that it breaks: `call d o m [a..]`.
+#[tactic(auto, unfolding(law_typing::specs::Rules::Typing::calling))]
 pub(crate) fn typed(
     lookups: &Lookups<'_>,
     kinds: &[RegisterKind],
@@ -33,5 +20,12 @@ pub(crate) fn typed(
     ensures { (p : words.Program) → Leaves (kinds_of kinds.now) result (typed lookups.now p (kinds_of kinds.now) (call_view call.now)) }
 {
     let class = operand(lookups, kinds, call.object)?;
-    Err(TypingError::Broken(missing_methods(lookups, class)))
+    let Some(method) = lookups.method(class, call.method.as_str()) else {
+        return Err(TypingError::Broken(Rule::Unknown));
+    };
+    check_arguments(lookups, kinds, call.args.as_slice(), method.params)?;
+    Ok(Some(Written {
+        to: call.to,
+        kind: RegisterKind::Plain(method.result),
+    }))
 }

@@ -7,3 +7,6 @@ pub mod WorkedProofs
 pub mod NameProofs
 pub mod FinishProofs
 pub mod CloseProofs
+pub mod ForgettingParts
+pub mod ForgettingProofs
+pub mod WorkedForgettingProofs

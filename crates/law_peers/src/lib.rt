@@ -1,10 +1,13 @@
-//! The laws on peers: how a run leads each from its first state to its last, and that a step which is about none of them is blind to them.
+//! The laws on peers: how a run leads each from its first state to its last, that a step which is about none of them is blind to them, and
+//! that none reads what a peer counts and keeps.
 #![tactic(auto)]
 
 ghost use Rattle.law_peers.specs.Blind.{StepIsBlind, TaskIsBlind, InstructionIsBlind, LeavesPeers, AsksNothing};
 ghost use Rattle.law_peers.specs.PeerLaws.{StepLives, ReachesLives, DispatchLives, EventLives, EventsLive, RunLives, HaltLives};
 ghost use Rattle.law_peers.specs.PeerLaws.{EachLives, LinesOfReplies, LinesByName, ClosesOnce, UntouchedStays, RunFinishes, FinishCloses};
 ghost use Rattle.law_peers.specs.WorkedPeers.{WorkedLife, WorkedBlind};
+ghost use Rattle.law_peers.specs.Forgetting.{QuestionForgets, StepForgets};
+ghost use Rattle.law_peers.specs.WorkedForgetting.{WorkedForgetting};
 
 /// Peers live by their replies alone: each is asked while it is open, in the state that its reply before left, and closed once at most, with
 /// a line for each reply and each close, in their order. So it is for each peer; one with no reply and no close is as it was; and as the
@@ -35,4 +38,12 @@ pub fn blind()
     ensures leaves { LeavesPeers }
     ensures asks { AsksNothing }
     ensures worked { WorkedBlind }
+{}
+
+/// What a peer counts and keeps is for its replies alone: where it is forgotten of each peer, and in the reply, a step asks the same and leads
+/// to the same without it. So a machine may keep of each peer its name, its methods, whether it is open, and who has got it.
+pub fn forgetting()
+    ensures step { StepForgets }
+    ensures question { QuestionForgets }
+    ensures worked { WorkedForgetting }
 {}

@@ -1,4 +1,4 @@
--- What is written in the first format denotes what it denoted when there was no other.
+-- What is written in the first format denotes what it does where there is no other.
 use Rattle.std.proofs.Common.{◌≡◌, ℕ, ◌+◌, ◌==◌, List, [], ◌∷◌, ◌++◌, codes, Option, None, Some, option_map, option_and_then, Result, Ok, Err, refl, sym, ap, ◌∙◌, if◌then◌else◌, Bool, true, false, not, cond}
 use Rattle.std.specs.Prelude.{IfOk}
 use Rattle.std.specs.List.{position_from}
@@ -33,6 +33,7 @@ use Rattle.definition_format.specs.Denoted.Properties.{specs_by}
 use Rattle.definition_format.specs.Denoted.Programs.{code_names, new_program, or_bad_program, program_at, program_in, programs_in, read_ahead, room_for_program, unless_refused}
 use Rattle.definition_format.specs.Denoted.Prototypes.{prototypes_in}
 use Rattle.definition_format.specs.Denoted.SessionLimits.{limits_in}
+use Rattle.definition_format.specs.Denoted.Shapes.{is_shaped_by}
 use Rattle.definition_format.specs.Denoted.{definition_in, definition_with, draft_in, format_number, format_of, keys_of_definition, objects_in}
 use Rattle.law_typing.specs.Verdict.Accepted.{Each}
 use Rattle.law_typing.proofs.Lists.{each_append}
@@ -191,8 +192,8 @@ as_before v first =
   where
     behind : Members → Limits → ClassDraft → List Program → Result Definition Refusal
     behind ms limits draft programs =
-        prototypes_in draft.types (specs_by draft.types draft.own) v >>= λ prototypes.
-        objects_in draft.types (specs_by draft.types draft.own) programs prototypes limits.objects v >>= λ objects.
+        prototypes_in draft.types (specs_by draft.types draft.own) (is_shaped_by draft.types draft.answers.shaped) v >>= λ prototypes.
+        objects_in draft.types (specs_by draft.types draft.own) (is_shaped_by draft.types draft.answers.shaped) programs prototypes limits.objects v >>= λ objects.
         document.only_at [] ms keys_of_definition >>= λ only.
         Ok (definition_with draft programs (objects.places ++ prototypes) objects.bindings limits)
 

@@ -23,6 +23,7 @@ use Rattle.definition_format.specs.Denoted.Properties.{specs_by}
 use Rattle.definition_format.specs.Denoted.Programs.{code_names, new_program, or_bad_program, program_at, program_in, programs_in, read_ahead, room_for_program, unless_refused}
 use Rattle.definition_format.specs.Denoted.Prototypes.{prototypes_in}
 use Rattle.definition_format.specs.Denoted.SessionLimits.{limits_in}
+use Rattle.definition_format.specs.Denoted.Shapes.{is_shaped_by, shapes_in}
 use Rattle.definition_format.specs.Denoted.{classes_in, definition_in, denoted, draft_in, enums_in, flags_in, format_number, format_of, interfaces_in, keys_of_definition, objects_in}
 use Rattle.law_reading.specs.Formats.{BytesAgree, FirstIsSecond, IsOfFirst}
 use Rattle.law_reading.proofs.FormatCode.{Carries, differ, follows, given, outline_carries, same_program}
@@ -136,7 +137,7 @@ module _ (ms : Members) where
   same_limits = rw (kept (codes "limits") refl) refl
 
   same_draft : draft_in after ≡ draft_in before
-  unfolding draft_in enums_in flags_in interfaces_in classes_in
+  unfolding draft_in enums_in flags_in interfaces_in shapes_in classes_in
   same_draft =
       rw (kept (codes "enums") refl, kept (codes "flags") refl, kept (codes "interfaces") refl, kept (codes "shapes") refl, kept (codes "classes") refl, kept (codes "programs") refl) refl
 
@@ -151,14 +152,15 @@ module _ (ms : Members) where
       ap (λ (o : Option Data). programs_by (record { format = format; types = types; place = place_with_id after }) o) (kept (codes "programs") refl)
       ∙ ap (λ (place : List ℕ → Option ℕ). programs_by (record { format = format; types = types; place = place }) (get_member (codes "programs") ms)) same_place
 
-  same_prototypes : (types : List GType) (specs : ℕ → List Spec) → prototypes_in types specs after ≡ prototypes_in types specs before
+  same_prototypes : (types : List GType) (specs : ℕ → List Spec) (has_shape : ℕ → Bool)
+      → prototypes_in types specs has_shape after ≡ prototypes_in types specs has_shape before
   unfolding prototypes_in
-  same_prototypes types specs = rw (kept (codes "prototypes") refl) refl
+  same_prototypes types specs has_shape = rw (kept (codes "prototypes") refl) refl
 
-  same_objects : (types : List GType) (specs : ℕ → List Spec) (programs : List Program) (prototypes : List Place) (most : ℕ)
-      → objects_in types specs programs prototypes most after ≡ objects_in types specs programs prototypes most before
+  same_objects : (types : List GType) (specs : ℕ → List Spec) (has_shape : ℕ → Bool) (programs : List Program) (prototypes : List Place) (most : ℕ)
+      → objects_in types specs has_shape programs prototypes most after ≡ objects_in types specs has_shape programs prototypes most before
   unfolding objects_in
-  same_objects types specs programs prototypes most = rw (kept (codes "objects") refl) refl
+  same_objects types specs has_shape programs prototypes most = rw (kept (codes "objects") refl) refl
 
   second_now : format_of (format_number after) ≡ Ok formats.Second
   second_now = rw (get_member-put key two ms) refl
@@ -174,8 +176,9 @@ module _ (ms : Members) where
       let c = given (draft_in before) _ d l.2 in
       let p = given (programs_in f.0 c.0.types before) _ d c.2 in
       let specs = specs_by c.0.types c.0.own in
-      let q = given (prototypes_in c.0.types specs before) _ d p.2 in
-      let o = given (objects_in c.0.types specs p.0 q.0 l.0.objects before) _ d q.2 in
+      let has_shape = is_shaped_by c.0.types c.0.answers.shaped in
+      let q = given (prototypes_in c.0.types specs has_shape before) _ d p.2 in
+      let o = given (objects_in c.0.types specs has_shape p.0 q.0 l.0.objects before) _ d q.2 in
       let k = given (only_at [] ms keys_of_definition) _ d o.2 in
       let is : f.0 ≡ formats.First = same_given (format_of (format_number before)) formats.First f.0 first f.1 in
       let read : programs_in formats.First c.0.types before ≡ Ok p.0 = subst (λ (format : Format). programs_in format c.0.types before ≡ Ok p.0) is p.1 in
@@ -183,8 +186,8 @@ module _ (ms : Members) where
       (follows _ _ l.0 _ (same_limits ∙ l.1)
       (follows _ _ c.0 _ (same_draft ∙ c.1)
       (follows _ _ p.0 _ (same_programs formats.Second c.0.types ∙ programs_carry c.0.types before p.0 read)
-      (follows _ _ q.0 _ (same_prototypes c.0.types specs ∙ q.1)
-      (follows _ _ o.0 _ (same_objects c.0.types specs p.0 q.0 l.0.objects ∙ o.1)
+      (follows _ _ q.0 _ (same_prototypes c.0.types specs has_shape ∙ q.1)
+      (follows _ _ o.0 _ (same_objects c.0.types specs has_shape p.0 q.0 l.0.objects ∙ o.1)
       (follows _ _ k.0 _ (same_keys ∙ k.1) k.2))))))
 
 pub first_is_second : FirstIsSecond

@@ -21,7 +21,7 @@ use Rattle.ui_machine.specs.Rules.Transform.{kind_fits}
 use Rattle.type_tree.specs.Adding.{find_type, of_sort, required_named, sort_of}
 use Rattle.g_values.specs.Reading.{json_value}
 use Rattle.bytecode.specs.Reading.KindWords.{enum_named, flags_named, is_enum, kind_by, kind_named, or_no_kind, or_unknown, parted}
-use Rattle.bytecode.specs.Reading.Operands.{Refusal, bad_instruction, below, detail_at, expected, interval_at, kind_at, name_at, no_operand, number_at, number_below, operand, priority_at, register_or_null, register_or_null_at, registers_at, taken, value_at}
+use Rattle.bytecode.specs.Reading.Operands.{Refusal, below, detail_at, expected, interval_at, kind_at, name_at, no_operand, number_at, number_below, operand, priority_at, register_or_null, register_or_null_at, registers_at, taken, value_at}
 use Rattle.bytecode.specs.Reading.OperandShapes.{comparison_at, connect_at, one_name, one_register, register_and_blocks, register_and_name, three_registers, two_registers}
 use Rattle.bytecode.specs.Reading.Scopes.{Scope}
 use Rattle.bytecode.specs.Reading.RegisterRows.{and_row, arithmetic_row, clear_row, compare_row, const_row, convert_row, join_row, move_row, not_row, or_row, same_row}
@@ -29,8 +29,7 @@ use Rattle.bytecode.specs.Reading.ObjectRows.{adopt_row, dispose_row, freeze_row
 use Rattle.bytecode.specs.Reading.SignalRows.{block_row, connect_row, disconnect_row, emit_row, stop_row, unbind_row, unblock_row}
 use Rattle.bytecode.specs.Reading.SourceRows.{call_row, idle_row, remove_row, timeout_row}
 use Rattle.bytecode.specs.Reading.JumpRows.{branch_null_row, branch_row, jump_row, return_row}
-use Rattle.bytecode.specs.Reading.Words.{instruction_at, jump_word, object_word, register_word, signal_word, source_word, unless_later}
-use Rattle.bytecode.specs.Later.{is_later}
+use Rattle.bytecode.specs.Reading.Words.{instruction_at, jump_word, object_word, register_word, signal_word, source_word}
 use Rattle.law_typing.specs.Rules.Brackets.{written}
 use Rattle.law_typing.specs.Graph.{next_of}
 use Rattle.law_typing.specs.Verdict.Accepted.{Each}
@@ -461,16 +460,9 @@ module _ (d : Definition) (members : (t : ℕ) → HasMembers (read no_type d.ty
         chosen InstructionRead (bytes_eq word (codes "join")) _ _ (join_read x) (
         chosen InstructionRead (bytes_eq word (codes "convert")) _ _ (convert_read x) (object_word_read word x)))))))))))))
 
-    not_later : (i : Instruction) → InstructionRead i → IfOk (unless_later i) InstructionRead
-    not_later i h = by (is_later i)
-      where
-        by : (b : Bool) → IfOk {E = Refusal} (if b then Err bad_instruction else Ok i) InstructionRead
-        by true = tt
-        by false = h
-
     -- an instruction that was read
     pub instruction_read : (x : Data) → Read (instruction_at scope x)
     unfolding instruction_at
     instruction_read x =
         beside InstructionRead (name_at x 0) _ λ word.
-        on InstructionRead InstructionRead (register_word scope word x) unless_later (register_word_read word x) not_later
+        register_word_read word x

@@ -23,8 +23,11 @@ pub mod ImplementProofs
 pub mod ReadAheadProofs
 pub mod HeirProofs
 pub mod NumberProofs
+pub mod PassedShapes
+pub mod ReplyKinds
 pub mod TreeProofs
 pub mod SpecProofs
+pub mod PeerNames
 pub mod GivenProofs
 pub mod AttachedProofs
 pub mod BindProofs

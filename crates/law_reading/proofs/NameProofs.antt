@@ -1,7 +1,8 @@
 -- Lists in which no two entries are the same, and properties and signals under names that differ.
-use Rattle.std.proofs.Common.{◌≡◌, ℕ, zero, suc, ◌+◌, Bool, true, false, cond, not, ◌&&◌, ◌||◌, nat_eq, arith, List, [], ◌∷◌, ◌++◌, map, None, Some, slice_get, refl, sym, ap, ◌∙◌}
+use Rattle.std.proofs.Common.{◌≡◌, ℕ, zero, suc, ◌+◌, Bool, true, false, cond, not, ◌&&◌, ◌||◌, nat_eq, arith, List, [], ◌∷◌, ◌++◌, map, None, Some, slice_get, refl, sym, ap, subst, ◌∙◌}
 use Rattle.std.specs.List.{list_any}
 use Rattle.std.proofs.lemmas.Bool.{eq-eqb}
+use Rattle.std.proofs.lemmas.List.{append-nil}
 use Rattle.std.proofs.lemmas.List.Folds.{list_any-append}
 use Rattle.std.proofs.lemmas.Option.{none-some}
 use Rattle.ui_machine.specs.Definition.Names.{same_name, place_from}
@@ -161,6 +162,20 @@ module _ {A : Type 0} (of : A → List ℕ) where
       let like = neither (same_name (of x) (of y)) (is_named (xs ++ zs) (of y)) new in
       both_hold (list_any (same_name (of x)) (map of (xs ++ y ∷ zs))) (no_two same_name (map of (xs ++ y ∷ zs)))
       (any_between (same_name (of x)) xs y zs old.0 like.0) (apart_between xs y zs old.1 like.1)
+
+  unswapped : (name : List ℕ) (xs : List A) → list_any (same_name name) (map of xs) ≡ false → is_named xs name ≡ false
+  unswapped name [] e = refl
+  unswapped name (x ∷ xs) e =
+      let old = neither (same_name name (of x)) (list_any (same_name name) (map of xs)) e in
+      none_holds (same_name (of x) name) (is_named xs name) (name_swapped (of x) name ∙ old.0) (unswapped name xs old.1)
+
+  -- names that differ do so the other way round too
+  pub apart_swapped : (xs ys : List A) → AreApart of (xs ++ ys) → AreApart of (ys ++ xs)
+  apart_swapped [] ys p = subst (AreApart of) (sym (append-nil ys)) p
+  apart_swapped (x ∷ xs) ys p =
+      let old = two_parts (list_any (same_name (of x)) (map of (xs ++ ys))) (no_two same_name (map of (xs ++ ys))) p in
+      let like = unnamed_parts xs ys (of x) (unswapped (of x) (xs ++ ys) old.0) in
+      apart_between ys x xs (apart_swapped xs ys old.1) (unnamed_both ys xs (of x) like.1 like.0)
 
   -- names that differ do so without the first of them
   pub apart_rest : (x : A) (xs : List A) → AreApart of (x ∷ xs) → AreApart of xs

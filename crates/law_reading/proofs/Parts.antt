@@ -14,6 +14,7 @@ use Rattle.definition_format.specs.Denoted.Entries.{listed, section}
 use Rattle.definition_format.specs.Denoted.Properties.{specs_by}
 use Rattle.definition_format.specs.Denoted.Drafts.{ClassDraft}
 use Rattle.definition_format.specs.Denoted.Objects.{Built}
+use Rattle.definition_format.specs.Denoted.Shapes.{is_shaped_by}
 use Rattle.definition_format.specs.Denoted.SessionLimits.{limits_in}
 use Rattle.definition_format.specs.Denoted.Programs.{programs_in}
 use Rattle.definition_format.specs.Denoted.Prototypes.{prototypes_in}
@@ -55,8 +56,8 @@ pub record IsRead (d : Definition) : Type 0 where
   pub drafted : draft_in value ≡ Ok draft
   pub limited : limits_in value ≡ Ok limits
   pub programmed : programs_in format draft.types value ≡ Ok programs
-  pub made : prototypes_in draft.types (specs_by draft.types draft.own) value ≡ Ok prototypes
-  pub placed : objects_in draft.types (specs_by draft.types draft.own) programs prototypes limits.objects value ≡ Ok objects
+  pub made : prototypes_in draft.types (specs_by draft.types draft.own) (is_shaped_by draft.types draft.answers.shaped) value ≡ Ok prototypes
+  pub placed : objects_in draft.types (specs_by draft.types draft.own) (is_shaped_by draft.types draft.answers.shaped) programs prototypes limits.objects value ≡ Ok objects
   pub is : definition_with draft programs (objects.places ++ prototypes) objects.bindings limits ≡ d
 
 of_value : (v : Data) → OnRead IsRead (definition_in v)
@@ -67,8 +68,8 @@ of_value v =
     on_read IsRead (limits_in v) _ λ limits l.
     on_read IsRead (draft_in v) _ λ draft c.
     on_read IsRead (programs_in format draft.types v) _ λ programs p.
-    on_read IsRead (prototypes_in draft.types (specs_by draft.types draft.own) v) _ λ prototypes q.
-    on_read IsRead (objects_in draft.types (specs_by draft.types draft.own) programs prototypes limits.objects v) _ λ objects o.
+    on_read IsRead (prototypes_in draft.types (specs_by draft.types draft.own) (is_shaped_by draft.types draft.answers.shaped) v) _ λ prototypes q.
+    on_read IsRead (objects_in draft.types (specs_by draft.types draft.own) (is_shaped_by draft.types draft.answers.shaped) programs prototypes limits.objects v) _ λ objects o.
     on_read IsRead (only_at [] ms keys_of_definition) _ λ u k.
     let read : IsRead (definition_with draft programs (objects.places ++ prototypes) objects.bindings limits) =
     record {

@@ -1,5 +1,5 @@
 -- The places of a definition that was read are as they should be.
-use Rattle.std.proofs.Common.{◌≡◌, ℕ, suc, ◌+◌, ◌<◌, ◌≤◌, ◌⊎◌, inl, inr, Bool, true, false, cond, nat_lt, List, [], ◌∷◌, ◌++◌, length, slice_get, is_some, Option, None, Some, refl, sym, ap, subst, ◌∙◌, arith}
+use Rattle.std.proofs.Common.{◌≡◌, ℕ, ◌+◌, ◌<◌, ◌≤◌, ◌⊎◌, inl, inr, Bool, true, false, cond, nat_lt, List, [], ◌∷◌, ◌++◌, length, slice_get, is_some, Option, None, Some, refl, sym, ap, subst, ◌∙◌, arith}
 use Rattle.std.proofs.lemmas.Bool.Decides.{nat_tests}
 use Rattle.std.specs.Prelude.{◌&&◌, if◌then◌else◌}
 use Rattle.std.specs.List.{flat_map, list_all}
@@ -19,6 +19,7 @@ use Rattle.definition_format.specs.Denoted.Entries.{at_most}
 use Rattle.definition_format.specs.Denoted.Given.{may_be}
 use Rattle.definition_format.specs.Denoted.Objects.{Built}
 use Rattle.definition_format.specs.Denoted.Properties.{specs_by}
+use Rattle.definition_format.specs.Denoted.Shapes.{is_shaped_by}
 use Rattle.definition_format.specs.Denoted.{definition_with}
 use Rattle.law_typing.specs.Verdict.Accepted.{Each}
 use Rattle.law_typing.specs.Laws.WellRead.{no_two, is_plain, GivenFits, GivenRead, IsObject, IsObjectIf, PlaceRead}
@@ -28,7 +29,9 @@ use Rattle.law_reading.proofs.GivenProofs.{Refers, IsOfKind, IsFit}
 use Rattle.law_reading.proofs.ListProofs.{each_more, each_get, get_front, got_either, got_within}
 use Rattle.law_reading.proofs.ObjectProofs.{IsObjectRead, AreObjects}
 use Rattle.law_reading.proofs.PrototypeProofs.{IsItself, IsPlainFit, IsPrototypeRead, ArePrototypes}
-use Rattle.law_reading.proofs.SignalProofs.{known, no_shape}
+use Rattle.law_reading.proofs.PassedShapes.{AreShaped}
+use Rattle.law_reading.proofs.PeerNames.{places_once}
+use Rattle.law_reading.proofs.SignalProofs.{known, shape_is}
 
 -- what a value itself is given to names no object
 plain_given : (types : List GType) (kind : Kind) (g : GivenProperty) → IsItself types kind g.given → is_plain g ≡ true
@@ -44,7 +47,9 @@ all_plain types specs (g ∷ gs) all =
     ap (λ b. b && list_all is_plain gs) (plain_given types all.0.spec.kind g all.0.itself) ∙ all_plain types specs gs all.1
 
 module _ (draft : ClassDraft) (programs : List Program) (built : Built) (prototypes : List Place) (limits : Limits)
-    (read : AreObjects draft.types (specs_by draft.types draft.own) built) (made : ArePrototypes draft.types (specs_by draft.types draft.own) prototypes)
+    (shaped : AreShaped draft.types draft.answers.shaped)
+    (read : AreObjects draft.types (specs_by draft.types draft.own) (is_shaped_by draft.types draft.answers.shaped) prototypes built)
+    (made : ArePrototypes draft.types (specs_by draft.types draft.own) prototypes)
     (fit : length built.places + length prototypes ≤ 512) where
   abbrev objects : List Place
   objects = built.places
@@ -53,7 +58,7 @@ module _ (draft : ClassDraft) (programs : List Program) (built : Built) (prototy
   whole = definition_with draft programs (objects ++ prototypes) built.bindings limits
 
   abbrev Objectlike : ℕ → Place → Type 0
-  Objectlike place p = IsObjectRead draft.types (specs_by draft.types draft.own) read.names place p
+  Objectlike place p = IsObjectRead draft.types (specs_by draft.types draft.own) (is_shaped_by draft.types draft.answers.shaped) read.names place p
 
   abbrev Prototypal : Place → Type 0
   Prototypal p = IsPrototypeRead draft.types (specs_by draft.types draft.own) p
@@ -152,7 +157,8 @@ module _ (draft : ClassDraft) (programs : List Program) (built : Built) (prototy
     slots = o.given.apart;
     plain = λ h. absurd (let no = o.object in cc);
     silent = λ h. absurd (let no = o.object in cc);
-    peers = λ h. ap length o.peers ∙ sym (ap (λ shape. cond (is_some shape) 1 0) (no_shape draft programs (objects ++ prototypes) built.bindings limits p.class));
+    peers = λ h.
+        o.peers ∙ ap (λ shape. cond (is_some shape) 1 0) (shape_is draft programs (objects ++ prototypes) built.bindings limits shaped.past p.class);
     signals = each_more (HasData read.names) (λ (a : Attached). IsObjectIf whole a.with) p.signals (λ a has. data_there a.with has.entry) o.signals;
   }
 
@@ -187,18 +193,9 @@ module _ (draft : ClassDraft) (programs : List Program) (built : Built) (prototy
       by (inr x) (inl o) = let first = o.0 in let behind = x.0 in omega (arith, first, behind)
       by (inr x) (inr y) = absurd (let is = y.1.prototype in cc)
 
-  no_peers : (places : List Place) → ((i : ℕ) (p : Place) → slice_get places i ≡ Some p → p.peers ≡ [])
-      → flat_map (λ (p : Place). p.peers) places ≡ []
-  no_peers [] all = refl
-  no_peers (p ∷ ps) all =
-      ap (λ l. l ++ flat_map (λ (p : Place). p.peers) ps) (all 0 p refl) ∙ no_peers ps (λ i q e. all (suc i) q e)
-
+  -- no peer is named twice
   pub peers_apart : no_two same_name (flat_map (λ (p : Place). p.peers) (objects ++ prototypes)) ≡ true
-  peers_apart = ap (no_two same_name) (no_peers (objects ++ prototypes) (λ i p e. bare i p (either i p e)))
-    where
-      bare : (i : ℕ) (p : Place) → ((i < length objects) × Objectlike i p) ⊎ ((length objects ≤ i) × Prototypal p) → p.peers ≡ []
-      bare i p (inl o) = o.1.peers
-      bare i p (inr q) = q.1.peers
+  peers_apart = places_once objects prototypes read.once
 
   -- a binding is between two objects
   pub binds_read : Each (λ (b : Bind). IsObject whole b.source × IsObject whole b.target) whole.bindings

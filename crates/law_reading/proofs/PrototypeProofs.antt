@@ -1,4 +1,5 @@
--- The prototypes of a definition that was read: of concrete classes, given values that are no objects, without parents, signals and peers.
+-- The prototypes of a definition that was read: of concrete classes, given values that are no objects, without parents and signals. No peer is
+-- named twice.
 use Rattle.std.proofs.Common.{◌≡◌, ℕ, Bool, true, false, nat_eq, List, [], ◌∷◌, ◌++◌, map, slice_get, Option, None, Some, Result, Ok, Err, codes, refl}
 use Rattle.std.specs.Prelude.{if◌then◌else◌, IfOk}
 use Rattle.serde_json.specs.Data.{Data}
@@ -14,9 +15,10 @@ use Rattle.ui_machine.specs.Output.Text.{members_of}
 use Rattle.ui_machine.specs.Rules.Transform.{kind_fits}
 use Rattle.definition_format.specs.Causes.{not_writable}
 use Rattle.definition_format.specs.Refusals.{bad_spec, or_value_fault}
-use Rattle.definition_format.specs.Document.{at_entry, under, nth, members_at, text_at, entries_at, absent_at, only_at}
+use Rattle.definition_format.specs.Document.{at_entry, under, nth, members_at, text_at, entries_at, only_at}
 use Rattle.definition_format.specs.Denoted.Given.{property_named, is_given, named_once, itself}
 use Rattle.definition_format.specs.Denoted.Objects.{new_id, class_at_key}
+use Rattle.definition_format.specs.Denoted.Peers.{peers_of, peers_or}
 use Rattle.definition_format.specs.Denoted.Prototypes.{if_writable, plain_value, keys_of_plain, plain_at, all_plain_at, room_for_prototype, keys_of_prototype, prototype_in, prototype_at, prototypes_in}
 use Rattle.definition_format.proofs.Soundness.{OnRead, on_bind, on_all, on_each}
 use Rattle.law_typing.specs.Verdict.Accepted.{Each}
@@ -25,6 +27,7 @@ use Rattle.law_typing.proofs.Lists.{each_append}
 use Rattle.law_reading.proofs.GivenProofs.{IsNamed, property_is, first_time}
 use Rattle.law_reading.proofs.NameProofs.{apart_push}
 use Rattle.law_reading.proofs.ObjectProofs.{IsConcrete, IsClassOf, class_read}
+use Rattle.law_reading.proofs.PeerNames.{AreBeside, AreOnce, peers_read, place_once}
 use Rattle.law_reading.proofs.ValueProofs.{HaveFewBits, value_fits}
 
 -- a value itself, of the kind among these types
@@ -50,11 +53,15 @@ pub record IsPrototypeRead (types : List GType) (specs : ℕ → List Spec) (p :
   pub given : ArePlainGiven types (specs p.class) p.given
   pub prototype : p.is_prototype ≡ true
   pub parent : p.parent ≡ None
-  pub peers : p.peers ≡ []
   pub signals : p.signals ≡ []
 
 abbrev pub ArePrototypes : List GType → (ℕ → List Spec) → List Place → Type 0
 ArePrototypes types specs prototypes = Each (IsPrototypeRead types specs) prototypes
+
+-- all prototypes of a document: no peer is named twice
+pub record AreReadOnce (types : List GType) (specs : ℕ → List Spec) (prototypes : List Place) : Type 0 where
+  pub read : ArePrototypes types specs prototypes
+  pub once : AreOnce (peers_of prototypes)
 
 writes : (path : List ℕ) (spec : Spec) → OnRead (λ u. is_writable spec ≡ true) (if_writable path spec)
 writes path spec = by (is_writable spec) refl
@@ -107,32 +114,44 @@ module _ (types : List GType) (few : (t : ℕ) → HaveFewBits (members_of types
         on_each Fits (at_entry (λ entry. plain_at entry types specs) (under path (codes "properties")))
         (λ i given d old. one_given (nth (under path (codes "properties")) i) given d old) 0 [] list (record { fit = tt; apart = refl })
 
-  module _ (specs : ℕ → List Spec) where
+  module _ (specs : ℕ → List Spec) (has_shape : ℕ → Bool) where
     abbrev All : List Place → Type 0
-    All prototypes = ArePrototypes types specs prototypes
+    All prototypes = AreReadOnce types specs prototypes
 
-    one_prototype : (path : List ℕ) (prototypes : List Place) (d : Data) → OnRead (IsPrototypeRead types specs) (prototype_in path types specs prototypes d)
+    -- a prototype, whose peers are none of these prototypes'
+    record One (prototypes : List Place) (p : Place) : Type 0 where
+      read : IsPrototypeRead types specs p
+      once : AreBeside (peers_of prototypes) p.peers
+
+    one_prototype : (path : List ℕ) (prototypes : List Place) (d : Data) → AreOnce (peers_of prototypes)
+        → OnRead (One prototypes) (prototype_in path types specs has_shape prototypes d)
     unfolding prototype_in
-    one_prototype path prototypes d =
-        on_bind (λ x. Unit {0}) (IsPrototypeRead types specs) (members_at path d) _ (on_all _) λ ms u.
-        on_bind (λ x. Unit {0}) (IsPrototypeRead types specs) (room_for_prototype prototypes) _ (on_all _) λ room u.
-        on_bind (λ x. Unit {0}) (IsPrototypeRead types specs) (text_at path d (codes "id")) _ (on_all _) λ id u.
-        on_bind (λ x. Unit {0}) (IsPrototypeRead types specs) (new_id (under path (codes "id")) prototypes id) _ (on_all _) λ new u.
-        on_bind (IsClassOf types d) (IsPrototypeRead types specs) (class_at_key path types d) _ (class_read path types d) λ class is.
-        on_bind (ArePlainGiven types (specs class)) (IsPrototypeRead types specs) (all_plain_at path types (specs class) d) _ (all_given (specs class) path d) λ given fit.
-        on_bind (λ x. Unit {0}) (IsPrototypeRead types specs) (absent_at path d (codes "peers" ∷ [])) _ (on_all _) λ peers u.
-        on_bind (λ x. Unit {0}) (IsPrototypeRead types specs) (only_at path ms keys_of_prototype) _ (on_all _) λ only u.
-        record { class = is.concrete; given = fit; prototype = refl; parent = refl; peers = refl; signals = refl }
+    one_prototype path prototypes d before =
+        on_bind (λ x. Unit {0}) (One prototypes) (members_at path d) _ (on_all _) λ ms u.
+        on_bind (λ x. Unit {0}) (One prototypes) (room_for_prototype prototypes) _ (on_all _) λ room u.
+        on_bind (λ x. Unit {0}) (One prototypes) (text_at path d (codes "id")) _ (on_all _) λ id u.
+        on_bind (λ x. Unit {0}) (One prototypes) (new_id (under path (codes "id")) prototypes id) _ (on_all _) λ new u.
+        on_bind (IsClassOf types d) (One prototypes) (class_at_key path types d) _ (class_read path types d) λ class is.
+        on_bind (ArePlainGiven types (specs class)) (One prototypes) (all_plain_at path types (specs class) d) _ (all_given (specs class) path d) λ given fit.
+        on_bind (AreBeside (peers_of prototypes)) (One prototypes)
+        (peers_or (under path (codes "peers")) (has_shape class) (peers_of prototypes) (get (codes "peers") d)) _
+        (peers_read (under path (codes "peers")) (has_shape class) (peers_of prototypes) (get (codes "peers") d) before) λ peers once.
+        on_bind (λ x. Unit {0}) (One prototypes) (only_at path ms keys_of_prototype) _ (on_all _) λ only u.
+        record { read = record { class = is.concrete; given = fit; prototype = refl; parent = refl; signals = refl }; once = once }
 
-    added_read : (path : List ℕ) (prototypes : List Place) (d : Data) → All prototypes → OnRead All (prototype_at path types specs prototypes d)
+    added_read : (path : List ℕ) (prototypes : List Place) (d : Data) → All prototypes → OnRead All (prototype_at path types specs has_shape prototypes d)
     unfolding prototype_at
     added_read path prototypes d old =
-        on_bind (IsPrototypeRead types specs) All (prototype_in path types specs prototypes d) (λ p. Ok (prototypes ++ p ∷ [])) (one_prototype path prototypes d) λ p one.
-        each_append (IsPrototypeRead types specs) prototypes (p ∷ []) old (one, tt)
+        on_bind (One prototypes) All (prototype_in path types specs has_shape prototypes d) (λ p. Ok (prototypes ++ p ∷ []))
+        (one_prototype path prototypes d old.once) λ p one.
+        record {
+          read = each_append (IsPrototypeRead types specs) prototypes (p ∷ []) old.read (one.read, tt);
+          once = place_once [] prototypes p one.once;
+        }
 
-    pub all_prototypes : (d : Data) → OnRead All (prototypes_in types specs d)
+    pub all_prototypes : (d : Data) → OnRead All (prototypes_in types specs has_shape d)
     unfolding prototypes_in
     all_prototypes d =
         on_bind (λ x. Unit {0}) All (entries_at [] d (codes "prototypes")) _ (on_all _) λ list u.
-        on_each All (at_entry (λ path. prototype_at path types specs) (under [] (codes "prototypes")))
-        (λ i ps entry old. added_read (nth (under [] (codes "prototypes")) i) ps entry old) 0 [] list tt
+        on_each All (at_entry (λ path. prototype_at path types specs has_shape) (under [] (codes "prototypes")))
+        (λ i ps entry old. added_read (nth (under [] (codes "prototypes")) i) ps entry old) 0 [] list (record { read = tt; once = refl })

@@ -1,6 +1,7 @@
 -- The signals of a definition that was read: each type has `notify`, and each signal of what it is; its own name finds each.
 use Rattle.std.proofs.Common.{◌≡◌, ℕ, zero, suc, ◌+◌, ◌<◌, ◌≤◌, Bool, true, false, ◌||◌, nat_eq, List, [], ◌∷◌, ◌++◌, length, Option, None, Some, IfSome, slice_get, refl, sym, ap, subst, ◌∙◌, arith, inl, inr, ◌⊎◌}
 use Rattle.std.specs.List.{list_all, list_any, flat_map, AllByRecursion}
+use Rattle.std.proofs.Math.Path.{fun_ext}
 use Rattle.std.proofs.lemmas.Bool.{cases_lt, eqb-true, eq-eqb}
 use Rattle.std.proofs.lemmas.Option.{none-some}
 use Rattle.ui_machine.specs.Definition.{Definition, Class}
@@ -26,6 +27,7 @@ use Rattle.definition_format.specs.Meaning.{type_with, IsKnownKind, HasKnownKind
 use Rattle.definition_format.specs.Denoted.Signals.{signals_by}
 use Rattle.definition_format.specs.Denoted.Properties.{specs_by}
 use Rattle.definition_format.specs.Denoted.Drafts.{ClassDraft}
+use Rattle.definition_format.specs.Denoted.Shapes.{shape_by}
 use Rattle.definition_format.specs.Denoted.{definition_with}
 use Rattle.definition_format.proofs.Soundness.{AllSignals}
 use Rattle.law_typing.specs.Laws.WellRead.{HasNotify, has_values, result_has_values}
@@ -37,10 +39,6 @@ use Rattle.law_reading.proofs.OwnSignalProofs.{IsCanonical, SignalsRead}
 use Rattle.law_reading.proofs.ProvidedProofs.{Has}
 use Rattle.law_reading.proofs.SourceProofs.{sources_any}
 use Rattle.law_reading.proofs.TreeProofs.{Grown}
-
-none_given : (f : ℕ → Option ℕ) → ((t : ℕ) → f t ≡ None) → (ts : List ℕ) → first_given f ts ≡ None
-none_given f all [] = refl
-none_given f all (t ∷ ts) = let e = all t in let rest = none_given f all ts in rw e rest
 
 -- ** what lists put together have
 
@@ -138,7 +136,7 @@ result_filled d members s (Some k) known = known_filled d members k known
 
 module _ (draft : ClassDraft) (programs : List Program) (places : List Place) (bindings : List Bind) (limits : Limits) where
   abbrev class : ℕ → Class
-  class t = type_with (specs_by draft.types draft.own t) (signals_by draft.types draft.signals t) (draft.answers.handlers t) (draft.answers.constructed t)
+  class t = type_with (specs_by draft.types draft.own t) (signals_by draft.types draft.signals t) (draft.answers.handlers t) (draft.answers.constructed t) (draft.answers.shaped t)
 
   pub known : (t : ℕ) → t < length draft.types → class_of (definition_with draft programs places bindings limits) t ≡ class t
   known t h = read-listed no_class class (length draft.types) t (λ past. absurd (omega arith))
@@ -170,15 +168,17 @@ module _ (draft : ClassDraft) (programs : List Program) (places : List Place) (b
   pub as_many : length (definition_with draft programs places bindings limits).classes ≡ length draft.types
   as_many = length-listed class (length draft.types)
 
-  bare_shape : (t : ℕ) → (class_of (definition_with draft programs places bindings limits) t).shape ≡ None
-  bare_shape t = by (cases_lt t (length draft.types))
-    where
-      by : (t < length draft.types) ⊎ (length draft.types ≤ t) → (class_of (definition_with draft programs places bindings limits) t).shape ≡ None
-      by (inl h) = ap (λ (c : Class). c.shape) (known t h)
-      by (inr h) = ap (λ (c : Class). c.shape) (past t h)
+  module _ (none : (t : ℕ) → length draft.types ≤ t → draft.answers.shaped t ≡ None) where
+    own_shapes : (t : ℕ) → draft.answers.shaped t ≡ (class_of (definition_with draft programs places bindings limits) t).shape
+    own_shapes t = by (cases_lt t (length draft.types))
+      where
+        by : (t < length draft.types) ⊎ (length draft.types ≤ t) → draft.answers.shaped t ≡ (class_of (definition_with draft programs places bindings limits) t).shape
+        by (inl h) = sym (ap (λ (c : Class). c.shape) (known t h))
+        by (inr h) = none t h ∙ sym (ap (λ (c : Class). c.shape) (past t h))
 
-  pub no_shape : (t : ℕ) → nearest_shape (definition_with draft programs places bindings limits) t ≡ None
-  no_shape t = none_given (λ c. (class_of (definition_with draft programs places bindings limits) c).shape) bare_shape (lineage draft.types t)
+    -- the shape of a type is the one that reading finds
+    pub shape_is : (t : ℕ) → shape_by draft.types draft.answers.shaped t ≡ nearest_shape (definition_with draft programs places bindings limits) t
+    shape_is t = ap (λ (own : ℕ → Option ℕ). first_given own (lineage draft.types t)) (fun_ext own_shapes)
 
   module _ (all : SignalsRead draft.types draft.signals) where
     pub signals_apart : (t : ℕ) → t < length draft.types → AreApart signal_name (class_of (definition_with draft programs places bindings limits) t).signals

@@ -98,7 +98,7 @@ module _ (draft : ClassDraft) (programs : List Program) (places : List Place) (b
   pub names_apart : list_all (λ (c : Class). no_two same_name (names_of c.specs)) (definition_with draft programs places bindings limits).classes ≡ true
   names_apart =
       all_listed (λ (c : Class). no_two same_name (names_of c.specs))
-      (λ t. type_with (specs_by draft.types draft.own t) (signals_by draft.types draft.signals t) (draft.answers.handlers t) (draft.answers.constructed t))
+      (λ t. type_with (specs_by draft.types draft.own t) (signals_by draft.types draft.signals t) (draft.answers.handlers t) (draft.answers.constructed t) (draft.answers.shaped t))
       (length draft.types)
       (λ t h. grown.1.named t)
 

@@ -5,7 +5,7 @@ use Rattle.std.specs.Option.{ForSome, option_or}
 use Rattle.std.proofs.lemmas.Bool.{cases_lt}
 use Rattle.std.proofs.lemmas.Bool.Decides.{nat_tests}
 use Rattle.std.proofs.lemmas.Option.{none-some}
-use Rattle.serde_json.specs.Data.{Data, Items, no_items}
+use Rattle.serde_json.specs.Data.{Data, Items, no_items, item}
 use Rattle.serde_json.specs.Find.{get, as_str}
 use Rattle.ui_machine.specs.Seq.{read}
 use Rattle.ui_machine.specs.Definition.Types.{GType, Sort, predeclared}
@@ -24,7 +24,7 @@ use Rattle.type_tree.proofs.Entries.{IsTree-append, read-front, read-past, read-
 use Rattle.definition_format.specs.Causes.{unknown_parent, final_parent, named_cause}
 use Rattle.definition_format.specs.Refusals.{Refusal, limit, shape, unknown, duplicate, bad_type, or_refused, refused_if}
 use Rattle.definition_format.specs.declared.faults.DefinitionLimit.TheVariants.{Types}
-use Rattle.definition_format.specs.Document.{each, at_entry, under, nth, members_at, text_at, entries_at, listed_ahead, nothing_at, only_at}
+use Rattle.definition_format.specs.Document.{each, at_entry, under, nth, members_at, text_at, entries_at, listed_ahead, only_at}
 use Rattle.definition_format.specs.Denoted.Types.{is_declared, is_from, room_for_type, new_type_name}
 use Rattle.definition_format.specs.Denoted.Enums.{enum_at, flags_at, enum_member_at, flags_member_at, members_with, keys_of_members}
 use Rattle.definition_format.specs.Denoted.Entries.{ProgramNames, TypeNames, program_names, type_names, name_under, names_under, number_from, section}
@@ -34,7 +34,10 @@ use Rattle.definition_format.specs.Denoted.Implements.{implements_at}
 use Rattle.definition_format.specs.Denoted.Interfaces.{requires_at, interface_type_at, keys_of_interface, interface_at}
 use Rattle.definition_format.specs.Denoted.Classes.{parent_found, parent_called, named_parent, parent_or, parent_at, parent_ahead, check_depth, keys_of_class, declared_at, answers_at, answering_at, class_at}
 use Rattle.definition_format.specs.Denoted.Classes as classes
-use Rattle.definition_format.specs.Denoted.{unset_before_classes, enums_in, flags_in, interfaces_in, classes_in, draft_in}
+use Rattle.definition_format.specs.Denoted.ClassHandlers.{class_handlers_at}
+use Rattle.definition_format.specs.Denoted.Constructed.{constructed_at}
+use Rattle.definition_format.specs.Denoted.Shapes.{shaped_at, shapes_in}
+use Rattle.definition_format.specs.Denoted.{enums_in, flags_in, interfaces_in, classes_in, draft_in}
 use Rattle.definition_format.proofs.Soundness.{OnRead, on_bind, on_all, on_each}
 use Rattle.std.specs.List.{flat_map, list_any}
 use Rattle.ui_machine.specs.Definition.Properties.{Spec}
@@ -50,8 +53,10 @@ use Rattle.ui_machine.specs.Words.{notify}
 use Rattle.law_reading.proofs.MemberProofs.{AreMembers, HasMembers, has_these, enum_members, flags_members}
 use Rattle.law_reading.proofs.NameProofs.{AreApart, AreNamed, signal_name}
 use Rattle.law_reading.proofs.Parts.{on_read, more_on, section_is, taken}
+use Rattle.law_reading.proofs.PassedShapes.{AreShaped, none_shaped, shaped_read, type_more}
 use Rattle.law_reading.proofs.PropertyProofs.{OwnRead, OnlyAt, properties_only, properties_read}
 use Rattle.law_reading.proofs.ProvidedProofs.{Provides, all_provide}
+use Rattle.law_reading.proofs.ReplyKinds.{HaveReplies, all_shapes}
 use Rattle.law_reading.proofs.ImplementProofs.{class_provides}
 use Rattle.law_reading.proofs.ReadAheadProofs.{read_ahead}
 use Rattle.law_reading.proofs.NumberProofs.{on_rest, ClassesLeft, InterfacesLeft, IsNext, is_next, class_left, interface_left, no_interface_left}
@@ -201,13 +206,13 @@ abbrev Offers : List ℕ → TypeNames → Draft → Data → List GType → Typ
 Offers path names draft d all =
     (own : ℕ → List Spec) → properties_at path all names (length draft.types) draft.own d ≡ Ok own → Provides all own (length draft.types)
 
--- the type behind these has the entry's name
-abbrev pub IsCalled : Data → List GType → List GType → Type 0
-IsCalled d types all = (g : GType) × (all ≡ types ++ g ∷ []) × (name_under (codes "name") d ≡ Some g.name)
+-- the type behind these has the entry's name and is of this sort
+abbrev pub IsCalled : Sort → Data → List GType → List GType → Type 0
+IsCalled sort d types all = (g : GType) × (all ≡ types ++ g ∷ []) × (name_under (codes "name") d ≡ Some g.name) × (g.sort ≡ sort)
 
-abbrev pub Declared : List ℕ → TypeNames → Draft → Data → List GType → Type 0
-Declared path names draft d all =
-    More draft.types all × Offers path names draft d all × IsCalled d draft.types all × Announces path names draft d all
+abbrev pub Declared : Sort → List ℕ → TypeNames → Draft → Data → List GType → Type 0
+Declared sort path names draft d all =
+    More draft.types all × Offers path names draft d all × IsCalled sort d draft.types all × Announces path names draft d all
 
 unfound : (path : List ℕ) (first : ℕ) (types : List GType) (name : List ℕ) (u : Unit {0}) → new_type_name path first types name ≡ Ok u → find_type types name ≡ None
 unfound path first types name u = by (find_type types name) (is_type_name name)
@@ -226,17 +231,17 @@ unfound path first types name u = by (find_type types name) (is_type_name name)
 
 declared_grown : (path : List ℕ) (first : ℕ) (list : Items) (names : TypeNames) (draft : Draft) (d : Data) → Grown draft.types
     → OwnRead draft.types draft.own → SignalsRead draft.types draft.signals → IsNext names draft.types d
-    → OnRead (Declared path names draft d) (declared_at path first list names draft d)
+    → OnRead (Declared sorts.class path names draft d) (declared_at path first list names draft d)
 unfolding declared_at
 declared_grown path first list names draft d old read signals next =
-    on_bind (λ x. length draft.types < 256) (Declared path names draft d) (room_for_type draft.types) _ (room_left draft.types) λ r room.
-    on_bind (λ x. Unit {0}) (Declared path names draft d) (check_depth draft.types (parent_ahead draft.types (get (codes "parent") d))) _ (on_all _) λ deep u.
-    on_read (Declared path names draft d) (text_at path d (codes "name")) _ λ name called.
-    on_read (Declared path names draft d) (new_type_name (under path (codes "name")) first draft.types name) _ λ new fresh.
-    on_bind (λ p. p < length draft.types) (Declared path names draft d) (parent_at path list draft.types d) _
+    on_bind (λ x. length draft.types < 256) (Declared sorts.class path names draft d) (room_for_type draft.types) _ (room_left draft.types) λ r room.
+    on_bind (λ x. Unit {0}) (Declared sorts.class path names draft d) (check_depth draft.types (parent_ahead draft.types (get (codes "parent") d))) _ (on_all _) λ deep u.
+    on_read (Declared sorts.class path names draft d) (text_at path d (codes "name")) _ λ name called.
+    on_read (Declared sorts.class path names draft d) (new_type_name (under path (codes "name")) first draft.types name) _ λ new fresh.
+    on_bind (λ p. p < length draft.types) (Declared sorts.class path names draft d) (parent_at path list draft.types d) _
     (parent_in (under path (codes "parent")) list draft.types (get (codes "parent") d)) λ parent within.
-    on_bind (λ x. Unit {0}) (Declared path names draft d) (classes.flags_at path d) _ (on_all _) λ flags u.
-    on_bind (AreImplemented draft old.tree old.heirs signals names parent within path d) (Declared path names draft d)
+    on_bind (λ x. Unit {0}) (Declared sorts.class path names draft d) (classes.flags_at path d) _ (on_all _) λ flags u.
+    on_bind (AreImplemented draft old.tree old.heirs signals names parent within path d) (Declared sorts.class path names draft d)
     (implements_at path names draft parent d) _
     (implements_are draft old.tree old.heirs signals names parent within path d) λ interfaces all.
     let g = class_type name parent flags interfaces in
@@ -248,27 +253,27 @@ declared_grown path first list names draft d old read signals next =
       (more, (g, refl)),
       class_provides draft.types g old.tree more.tree old.heirs draft.own read parent within refl names
           (read_ahead draft.types g refl room names number old.tree draft.own parent) path d interfaces refl all.0 all.1,
-      (g, refl, is),
+      (g, refl, is, refl),
       class_announces draft.types g old.tree more.tree old.heirs draft.signals signals names path d
           parent within refl interfaces all.0 refl all.2,
     )
 
 interface_grown : (path : List ℕ) (first : ℕ) (interfaces classes : Items) (names : TypeNames) (draft : Draft) (d : Data) → Grown draft.types
     → SignalsRead draft.types draft.signals
-    → OnRead (Declared path names draft d) (interface_type_at path first interfaces classes draft.types d)
+    → OnRead (Declared sorts.interface path names draft d) (interface_type_at path first interfaces classes draft.types d)
 unfolding interface_type_at
 interface_grown path first interfaces classes names draft d old signals =
-    on_bind (λ x. length draft.types < 256) (Declared path names draft d) (room_for_type draft.types) _ (room_left draft.types) λ r room.
-    on_read (Declared path names draft d) (text_at path d (codes "name")) _ λ name called.
-    on_bind (λ x. Unit {0}) (Declared path names draft d) (new_type_name (under path (codes "name")) first draft.types name) _ (on_all _) λ new u.
-    on_bind (λ x. Unit {0}) (Declared path names draft d) (requires_at path interfaces classes draft.types d) _ (on_all _) λ required u.
+    on_bind (λ x. length draft.types < 256) (Declared sorts.interface path names draft d) (room_for_type draft.types) _ (room_left draft.types) λ r room.
+    on_read (Declared sorts.interface path names draft d) (text_at path d (codes "name")) _ λ name called.
+    on_bind (λ x. Unit {0}) (Declared sorts.interface path names draft d) (new_type_name (under path (codes "name")) first draft.types name) _ (on_all _) λ new u.
+    on_bind (λ x. Unit {0}) (Declared sorts.interface path names draft d) (requires_at path interfaces classes draft.types d) _ (on_all _) λ required u.
     let g = interface_type name required in
     let more = one_more draft.types g old room (plain_fresh draft.types g refl refl (record { filled = λ e. absurd (cc); few = refl })) in (
       (more, (g, refl)),
       (λ own e i named slot s at.
           let none : false ≡ true =
           sym (ap (λ (x : GType). list_any (nat_eq i) (implemented x.sort x.interfaces)) (read-last no_type g draft.types)) ∙ named in absurd (cc)),
-      (g, refl, taken (shape (under path (codes "name"))) (option_and_then as_str (get (codes "name") d)) name called),
+      (g, refl, taken (shape (under path (codes "name"))) (option_and_then as_str (get (codes "name") d)) name called, refl),
       root_announces draft.types g old.tree more.tree old.heirs draft.signals signals names path d refl refl,
     )
 
@@ -317,14 +322,14 @@ given_read path types names t own signals d =
     on_read (IsGiven path types names t own signals d) (properties_at path types names t own d) _ λ properties e.
     on_read (IsGiven path types names t own signals d) (signals_at path types names t signals d) _ λ all f. (properties, all, refl, e, f)
 
-type_grown : {A : Type 0} (P : A → Type 0) (Q : List GType → Type 0) (path : List ℕ) (keys : List (List ℕ)) (declared : Result (List GType) Refusal)
-    (behind : Draft → Result A Refusal) (names : TypeNames) (draft : Draft) (d : Data) → OnRead (Declared path names draft d) declared → GrownDraft draft
-    → ((g : GType) → name_under (codes "name") d ≡ Some g.name → Q (draft.types ++ g ∷ [])) → ((given : Draft) → With Q given → OnRead P (behind given))
+type_grown : {A : Type 0} (P : A → Type 0) (Q : List GType → Type 0) (sort : Sort) (path : List ℕ) (keys : List (List ℕ)) (declared : Result (List GType) Refusal)
+    (behind : Draft → Result A Refusal) (names : TypeNames) (draft : Draft) (d : Data) → OnRead (Declared sort path names draft d) declared → GrownDraft draft
+    → ((g : GType) → name_under (codes "name") d ≡ Some g.name → g.sort ≡ sort → Grown (draft.types ++ g ∷ []) → Q (draft.types ++ g ∷ [])) → ((given : Draft) → With Q given → OnRead P (behind given))
     → OnRead P (type_at path keys declared behind names draft d)
 unfolding type_at IsGiven
-type_grown P Q path keys declared behind names draft d grown old left last =
+type_grown P Q sort path keys declared behind names draft d grown old left last =
     on_bind (λ x. Unit {0}) P (members_at path d) _ (on_all _) λ ms u.
-    on_bind (Declared path names draft d) P declared _ grown λ types more.
+    on_bind (Declared sort path names draft d) P declared _ grown λ types more.
     on_bind (IsGiven path types names (length draft.types) draft.own draft.signals d) P (given_at path types names (length draft.types) draft.own draft.signals d) _
     (given_read path types names (length draft.types) draft.own draft.signals d) λ given is.
     let own = is.0 in
@@ -338,7 +343,7 @@ type_grown P Q path keys declared behind names draft d grown old left last =
             (subst (OnRead (OnlyAt (length draft.types) draft.own)) e (properties_only types names (length draft.types) draft.own path d)) old.2 (more.1 own e),
         more.3 is.1 is.4,
       ),
-      subst Q (sym more.2.1) (left more.2.0 more.2.2),
+      subst Q (sym more.2.1) (left more.2.0 more.2.2 more.2.3 (subst Grown more.2.1 more.0.0)),
     ))) λ whole p.
     on_bind (λ x. Unit {0}) P (only_at path ms keys) _ (on_all _) λ only u. p
 
@@ -374,44 +379,88 @@ interfaces_grown names types d old begin =
     on_read (With (λ ts. InterfacesLeft names ts no_items)) (entries_at [] d (codes "interfaces")) _ λ list listed.
     on_rest (λ draft ds. With (λ ts. InterfacesLeft names ts ds) draft)
     (at_entry (λ path. interface_at path (length types) list (listed_ahead (codes "classes") d) names) (under [] (codes "interfaces")))
-    (λ i draft e ds all. type_grown (With (λ ts. InterfacesLeft names ts ds)) (λ ts. InterfacesLeft names ts ds) (nth (under [] (codes "interfaces")) i) keys_of_interface
+    (λ i draft e ds all. type_grown (With (λ ts. InterfacesLeft names ts ds)) (λ ts. InterfacesLeft names ts ds) sorts.interface (nth (under [] (codes "interfaces")) i) keys_of_interface
     (interface_type_at (nth (under [] (codes "interfaces")) i) (length types) list (listed_ahead (codes "classes") d) draft.types e)
     Ok names draft e
     (interface_grown (nth (under [] (codes "interfaces")) i) (length types) list (listed_ahead (codes "classes") d) names draft e
     all.0.0 all.0.3) all.0
-    (λ g called. interface_left names draft.types e ds g called all.1) (λ given all. all))
+    (λ g called sort grown. interface_left names draft.types e ds g called all.1) (λ given all. all))
     0 (bare_draft types) list ((old, bare_read types, λ t i named slot s at. absurd (cc), silent_read types), begin list listed)
 
--- with what classes answer
+-- ** classes with what they name
+
 abbrev pub GrownClasses : ClassDraft → Type 0
 GrownClasses draft = GrownDraft (unanswered draft)
 
-abbrev WithClasses : (List GType → Type 0) → ClassDraft → Type 0
-WithClasses Q draft = With Q (unanswered draft)
+-- classes, what they name, and the shapes beside them
+pub record ReadClasses (draft : ClassDraft) : Type 0 where
+  pub grown : GrownClasses draft
+  pub shaped : AreShaped draft.types draft.answers.shaped
+  pub replies : HaveReplies draft.answers.shapes
 
-answering_grown : (Q : List GType → Type 0) (path : List ℕ) (programs : ProgramNames) (t : ℕ) (answers : Answers) (d : Data) (given : Draft) → With Q given
-    → OnRead (WithClasses Q) (answering_at path programs t answers d given)
+-- such classes, where these entries are left
+abbrev Growing : TypeNames → ClassDraft → Items → Type 0
+Growing names draft ds = ReadClasses draft × ClassesLeft names draft.types ds
+
+-- a class that has named no shape so far is the last type
+record IsLast (last : ℕ) (own : ℕ → Option ℕ) (types : List GType) : Type 0 where
+  count : suc last ≡ length types
+  class : sort_of types last ≡ sorts.class
+  shaped : AreShaped types own
+
+abbrev LastLeft : TypeNames → Items → ℕ → (ℕ → Option ℕ) → List GType → Type 0
+LastLeft names ds last own types = ClassesLeft names types ds × IsLast last own types
+
+last_type : (types : List GType) (g : GType) (own : ℕ → Option ℕ) → IsTree types → IsTree (types ++ g ∷ []) → g.sort ≡ sorts.class → AreShaped types own
+    → IsLast (length types) own (types ++ g ∷ [])
+last_type types g own tree more sort shaped = record {
+  count = let one = length-append types (g ∷ []) in omega (arith, one);
+  class = ap (λ (x : GType). x.sort) (read-last no_type g types) ∙ sort;
+  shaped = type_more types g tree more own shaped;
+}
+
+-- the shapes that types name, and the shapes themselves
+abbrev AnswersRead : List GType → Answers → Type 0
+AnswersRead types answers = AreShaped types answers.shaped × HaveReplies answers.shapes
+
+answers_read : (path : List ℕ) (programs : ProgramNames) (types : List GType) (t : ℕ) (answers : Answers) (d : Data) → IsTree types
+    → IsLast t answers.shaped types → HaveReplies answers.shapes → OnRead (AnswersRead types) (answers_at path programs types t answers d)
+unfolding answers_at
+answers_read path programs types t answers d tree last replies =
+    on_bind (λ x. Unit {0}) (AnswersRead types) (class_handlers_at path programs t answers.handlers d) _ (on_all _) λ handlers u.
+    on_bind (λ x. Unit {0}) (AnswersRead types) (constructed_at path programs t answers.constructed d) _ (on_all _) λ constructed u.
+    on_bind (AreShaped types) (AnswersRead types) (shaped_at path types answers.shapes t answers.shaped d) _
+    (shaped_read types tree answers.shaped t last.count path answers.shapes d last.class last.shaped) λ shaped all. (all, replies)
+
+answering_grown : (names : TypeNames) (ds : Items) (path : List ℕ) (programs : ProgramNames) (t : ℕ) (answers : Answers) (d : Data) (given : Draft)
+    → HaveReplies answers.shapes → With (LastLeft names ds t answers.shaped) given
+    → OnRead (λ draft. Growing names draft ds) (answering_at path programs t answers d given)
 unfolding answering_at
-answering_grown Q path programs t answers d given all =
-    on_bind (λ x. Unit {0}) (WithClasses Q) (answers_at path programs t answers d) _ (on_all _) λ whole u. all
+answering_grown names ds path programs t answers d given replies all =
+    on_bind (AnswersRead given.types) (λ draft. Growing names draft ds) (answers_at path programs given.types t answers d) _
+    (answers_read path programs given.types t answers d all.0.0.tree all.1.1 replies) λ whole read.
+    (record { grown = all.0; shaped = read.0; replies = read.1 }, all.1.0)
 
-classes_grown : (names : TypeNames) (programs : ProgramNames) (draft : ClassDraft) (d : Data) → GrownClasses draft
-    → ((list : Items) → entries_at [] d (codes "classes") ≡ Ok list → ClassesLeft names draft.types list) → OnRead GrownClasses (classes_in names programs draft d)
+class_grown : (path : List ℕ) (first : ℕ) (list : Items) (names : TypeNames) (programs : ProgramNames) (draft : ClassDraft) (e : Data) (ds : Items)
+    → Growing names draft (item e ds) → OnRead (λ more. Growing names more ds) (class_at path first list names programs draft e)
+class_grown path first list names programs draft e ds all =
+    let old = all.0.grown in
+    type_grown (λ more. Growing names more ds) (LastLeft names ds (length draft.types) draft.answers.shaped) sorts.class path keys_of_class
+    (declared_at path first list names (unanswered draft) e) (answering_at path programs (length draft.types) draft.answers e) names (unanswered draft) e
+    (declared_grown path first list names (unanswered draft) e old.0 old.1 old.3 (is_next names draft.types e ds all.1)) old
+    (λ g called sort grown.
+    (class_left names draft.types e ds g called all.1, last_type draft.types g draft.answers.shaped old.0.tree grown.tree sort all.0.shaped))
+    (λ given with. answering_grown names ds path programs (length draft.types) draft.answers e given all.0.replies with)
+
+classes_grown : (names : TypeNames) (programs : ProgramNames) (draft : ClassDraft) (d : Data) → ReadClasses draft
+    → ((list : Items) → entries_at [] d (codes "classes") ≡ Ok list → ClassesLeft names draft.types list) → OnRead ReadClasses (classes_in names programs draft d)
 unfolding classes_in
 classes_grown names programs draft d old begin =
-    on_bind (λ x. Unit {0}) GrownClasses (nothing_at [] d unset_before_classes) _ (on_all _) λ unset u.
-    on_read GrownClasses (entries_at [] d (codes "classes")) _ λ list listed.
-    more_on (WithClasses (λ ts. ClassesLeft names ts no_items)) GrownClasses
+    on_read ReadClasses (entries_at [] d (codes "classes")) _ λ list listed.
+    more_on (λ more. Growing names more no_items) ReadClasses
     (each (at_entry (λ path. class_at path (length draft.types) list names programs) (under [] (codes "classes"))) 0 draft list) (λ x all. all.0)
-    (on_rest (λ more ds. WithClasses (λ ts. ClassesLeft names ts ds) more)
-    (at_entry (λ path. class_at path (length draft.types) list names programs) (under [] (codes "classes")))
-    (λ i more e ds all. type_grown (WithClasses (λ ts. ClassesLeft names ts ds)) (λ ts. ClassesLeft names ts ds) (nth (under [] (codes "classes")) i) keys_of_class
-    (declared_at (nth (under [] (codes "classes")) i) (length draft.types) list names (unanswered more) e)
-    (answering_at (nth (under [] (codes "classes")) i) programs (length more.types) more.answers e) names (unanswered more) e
-    (declared_grown (nth (under [] (codes "classes")) i) (length draft.types) list names (unanswered more) e
-    all.0.0 all.0.1 all.0.3 (is_next names more.types e ds all.1)) all.0
-    (λ g called. class_left names more.types e ds g called all.1)
-    (answering_grown (λ ts. ClassesLeft names ts ds) (nth (under [] (codes "classes")) i) programs (length more.types) more.answers e)) 0 draft list (old, begin list listed))
+    (on_rest (λ more ds. Growing names more ds) (at_entry (λ path. class_at path (length draft.types) list names programs) (under [] (codes "classes")))
+    (λ i more e ds all. class_grown (nth (under [] (codes "classes")) i) (length draft.types) list names programs more e ds all) 0 draft list (old, begin list listed))
 
 first_parents : (t p : ℕ) → parent_of predeclared t ≡ Some p → p < t
 first_parents zero p h = absurd (cc)
@@ -454,15 +503,17 @@ all_flags_grown types d old =
     on_each Grown (at_entry (λ path. flags_at path (length types)) (under [] (codes "flags")))
     (λ i more d all. flags_grown (nth (under [] (codes "flags")) i) (length types) more d all) 0 types list old
 
-pub draft_grown : (d : Data) → OnRead GrownClasses (draft_in d)
+pub draft_grown : (d : Data) → OnRead ReadClasses (draft_in d)
 unfolding draft_in
 draft_grown d =
-    on_bind Grown GrownClasses (enums_in d) _ (enums_grown d) λ enums old.
-    on_bind Grown GrownClasses (flags_in enums d) _ (all_flags_grown enums d old) λ types more.
-    on_bind (With (λ ts. InterfacesLeft (type_names types d) ts no_items)) GrownClasses (interfaces_in (type_names types d) types d) _
-    (interfaces_grown (type_names types d) types d more (λ list e. begin types list (section_is [] (codes "interfaces") d list e)))
-    λ draft all. classes_grown (type_names types d) (program_names d) (with_answers draft no_answers) d all.0 (λ list e. no_interface_left (type_names types d) draft.types list
-    (ap (names_under (codes "name")) (section_is [] (codes "classes") d list e)) all.1)
+    on_bind Grown ReadClasses (enums_in d) _ (enums_grown d) λ enums old.
+    on_bind Grown ReadClasses (flags_in enums d) _ (all_flags_grown enums d old) λ types more.
+    on_bind (With (λ ts. InterfacesLeft (type_names types d) ts no_items)) ReadClasses (interfaces_in (type_names types d) types d) _
+    (interfaces_grown (type_names types d) types d more (λ list e. begin types list (section_is [] (codes "interfaces") d list e))) λ draft all.
+    on_bind HaveReplies ReadClasses (shapes_in d) _ (all_shapes d) λ shapes replies.
+    classes_grown (type_names types d) (program_names d) (with_answers draft (no_answers shapes)) d
+    (record { grown = all.0; shaped = none_shaped draft.types; replies = replies })
+    (λ list e. no_interface_left (type_names types d) draft.types list (ap (names_under (codes "name")) (section_is [] (codes "classes") d list e)) all.1)
   where
     begin : (types : List GType) (list : Items) → section (codes "interfaces") d ≡ list → InterfacesLeft (type_names types d) types list
     begin types list is name none =

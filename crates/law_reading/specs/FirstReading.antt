@@ -1,4 +1,4 @@
--- Which definition a value denotes in the first format, as it was when there was no other. What does not come from this file has not changed.
+-- Which definition a value denotes where the first format is the only one. What does not come from this file is the same in all formats.
 use Rattle.std.specs.Prelude.{ℕ, List, [], ◌∷◌, ◌++◌, codes, ◌==◌, if◌then◌else◌, Option, None, Some, option_map, option_and_then, false, Result, Ok, Err}
 use Rattle.serde_json.specs.Data.{Data}
 use Rattle.serde_json.specs.Find.{as_array, as_object, as_str, get}
@@ -25,6 +25,7 @@ use Rattle.definition_format.specs.Denoted.Programs.{code_names, new_program, or
 use Rattle.definition_format.specs.Denoted.Properties.{specs_by}
 use Rattle.definition_format.specs.Denoted.Prototypes.{prototypes_in}
 use Rattle.definition_format.specs.Denoted.SessionLimits.{limits_in}
+use Rattle.definition_format.specs.Denoted.Shapes.{is_shaped_by}
 use Rattle.definition_format.specs.Denoted.{definition_with, draft_in, format_number, keys_of_definition, objects_in}
 
 -- ** blocks
@@ -110,7 +111,7 @@ definition_in d = do
   limits ← limits_in d
   draft ← draft_in d
   programs ← programs_in draft.types d
-  prototypes ← prototypes_in draft.types (specs_by draft.types draft.own) d
-  objects ← objects_in draft.types (specs_by draft.types draft.own) programs prototypes limits.objects d
+  prototypes ← prototypes_in draft.types (specs_by draft.types draft.own) (is_shaped_by draft.types draft.answers.shaped) d
+  objects ← objects_in draft.types (specs_by draft.types draft.own) (is_shaped_by draft.types draft.answers.shaped) programs prototypes limits.objects d
   only ← document.only_at [] members keys_of_definition
   Ok (definition_with draft programs (objects.places ++ prototypes) objects.bindings limits)

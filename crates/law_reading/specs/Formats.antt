@@ -1,4 +1,4 @@
--- The formats of definitions. What is written in the first format denotes what it always did, and the same in the second.
+-- The formats of definitions. What is written in the first format denotes what it does where there is no other, and the same in the second.
 use Rattle.std.specs.Prelude.{◌≡◌, ℕ, List, codes, Ok}
 use Rattle.serde_json.specs.Data.{Data, object, number, unsigned, put}
 use Rattle.ui_machine.specs.Definition.{Definition}
@@ -16,7 +16,7 @@ in_format n d = d
 abbrev pub IsOfFirst : Data → Type 0
 IsOfFirst value = format_of (format_number value) ≡ Ok formats.First
 
--- A value of the first format denotes what it always denoted, or is refused as it always was.
+-- A value of the first format denotes what it denotes where there is no other, or is refused as it is there.
 abbrev pub FirstIsAsBefore : Type 0
 FirstIsAsBefore = (value : Data) → IsOfFirst value → definition_in value ≡ before.definition_in value
 

@@ -14,7 +14,7 @@ pub fn reading()
     ensures held { HeldIsWell }
 {}
 
-/// What is written in the first format denotes what it denoted when there was no other, and is refused as it was. And it denotes the same in
+/// What is written in the first format denotes what it does where there is no other, and is refused as it is there. And it denotes the same in
 /// the second: where only the member `format` differs, and the one that says 1 denotes a definition, the one that says 2 denotes it too.
 pub fn formats()
     ensures before { FirstIsAsBefore }
@@ -33,7 +33,7 @@ pub fn runs()
     ensures halting { ReadHaltsForMemory }
 {}
 
-/// The bytes of a definition with a signal, a child and a prototype, and lines that set, emit, read and let go, meet what this asks.
+/// The bytes of a definition with a signal, a shape, a child, a prototype and peers, and lines that set, emit, read and let go, meet what this asks.
 pub fn premises()
     ensures { PremisesMet }
 {}

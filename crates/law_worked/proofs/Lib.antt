@@ -6,5 +6,6 @@ pub mod MiddleProofs
 pub mod OnLiterals
 pub mod FormatReads
 pub mod PairReads
+pub mod PeerReads
 pub mod SourceReads
 pub mod TurnProofs

@@ -21,15 +21,19 @@ use Rattle.definition_format.specs.Denoted.Given.{property_named}
 use Rattle.definition_format.specs.Denoted.Objects.{place_at, added_at, object_at}
 use Rattle.definition_format.specs.Denoted.Properties.{valued_at, spec_at, property_at}
 use Rattle.definition_format.specs.Denoted.Ranges.{range_at}
+use Rattle.definition_format.specs.Denoted.Shapes.{shapes_in, shape_at, shape_in, methods_at, method_at, method_in, plain_params_at, plain_param_at, shaped_at, named_shape}
+use Rattle.definition_format.specs.Denoted.Peers.{peer_at, listed_peers, next_peer_at, one_peer}
+use Rattle.definition_format.specs.Denoted.SessionLimits.{given_limits, given_limit}
 use Rattle.definition_format.specs.EventMeaning.{line_value, target, signal_target, object_of, each_of, id_known, argument, set_event, get_event, release_event, emit_event, event_meant, event_denoted}
 use Rattle.bytecode.specs.Reading.Each as code
-use Rattle.bytecode.specs.Reading.JumpRows.{jump_row, return_row}
-use Rattle.bytecode.specs.Reading.ObjectRows.{new_row, set_row}
-use Rattle.bytecode.specs.Reading.OperandShapes.{one_register, two_registers, three_registers, register_and_name, one_name}
+use Rattle.bytecode.specs.Reading.JumpRows.{branch_null_row, jump_row, return_row}
+use Rattle.bytecode.specs.Reading.ObjectRows.{get_row, new_row, set_row}
+use Rattle.bytecode.specs.Reading.OperandShapes.{connect_at, one_register, two_registers, three_registers, register_and_blocks, register_and_name, one_name}
 use Rattle.bytecode.specs.Reading.Outline.{kinds_at, block_at, blocks_at, outline_in}
 use Rattle.bytecode.specs.Reading.Programs.{code_in, blocks_in, program_of}
 use Rattle.bytecode.specs.Reading.RegisterRows.{arithmetic_row, const_row}
-use Rattle.bytecode.specs.Reading.SourceRows.{idle_row, timeout_row}
+use Rattle.bytecode.specs.Reading.SignalRows.{connect_row, emit_row}
+use Rattle.bytecode.specs.Reading.SourceRows.{call_row, idle_row, timeout_row}
 use Rattle.bytecode.specs.Reading.Words.{jump_word, source_word, signal_word, object_word, register_word, instruction_at}
 use Rattle.definition_format.specs.Denoted.Programs.{program_in, program_at}
 use Rattle.definition_format.specs.Denoted.Attached.{program_under, some_detail, some_data, some_truth, attached_in, attached_at}
@@ -41,8 +45,18 @@ unfolding is_utf8 chars serde_json_on_literals document each
 text_on_literals = tt
 
 unfoldable pub types_on_literals : ⊤
-unfolding enums_in flags_in interfaces_in classes_in draft_in type_at declared_at flags_at named_parent implements_at properties_at answers_at answering_at class_handlers_at constructed_at drafts.given_at signals_at signal_at signal_of_entry params_at param_at sources_of property_at spec_at valued_at range_at
+unfolding enums_in flags_in interfaces_in shapes_in classes_in draft_in type_at declared_at flags_at named_parent implements_at properties_at answers_at answering_at class_handlers_at constructed_at shaped_at drafts.given_at signals_at signal_at signal_of_entry params_at param_at sources_of property_at spec_at valued_at range_at
 types_on_literals = tt
+
+-- shapes and peers
+unfoldable pub peers_on_literals : ⊤
+unfolding shape_at shape_in methods_at method_at method_in plain_params_at plain_param_at named_shape peer_at listed_peers next_peer_at one_peer
+peers_on_literals = tt
+
+-- the instructions on peers, signals and null, and the limits
+unfoldable pub calls_on_literals : ⊤
+unfolding call_row get_row emit_row connect_row connect_at branch_null_row register_and_blocks given_limits given_limit
+calls_on_literals = tt
 
 -- the programs
 unfoldable pub programs_on_literals : ⊤

@@ -4,6 +4,7 @@
 ghost use Rattle.law_worked.specs.Middles.{Middles};
 ghost use Rattle.law_worked.specs.WorkedFormats.{FormatsMet};
 ghost use Rattle.law_worked.specs.WorkedPair.{PairMet};
+ghost use Rattle.law_worked.specs.WorkedPeers.{PeersMet};
 ghost use Rattle.law_worked.specs.WorkedSources.{PremisesMet};
 ghost use Rattle.law_worked.specs.WorkedTurn.{TurnKeeps};
 
@@ -21,6 +22,12 @@ pub fn premises()
 /// So do the bytes of a definition with a pair, two properties that are bound both ways, and lines that set each of them.
 pub fn pair()
     ensures { PairMet }
+{}
+
+/// So do the bytes of a definition with a shape, a prototype with a peer and a program that calls it. Bytes that name a peer twice, no peer for an
+/// object whose class has a shape, or a shape for a class below one that has one, denote nothing.
+pub fn peers()
+    ensures { PeersMet }
 {}
 
 /// A text of the first format, and the same text in the second, are as the law over formats asks, and denote one definition. With a block that is

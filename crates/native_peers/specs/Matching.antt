@@ -1,17 +1,17 @@
 -- How a pool matches what is needed of it, in the words of the machine's pools.
-use Rattle.std.specs.Prelude.{List, map, Option, None, Some, Result, Ok, Err}
+use Rattle.std.specs.Prelude.{List, map, Option, None, Some, option_map, Result, Ok, Err}
 use Rattle.ui_machine.specs.State.Peers.{Peer}
 use Rattle.law_pools.specs.Needs as law
 use Rattle.law_pools.specs.Needs.{Mismatch, missing, closed, misshapen, unused}
-use Rattle.native_peers.specs.Methods.{method_view}
+use Rattle.peer_shapes.specs.MethodViews.{method_view}
 use Rattle.native_peers.specs.Seen.{Seen}
 use Rattle.native_peers.specs.declared.faults.MatchFault.{MatchFault}
 use Rattle.native_peers.specs.declared.faults.MatchFault.TheVariants as faults
 use Rattle.native_peers.specs.declared.needs.Need.{Need}
 
--- a need of the code as one of the law: each class that needs a peer has a shape
+-- a need of the code as one of the law
 abbrev pub need_view : Need → law.Need
-need_view n = record { name = n.name.now; methods = Some (map method_view n.shape.now) }
+need_view n = record { name = n.name.now; methods = option_map (λ s. s.now) n.shape }
 
 -- a peer that no object has got
 abbrev pub as_peer : Seen → Peer

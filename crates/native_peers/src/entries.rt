@@ -3,13 +3,13 @@
 ghost use Rattle.std.specs.Prelude.{◌≡◌, IsTrue, map, string_bytes};
 ghost use Rattle.g_values.specs.View.{value_view};
 ghost use Rattle.ui_machine.specs.Definition.Names.{same_name};
-ghost use Rattle.native_peers.specs.Methods.{is_plain_shape, method_view};
+ghost use Rattle.peer_shapes.specs.MethodViews.{is_plain_shape, method_view};
 ghost use Rattle.native_peers.specs.Moves.{ArgsFit, Invokes, SameMoves, answer_of, closed};
 
 use crate::faults::PeerFault;
-use crate::methods::Method;
 use crate::peers::Peer;
 use g_values::Value;
+use peer_shapes::Method;
 
 // A peer of a pool.
 #[derive(Drop)]

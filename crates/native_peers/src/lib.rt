@@ -9,7 +9,6 @@
 mod entries;
 mod faults;
 mod kinds;
-mod methods;
 mod mismatches;
 mod needs;
 mod peers;
@@ -19,7 +18,7 @@ mod shapes;
 mod tallies;
 
 pub use faults::{AddFault, MatchFault, NotAdded, PeerFault};
-pub use methods::Method;
 pub use needs::Need;
+pub use peer_shapes::{Method, Shape};
 pub use peers::Peer;
 pub use pools::PeerPool;

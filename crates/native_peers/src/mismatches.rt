@@ -1,9 +1,10 @@
 //! How pools fail to match what is needed.
 
-ghost use Rattle.std.specs.Prelude.{◌≡◌, ◌∷◌, [], Some, map};
+ghost use Rattle.std.specs.Prelude.{◌≡◌, ◌∷◌, [], Some, map, option_map};
 ghost use Rattle.std.specs.List.{list_any};
 ghost use Rattle.ui_machine.specs.Definition.Names.{same_name};
-ghost use Rattle.law_pools.specs.Needs.{first_unused, first_wrong, mismatch_with, peer_named, wrong_with};
+ghost use Rattle.law_pools.specs.Needs.{first_unused, first_wrong, is_shaped, mismatch_with, peer_named, wrong_with};
+ghost use Rattle.peer_shapes.specs.MethodViews.{method_view};
 ghost use Rattle.native_peers.specs.Matching.{as_peer, as_peers, mismatch_of, need_view};
 ghost use Rattle.native_peers.specs.Pool.{entries, seen, seen_one};
 
@@ -13,6 +14,17 @@ use crate::needs::Need;
 use crate::peers::Peer;
 use crate::pools::PeerPool;
 use crate::shapes::is_same_shape;
+use peer_shapes::{Method, Shape};
+
+// Whether a peer with these methods is of the shape that is needed. Where none is needed, no peer is.
+fn has_shape(needed: Option<&Shape>, methods: &[Method]) -> bool
+    ensures { result ≡ is_shaped (option_map (λ s. s.now) needed.entry) (map method_view methods.now) }
+{
+    match needed {
+        Some(shape) => is_same_shape(shape, methods),
+        None => false,
+    }
+}
 
 // Whether this peer, which has the name of a need, is as it should be.
 fn fits<'a>(peer: &NamedPeer, need: &Need<'a>) -> Result<(), MatchFault<'a>>
@@ -21,7 +33,7 @@ fn fits<'a>(peer: &NamedPeer, need: &Need<'a>) -> Result<(), MatchFault<'a>>
     if !peer.is_open() {
         return Err(MatchFault::PeerClosed(need.name));
     }
-    if !is_same_shape(need.shape, peer.shape()) {
+    if !has_shape(need.shape, peer.shape()) {
         return Err(MatchFault::PeerShape(need.name));
     }
     Ok(())

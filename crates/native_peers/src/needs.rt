@@ -3,13 +3,13 @@
 ghost use Rattle.std.specs.Prelude.{◌≡◌};
 ghost use Rattle.ui_machine.specs.Definition.Names.{same_name};
 
-use crate::methods::Method;
+use peer_shapes::Shape;
 
-/// A peer that a definition needs: its name, and the methods of its object's class.
-#[derive(Clone, Copy, Debug)]
+/// A peer that a definition needs: its name, and the methods of its object's class, if that has a shape.
+#[derive(Clone, Copy)]
 pub struct Need<'a> {
     pub name: &'a str,
-    pub shape: &'a [Method],
+    pub shape: Option<&'a Shape>,
 }
 
 impl Need<'_> {

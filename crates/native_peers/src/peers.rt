@@ -3,12 +3,12 @@
 ghost use Rattle.std.specs.Prelude.{◌≡◌, IsTrue, map};
 ghost use Rattle.g_values.specs.View.{value_view};
 ghost use Rattle.ui_machine.specs.State.Peers.{PeerState};
-ghost use Rattle.native_peers.specs.Methods.{is_plain_shape, method_view};
+ghost use Rattle.peer_shapes.specs.MethodViews.{is_plain_shape, method_view};
 ghost use Rattle.native_peers.specs.Moves.{ArgsFit, Keeps, Relation, SameMoves, answer_of, closed};
 
 use crate::faults::PeerFault;
-use crate::methods::Method;
 use g_values::Value;
+use peer_shapes::Method;
 
 /// An object of the host, known by its shape, whether it is open, and its calls and faults.
 pub trait Peer: Drop {

@@ -3,16 +3,16 @@
 ghost use Rattle.std.specs.Prelude.{◌≡◌, ◌<◌, ◌↔◌, [], IfErr, IsSome, IsSomeAnd, IsTrue, None, OnErr, OnOk, Some, length, map, option_and_then, option_map, remove, slice_get, string_bytes};
 ghost use Rattle.std.specs.Option.{option_map_or};
 ghost use Rattle.g_values.specs.View.{value_view};
-ghost use Rattle.native_peers.specs.Methods.{is_plain_shape, method_view};
+ghost use Rattle.peer_shapes.specs.MethodViews.{is_plain_shape, method_view};
 ghost use Rattle.native_peers.specs.Moves.{ArgsFit, answer_of};
 ghost use Rattle.native_peers.specs.Pool.{AppendsOne, entries, number_of, relations, seen};
 ghost use Rattle.native_peers.specs.Seen.{Asks, ClosesAt, SameRelations};
 
 use crate::entries::NamedPeer;
 use crate::faults::{AddFault, NotAdded, PeerFault};
-use crate::methods::Method;
 use crate::peers::Peer;
 use g_values::Value;
+use peer_shapes::Method;
 use std::alloc::Global;
 
 /// Peers under their names, in the order of adding. A peer's number is its place in that order.
@@ -36,6 +36,14 @@ impl PeerPool {
         ensures { result ≡ length (entries self.now) }
     {
         self.peers.len()
+    }
+
+    /// The name of the k-th peer.
+    pub fn name(&self, k: usize) -> &str
+        requires { k < length (entries self.now) }
+        ensures { IsSomeAnd (slice_get (entries self.now) k) (λ p. result.now ≡ string_bytes p.name) }
+    {
+        self.peers[k].name.as_str()
     }
 
     /// Whether the k-th peer may be called.

@@ -2,30 +2,35 @@
 
 ghost use Rattle.std.specs.Prelude.{◌≡◌, map};
 ghost use Rattle.law_pools.specs.Needs.{same_method, same_shape};
-ghost use Rattle.native_peers.specs.Methods.{method_view};
+ghost use Rattle.g_values.specs.View.{kind_view};
+ghost use Rattle.peer_shapes.specs.MethodViews.{method_view};
 
 use crate::kinds::{is_same_kind, is_same_list};
-use crate::methods::Method;
+use g_values::Kind;
+use peer_shapes::{Method, Shape};
 
-// Whether two methods are one.
+// Whether a method is the one of this name, with these kinds.
 #[tactic(auto, using(g_values::proofs::Texts::same_bytes))]
-fn is_same_method(left: &Method, right: &Method) -> bool
-    ensures { result ≡ same_method (method_view left.now) (method_view right.now) }
+fn is_method(name: &str, params: &[Kind], answer: Kind, method: &Method) -> bool
+    ensures { result ≡ same_method (record { name = name.now; params = map kind_view params.now; result = kind_view answer }) (method_view method.now) }
 {
-    left.name.as_str() == right.name.as_str()
-        && is_same_list(&left.params, &right.params)
-        && is_same_kind(left.result, right.result)
+    name == method.name.as_str()
+        && is_same_list(params, &method.params)
+        && is_same_kind(answer, method.result)
 }
 
-// Whether two shapes have the same methods in the same order.
-pub(crate) fn is_same_shape(left: &[Method], right: &[Method]) -> bool
-    ensures { result ≡ same_shape (map method_view left.now) (map method_view right.now) }
+// Whether a shape has just these methods, in this order.
+pub(crate) fn is_same_shape(left: &Shape, right: &[Method]) -> bool
+    ensures { result ≡ same_shape left.now (map method_view right.now) }
 {
     if left.len() != right.len() {
         return false;
     }
-    'methods: for (k, method) in left.iter().enumerate() {
-        if !is_same_method(method, &right[k]) {
+    'methods: for (k, method) in right.iter().enumerate() {
+        let Some(own) = left.method(k) else {
+            return false;
+        };
+        if !is_method(own.name, own.params, own.result, method) {
             return false;
         }
     }

@@ -3,17 +3,17 @@
 ghost use Rattle.std.specs.Prelude.{◌≡◌, ◌∷◌, [], IfOk, IfSome, IsTrue, map, true};
 ghost use Rattle.ui_machine.specs.State.Peers.{PeerState};
 ghost use Rattle.g_values.specs.View.{value_view};
-ghost use Rattle.native_peers.specs.Methods.{method_view};
+ghost use Rattle.peer_shapes.specs.MethodViews.{method_view};
 ghost use Rattle.native_peers.specs.Moves.{ArgsFit};
 ghost use Rattle.native_peers.specs.Pool.{entries, seen};
 ghost use Rattle.native_peers.specs.Tallies.{IsTallyAt, Tallies, first_number, number, number_in, sum_after, tally_shape};
 
 use crate::faults::{AddFault, MatchFault, PeerFault};
-use crate::methods::Method;
 use crate::needs::Need;
 use crate::peers::Peer;
 use crate::pools::PeerPool;
 use g_values::{Kind, Value};
+use peer_shapes::{Method, Shape};
 use std::alloc::{AllocError, Global};
 use std::test::Fail;
 
@@ -166,6 +166,24 @@ fn a_pool_calls_its_peers(rt: HostRuntime) -> Result<(), Fail> {
     Ok(())
 }
 
+// Adds a method of whole numbers of 64 bits, unless there is one of its name.
+fn add_method(
+    alloc: Global,
+    shape: &mut Shape,
+    name: &str,
+    params: Vec<Kind>,
+) -> Result<(), AllocError> {
+    if shape.find(name).is_none() {
+        let name = String::from_str(alloc, name)?;
+        shape.add(Method {
+            name,
+            params,
+            result: Kind::Int64,
+        })?;
+    }
+    Ok(())
+}
+
 #[test]
 fn a_pool_matches_what_is_needed(rt: HostRuntime) -> Result<(), Fail> {
     let mut pool = PeerPool::new(rt.alloc());
@@ -174,10 +192,24 @@ fn a_pool_matches_what_is_needed(rt: HostRuntime) -> Result<(), Fail> {
     let again = Box::new(rt.alloc(), Tally::new(rt.alloc())?)?;
     let refused = pool.add("t", again).err().ok_or("two peers of one name")?;
     assert!(rt; refused.fault == AddFault::DuplicatePeer);
-    let needed = Tally::new(rt.alloc())?;
-    let shape = needed.methods.as_slice();
-    let need = Need { name: "t", shape };
-    let other = Need { name: "u", shape };
+    let mut reads = Shape::new(rt.alloc());
+    add_method(rt.alloc(), &mut reads, "read", Vec::new(rt.alloc()))?;
+    let mut shape = Shape::new(rt.alloc());
+    add_method(
+        rt.alloc(),
+        &mut shape,
+        "add",
+        vec![in rt.alloc(); Kind::Int64]?,
+    )?;
+    add_method(rt.alloc(), &mut shape, "read", Vec::new(rt.alloc()))?;
+    let need = Need {
+        name: "t",
+        shape: Some(&shape),
+    };
+    let other = Need {
+        name: "u",
+        shape: Some(&shape),
+    };
     assert_eq!(rt; pool.matches(&[need]), Ok(()));
     assert_eq!(rt;
         pool.matches(&[need, other]),
@@ -186,7 +218,7 @@ fn a_pool_matches_what_is_needed(rt: HostRuntime) -> Result<(), Fail> {
     assert_eq!(rt;
         pool.matches(&[Need {
             name: "t",
-            shape: &shape[1..]
+            shape: Some(&reads)
         }]),
         Err(MatchFault::PeerShape("t"))
     );

@@ -3,3 +3,4 @@ mod RegisterLists
 mod Tables
 pub mod Filled
 pub mod BindNames
+pub mod Methods

@@ -1,23 +1,28 @@
 //! What typing looks up in a definition.
 
-ghost use Rattle.std.specs.Prelude.{◌≡◌, ◌≤◌, ℕ, List, None, Some, length, option_map, slice_get, IfOk, IfSome};
+ghost use Rattle.std.specs.Prelude.{◌≡◌, ◌≤◌, ℕ, List, Some, length, option_map, slice_get, IfOk, IfSome};
 ghost use Rattle.std.specs.List.{list_any};
 ghost use Rattle.ui_machine.specs.Definition.Types.{GType};
-ghost use Rattle.ui_machine.specs.Definition.Lookups.{class_of, place_at, place_of, program_at, program_of, slot_of, spec_of};
+ghost use Rattle.ui_machine.specs.Definition.Lookups.{place_at, place_of, program_at, program_of, slot_of, spec_of};
+ghost use Rattle.ui_machine.specs.Outcome.{known};
 ghost use Rattle.ui_machine.specs.Rules.Ancestry.{is_a};
 ghost use Rattle.ui_machine.specs.Rules.Connections.{signal_number};
 ghost use Rattle.ui_machine.specs.Rules.EmissionPlan.{signal_of};
 ghost use Rattle.bytecode.specs.View.{program_view};
 ghost use Rattle.param_specs.specs.View.{spec_view};
+ghost use Rattle.peer_shapes.specs.MethodViews.{lent_view};
 ghost use Rattle.signal_core.specs.SignalView.{declared_view};
+ghost use Rattle.law_typing.specs.Rules.Answers as rules;
 ghost use Rattle.law_typing.specs.Rules.RegisterKinds.{class_at};
 ghost use Rattle.operand_types.specs.Ancestry.{AreRows, IsRow};
+ghost use Rattle.operand_types.specs.Methods.{method_called};
 ghost use Rattle.operand_types.specs.Parts.{is_named, is_of_prototype};
 
 use crate::bind_names::names_of;
 use bytecode::Program;
 use definitions::Definition;
 use param_specs::Spec;
+use peer_shapes::MethodRef;
 use signal_core::DeclaredSignal;
 use std::alloc::{AllocError, Global};
 use std::collections::BTreeSet;
@@ -73,10 +78,9 @@ impl<'a> Lookups<'a> {
         self.definition
     }
 
-    /// Its types. No class has a shape so far.
+    /// Its types.
     pub fn types(&self) -> &TypeTree
-        ensures types { result.now ≡ self.now.types }
-        ensures shapes { (t : ℕ) → (class_of self.now t).shape ≡ None }
+        ensures { result.now ≡ self.now.types }
     {
         self.definition.types()
     }
@@ -151,6 +155,14 @@ impl<'a> Lookups<'a> {
         ensures { option_map declared_view result ≡ signal_of self.now class number }
     {
         self.definition.signal(class, number)
+    }
+
+    /// The method of a name that objects of a class are called with: one of the class's shape, or of that of its nearest ancestor with one.
+    pub fn method(&self, class: TypeId, name: &str) -> Option<MethodRef<'_>>
+        ensures { known rules.unknown (option_map lent_view result) ≡ method_called self.now class name.now }
+    {
+        let shape = self.definition.shape(self.definition.shape_number(class)?)?;
+        shape.method(shape.find(name)?)
     }
 
     /// How many programs a definition has at most.

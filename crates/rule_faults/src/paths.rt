@@ -6,7 +6,8 @@ ghost use Rattle.ui_machine.specs.Seq.{read};
 ghost use Rattle.definition_format.specs.Meaning.{place_number};
 ghost use Rattle.law_typing.specs.Verdict.FaultText.{before_in_list, binding_path, class_path, entry_of, handling_path, is_beside, is_class, path_within, place_path, same_parent};
 ghost use Rattle.definition_rules.specs.Faults.{handling_view};
-ghost use Rattle.rule_faults.specs.Places.{entry_view, classes_before};
+ghost use Rattle.definitions.specs.EntryView.{entry_view};
+ghost use Rattle.rule_faults.specs.Places.{classes_before};
 
 use definition_rules::Handling;
 use definitions::{Definition, ObjectEntry};

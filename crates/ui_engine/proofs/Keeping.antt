@@ -9,26 +9,23 @@ use Rattle.ui_machine.specs.State.Peers.{Reply}
 use Rattle.ui_machine.specs.State.Sources.{Source, source_of}
 use Rattle.ui_machine.specs.State.Tasks.{Due, Event, Request}
 use Rattle.ui_machine.specs.State.Tasks as config
-use Rattle.definition_format.specs.Meaning.{IsBasic}
 use Rattle.definition_format.specs.Origin.{IsDenoted}
 use Rattle.law_typing.specs.Good.Requests.{RequestRead, entry_of}
 use Rattle.law_typing.specs.Graph.{graph}
 use Rattle.law_typing.specs.Graph.Channels.{Entry}
 use Rattle.law_typing.specs.Graph.Depths.{depth}
-use Rattle.law_typing.specs.Laws.StepsKeepGood.{IsResting, PeerReady, PoolReady}
+use Rattle.law_typing.specs.Laws.StepsKeepGood.{IsResting}
 use Rattle.law_typing.specs.Laws.WellRead.{WellRead}
 use Rattle.law_typing.specs.Verdict.Accepted.{Accepted, Each}
 use Rattle.law_tasks.proofs.StepsProofs.{steps_keep_good}
+use Rattle.law_pools.specs.Needs.{mismatch}
+use Rattle.law_pools.proofs.PoolProofs.{matched_is_ready}
 use Rattle.law_sessions.specs.Dispatches.{Keeps}
 use Rattle.law_sessions.proofs.DispatchProofs.{both_fit}
 use Rattle.law_sessions.proofs.SessionProofs.{build_keeps, not_released, request_keeps, runs_source, source_keeps, turns}
 use Rattle.law_reading.proofs.Held.{held_well}
 use Rattle.ui_engine.specs.Promises.{Begins, BuildKeeps, EventKeeps, Rests, by_request, by_source}
 use Rattle.ui_engine.specs.Stepping.{IsSafe}
-
--- a definition without peers needs none
-pub none_needed : (d : Definition) → IsBasic d → PoolReady d []
-none_needed d basic place p is = subst (Each (PeerReady d [] p)) (sym (basic.peers place p is)) tt
 
 module _ (d : Definition) where
   -- what keeps its promise is safe
@@ -75,14 +72,15 @@ module _ (d : Definition) where
 
     -- ** the build
 
-    pub build_promised : IsBasic d → BuildKeeps d
-    build_promised basic a = build_keeps steps_keep_good d well a [] (none_needed d basic)
+    module _ (none : mismatch d [] ≡ None) where
+      pub build_promised : BuildKeeps d
+      build_promised a = build_keeps steps_keep_good d well a [] (matched_is_ready d [] none tt)
 
-    pub build_safe : IsBasic d → Accepted d → IsSafe d (of_build d [])
-    build_safe basic a = safe_by a _ (of_build d []) (build_promised basic a)
+      pub build_safe : Accepted d → IsSafe d (of_build d [])
+      build_safe a = safe_by a _ (of_build d []) (build_promised a)
 
-    pub build_rests : IsBasic d → (count : ℕ) (new : World) → Dispatches d [] (of_build d []) count new → Rests d new
-    build_rests basic count new dispatches = rests_by (of_build d []) (λ a. (_, build_promised basic a)) count new dispatches
+      pub build_rests : (count : ℕ) (new : World) → Dispatches d [] (of_build d []) count new → Rests d new
+      build_rests count new dispatches = rests_by (of_build d []) (λ a. (_, build_promised a)) count new dispatches
 
     -- ** requests
 

@@ -10,3 +10,4 @@ mod Beginning
 mod Ending
 mod Serving
 mod Turning
+mod Needing

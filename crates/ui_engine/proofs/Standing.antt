@@ -17,6 +17,7 @@ use Rattle.ui_machine.specs.State.Bindings.{Binding, binding_of}
 use Rattle.ui_machine.specs.State.Config.{Config, Started, World, starts}
 use Rattle.ui_machine.specs.State.Handlers.{Handler, handler_of}
 use Rattle.ui_machine.specs.State.Objects.{living}
+use Rattle.ui_machine.specs.State.Peers.{PeerState}
 use Rattle.ui_machine.specs.State.References.{mentions, next_unheld}
 use Rattle.ui_machine.specs.State.Tasks.{Building, Emission, Emitting, Item, PlanEntry, Task, Transferring, binds, class_handler, handler, transfer}
 use Rattle.ui_machine.specs.Steps.{act, asked_after, asked_first, before, first_of, question, step, uncounted}
@@ -26,12 +27,19 @@ use Rattle.machine_laws.proofs.GoneProofs.{pruned_again, question_does_without, 
 use Rattle.machine_laws.proofs.KeptSteps.{steps_keep_gone}
 use Rattle.signal_core.specs.Laws.{is_passed_over}
 use Rattle.engine_world.specs.Standing.{Arrives, Breaks, Follows, entries_due, gone_handlers, makes_no_transfer, with_first, without_gone}
+use Rattle.law_peers.specs.PeerLaws.{Ends, is_shut, stays}
+use Rattle.law_peers.proofs.LifeProofs.{each_lives}
+use Rattle.law_peers.proofs.RunLives.{reaches_lives}
 use Rattle.law_sessions.specs.Dispatches.{IsUnstuck}
 use Rattle.law_sessions.proofs.SafeProofs.{safe_stays}
-use Rattle.ui_engine.specs.Stepping.{ComesOfSafe, IsSafe, NoneUnheld}
+use Rattle.ui_engine.specs.Stepping.{ComesOfSafe, IsSafe, NoneOpen, NoneUnheld}
 use Rattle.engine_world.proofs.Gone.{first_stands, handlers_are_gone, with_first_stays}
 use Rattle.engine_world.proofs.Floats.{bind_ok, if_ok_at}
 use Rattle.ui_engine.proofs.Reaching.{halts_on, reaches_here, reaches_on, reaches_once}
+
+ends_closed : {line : List ℕ} {ls : List (List ℕ)} {s t : PeerState} → s.is_open ≡ false → Ends line ls s t → t.is_open ≡ false
+ends_closed closed stays = closed
+ends_closed closed (is_shut was among) = refl
 
 -- a configuration whose first task is past the turns that are passed over
 abbrev pub at_first : Config → Config
@@ -270,6 +278,19 @@ module _ (d : Definition) where
         record { at = later.at; reached = reaches_on d first.reached later.reached; stands = later.stands };
   }
 
+  -- a run in which none replies opens no peer
+  still_closed : (c e : Config) → NoneOpen c.world → Reaches d [] c e → NoneOpen e.world
+  still_closed c e closed reached number =
+      let lives = reaches_lives d [] c e reached in
+      let l = each_lives d number c.world.peers [] lives.lines e.world.peers lives.lives in
+      ends_closed (ap (λ (s : PeerState). s.is_open) (sym l.asked) ∙ closed number) l.ended
+
+  -- nor does what the engine does
+  pub closed_after : {c e : Config} → without_gone c ≡ c → Follows d c e → NoneOpen c.world → NoneOpen e.world
+  closed_after {c} {e} whole follows closed =
+      let there = follows.arrives c whole in
+      subst NoneOpen (same_world e there.at there.stands) (still_closed c there.at closed there.reached)
+
   -- what safe configurations lead to is safe
   pub safe_on : {c e : Config} → ComesOfSafe d c → Follows d c e → ComesOfSafe d e
   safe_on from follows =
@@ -277,6 +298,7 @@ module _ (d : Definition) where
       record {
         at = there.at;
         safe = record { most = from.safe.most; safe = safe_stays d from.safe.most from.at from.safe.safe [] tt there.at there.reached };
+        closed = still_closed from.at there.at from.closed there.reached;
         is = there.stands;
       }
 
@@ -308,5 +330,14 @@ module _ (d : Definition) where
   halts_from {c} {e} {shown} same h = subst (λ (x : Config). Halts d [] x halts.OutOfMemory shown) same h
 
   -- a safe configuration is that of an engine which has no turns of handlers that are gone
-  pub safe_there : {c e : Config} → e ≡ c → without_gone e ≡ e → IsSafe d c → ComesOfSafe d e
-  safe_there {c} {e} same whole safe = record { at = e; safe = subst (λ (x : Config). IsSafe d x) (sym same) safe; is = whole }
+  pub safe_there : {c e : Config} → e ≡ c → without_gone e ≡ e → IsSafe d c → NoneOpen c.world → ComesOfSafe d e
+  safe_there {c} {e} same whole safe closed = record {
+    at = e;
+    safe = subst (λ (x : Config). IsSafe d x) (sym same) safe;
+    closed = subst (λ (x : Config). NoneOpen x.world) (sym same) closed;
+    is = whole;
+  }
+
+  -- no peer is open there
+  pub none_open : {c : Config} → ComesOfSafe d c → NoneOpen c.world
+  none_open {c} from = subst NoneOpen (same_world c from.at from.is) from.closed

@@ -7,7 +7,7 @@ use Rattle.ui_machine.specs.Definition.{Definition}
 use Rattle.ui_machine.specs.State.Handlers.{Handler}
 use Rattle.ui_machine.specs.State.Tasks.{Answering, Beginning, Building, Calling, Handling, Constructing, Due, Emitting, Notifying, PlanEntry, Running, Setting, Task, Thawing, Transferring, Unsetting}
 use Rattle.machine_laws.specs.GoneLaws.{Gone, pruned, stays}
-use Rattle.ui_machine.specs.State.Config.{World, Config, sunk}
+use Rattle.ui_machine.specs.State.Config.{World, Config, peer_state, sunk}
 use Rattle.ui_machine.specs.State.References.{mentions, next_unheld}
 use Rattle.ui_machine.specs.Seq.{total}
 use Rattle.engine_world.specs.Measure.{weight, waiting, work}
@@ -21,7 +21,7 @@ use Rattle.engine_world.specs.TaskView.{task_of, tasks_of}
 use Rattle.engine_world.specs.EngineView.{IsOfKind}
 use Rattle.ui_machine.specs.Prefix.{IsPrefix}
 use Rattle.engine_world.specs.Standing.{Follows, GoesWithoutGone, gone_handlers, past_turns, with_first, without_gone}
-use Rattle.ui_engine.specs.Stepping.{ComesOfSafe, NoneUnheld, Stepped}
+use Rattle.ui_engine.specs.Stepping.{ComesOfSafe, NoneOpen, NoneUnheld, Stepped}
 use Rattle.ui_engine.proofs.Standing.{first_acts, first_follows, last_acts, last_follows}
 use Rattle.engine_world.proofs.Floats.{if_ok_at, first_gone}
 use Rattle.ui_engine.proofs.Acts.{Passes, acted}
@@ -30,24 +30,12 @@ use Rattle.ui_engine.proofs.Acts.{Passes, acted}
 abbrev as_ok : {X : Type 0} → X → Result X Halt
 as_ok x = Ok x
 
--- no task of the engine asks a peer
-asks_none : (d : Definition) (hs : List Handler) (w : World) (task : code.Task) (rest : List Task) → asked_first w (task_of d hs task ∷ rest) ≡ None
-asks_none d hs w (tasks.Setting id slot v) rest = refl
-asks_none d hs w (tasks.Notifying id slot) rest = refl
-asks_none d hs w (tasks.Beginning emission) rest = refl
-asks_none d hs w (tasks.Emitting cursor args by_event transfers) rest = refl
-asks_none d hs w (tasks.Running frame) rest = refl
-asks_none d hs w (tasks.Thawing id slots) rest = refl
-asks_none d hs w (tasks.Constructing id steps held) rest = refl
-asks_none d hs w (tasks.Building place forwards) rest = refl
-asks_none d hs w (tasks.Adopting place forwards) rest = refl
-asks_none d hs w (tasks.Transferring number back) rest = refl
-asks_none d hs w (tasks.Unsetting number) rest = refl
-asks_none d hs w (tasks.Binding number) rest = refl
-asks_none d hs w (tasks.Connecting place number) rest = refl
-asks_none d hs w (tasks.Answering source) rest = refl
-asks_none d hs w (tasks.Due source) rest = refl
-asks_none d hs w (tasks.Handling event) rest = refl
+-- where no peer is open none is asked
+none_asked : (w : World) → NoneOpen w → (ts : List Task) → asked_first w ts ≡ None
+none_asked w closed (Calling call ∷ rest) =
+    ap (λ b. cond b (Some (record { peer = call.peer; state = peer_state w call.peer; method = call.method; args = call.args })) None) (closed call.peer)
+none_asked w closed [] = refl
+none_asked w closed (task ∷ rest) = refl
 
 -- turns that are left out weigh nothing
 pruned_weighs : (d : Definition) (gone : Gone) (ts : List Task) → total (weight d) (map (pruned gone) ts) ≤ total (weight d) ts
@@ -79,12 +67,12 @@ pruned_weighs d gone (task ∷ ts) = let rest = pruned_weighs d gone ts in omega
     one (Due source) = omega arith
 
 module _ (d : Definition) (hs : List Handler) (c e : Config) (none : NoneUnheld d c) (task : code.Task) (s : Stack)
-    (first : c.agenda ≡ task_of d hs task ∷ tasks_of d hs s) where
+    (first : c.agenda ≡ task_of d hs task ∷ tasks_of d hs s) (closed : NoneOpen c.world) where
   acts : act d c.world None (with_first c.world c.agenda) c.counted ≡ act d c.world None (past_turns c.world (task_of d hs task) ∷ tasks_of d hs s) c.counted
   acts = ap (λ (ts : List Task). act d c.world None (with_first c.world ts) c.counted) first
 
   asks : asked_first c.world c.agenda ≡ None
-  asks = ap (λ (ts : List Task). asked_first c.world ts) first ∙ asks_none d hs c.world task (tasks_of d hs s)
+  asks = none_asked c.world closed c.agenda
 
   passes : (x : Config) → act d c.world None (past_turns c.world (task_of d hs task) ∷ tasks_of d hs s) c.counted ≡ Ok x → Passes d c.world (task_of d hs task) (tasks_of d hs s) c.counted x
   passes x is =

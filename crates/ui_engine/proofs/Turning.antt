@@ -286,4 +286,5 @@ turned_rests d e new rests sources is = subst (λ (x : Engine). IsAtRest d x) (s
     exact = λ o. omega (arith, rests.counts.exact o, ap (total (in_source o)) sources);
   };
   idle = rests.idle;
+  closed = rests.closed;
 })

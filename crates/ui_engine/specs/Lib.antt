@@ -1,4 +1,6 @@
+pub mod PeerNames
 pub mod Promises
+pub mod TaskClosings
 pub mod Stepping
 pub mod SessionView
 pub mod TurnView

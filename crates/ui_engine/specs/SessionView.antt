@@ -1,5 +1,5 @@
 -- What a session stands at, and what it answers.
-use Rattle.std.specs.Prelude.{◌≡◌, ℕ, Bool, true, false, List, [], Option, Some, None, option_map, Result, Ok, Err}
+use Rattle.std.specs.Prelude.{◌≡◌, ℕ, Bool, true, false, List, [], Option, Some, None, option_map, string_bytes, ⊤, Result, Ok, Err}
 use Rattle.ui_machine.specs.declared.arm.Halt.TheVariants as halts
 use Rattle.ui_machine.specs.Definition.{Definition}
 use Rattle.ui_machine.specs.State.Tasks.{Event}
@@ -8,8 +8,11 @@ use Rattle.ui_machine.specs.Rules.Events.{Refusal, gone, clock_back, refusal}
 use Rattle.ui_machine.specs.Runs.{Tally, Carries, Halts, Serves, HaltsIn, of_build}
 use Rattle.g_values.specs.View.{value_view}
 use Rattle.ui_engine.specs.declared.dispatch.Reply.{Reply}
+use Rattle.law_pools.specs.Needs.{Mismatch, missing}
 use Rattle.ui_engine.specs.declared.session.SessionFault.{SessionFault}
 use Rattle.ui_engine.specs.declared.session.SessionFault.TheVariants as faults
+use Rattle.ui_engine.specs.declared.session.StartFault.{StartFault}
+use Rattle.ui_engine.specs.declared.session.StartFault.TheVariants as starts
 
 -- a definition, the world that stands, and whether the session has stopped
 pub record SessionState : Type 0 where
@@ -75,3 +78,8 @@ AnswersBy None result old event new = Comes result (serving old.definition old.w
 abbrev pub AnswersEvent : Bool → Result Reply SessionFault → SessionState → Event → SessionState → Type 0
 AnswersEvent true result old event new = (result ≡ Err faults.Stopped) × (new ≡ old)
 AnswersEvent false result old event new = AnswersBy (refusal old.world event) result old event new
+
+-- why no session began, where a pool without peers lacks this peer first, if it lacks one
+abbrev pub IsWhy : StartFault → Option Mismatch → Type 0
+IsWhy starts.OutOfMemory lack = ⊤
+IsWhy (starts.PeerMissing name) lack = lack ≡ Some (missing (string_bytes name))

@@ -3,7 +3,7 @@ use Rattle.std.specs.Prelude.{◌≡◌, suc, ℕ, ◌<◌, Bool, true, false, [
 use Rattle.std.specs.declared.alloc.AllocError.{AllocError}
 use Rattle.ui_machine.specs.declared.arm.Halt.TheVariants as halts
 use Rattle.ui_machine.specs.Definition.{Definition}
-use Rattle.ui_machine.specs.State.Config.{World, Config}
+use Rattle.ui_machine.specs.State.Config.{World, Config, peer_state}
 use Rattle.ui_machine.specs.State.References.{mentions, next_unheld}
 use Rattle.ui_machine.specs.Steps.{most_steps}
 use Rattle.ui_machine.specs.Runs.{HasEnded, Dispatches, Halts}
@@ -12,6 +12,7 @@ use Rattle.g_values.specs.View.{value_view}
 use Rattle.ui_engine.specs.declared.dispatch.Reply.{Reply}
 use Rattle.engine_world.specs.declared.engine.Engine.{Engine}
 use Rattle.engine_world.specs.TaskView.{agenda_of}
+use Rattle.engine_world.specs.View.{world_of}
 use Rattle.engine_world.specs.Counting.{Counts, nothing}
 use Rattle.engine_world.specs.Measure.{work}
 use Rattle.engine_world.specs.Standing.{Breaks, Follows, without_gone}
@@ -22,10 +23,15 @@ use Rattle.engine_world.specs.declared.engine.StepKind.TheVariants as mades
 abbrev pub NoneUnheld : Definition → Config → Type 0
 NoneUnheld d c = next_unheld (mentions d c) c.world.objects ≡ None
 
--- an engine with nothing left to do, in which each object is counted as often as it is mentioned
+-- no peer is open, so that none is asked
+abbrev pub NoneOpen : World → Type 0
+NoneOpen w = (number : ℕ) → (peer_state w number).is_open ≡ false
+
+-- an engine with nothing left to do, in which each object is counted as often as it is mentioned, and no peer is open
 pub record IsAtRest (d : Definition) (e : Engine) : Type 0 where
   pub counts : Counts d nothing e
   pub idle : agenda_of d e ≡ []
+  pub closed : NoneOpen (world_of e.world)
 
 -- ** what is never stuck
 
@@ -34,10 +40,11 @@ pub record IsSafe (d : Definition) (c : Config) : Type 0 where
   pub most : ℕ
   pub safe : Safe d most c
 
--- the engine's configuration is that of a safe one of the machine
+-- the engine's configuration is that of a safe one of the machine, where no peer is open
 pub record ComesOfSafe (d : Definition) (view : Config) : Type 0 where
   pub at : Config
   pub safe : IsSafe d at
+  pub closed : NoneOpen at.world
   pub is : without_gone at ≡ view
 
 -- ** steps

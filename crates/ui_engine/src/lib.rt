@@ -5,6 +5,7 @@
 #![tactic(auto)]
 
 mod dispatch;
+mod needs;
 mod program_steps;
 mod session;
 mod tasks;

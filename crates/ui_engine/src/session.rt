@@ -1,6 +1,6 @@
 //! A session: a verified definition, and what stands while its events come.
 
-ghost use Rattle.std.specs.Prelude.{◌≡◌, ◌≤◌, [], None, length, map, string_bytes, IfOk, IfErr, false};
+ghost use Rattle.std.specs.Prelude.{◌≡◌, ◌≤◌, [], None, Some, length, map, string_bytes, IfOk, IfErr, false};
 ghost use Rattle.ui_machine.specs.Output.Lines as lines;
 ghost use Rattle.ui_machine.specs.Runs.{beginning, first_world};
 ghost use Rattle.ui_machine.specs.State.Config.{said};
@@ -11,20 +11,23 @@ ghost use Rattle.ui_machine.specs.Rules.Events.{refusal};
 ghost use Rattle.ui_machine.specs.State.Tasks as config;
 ghost use Rattle.law_typing.specs.Good.Requests.{RequestRead};
 ghost use Rattle.law_sessions.specs.Sessions.{EventRead};
+ghost use Rattle.law_pools.specs.Needs.{mismatch, missing};
 ghost use Rattle.engine_world.specs.TaskView.{item_of};
 ghost use Rattle.engine_world.specs.View.{world_of};
 ghost use Rattle.ui_engine.specs.Promises.{BuildKeeps, EventKeeps};
-ghost use Rattle.ui_engine.specs.SessionView.{AnswersBy, AnswersEvent, Comes, building, without_lines};
+ghost use Rattle.ui_engine.specs.SessionView.{AnswersBy, AnswersEvent, Comes, IsWhy, building, without_lines};
 ghost use Rattle.ui_engine.specs.Stepping.{IsAtRest};
 ghost use Rattle.ui_engine.specs.TurnView.{running_sources};
 
 use crate::dispatch::{Reply, announce, dispatch};
+use crate::needs::missing_peer;
 use crate::turns::{begin_turn, run_sources};
 use definition_format::{Event, Request};
 use definitions::Definition;
 use engine_tasks::forward_references::forward_references;
 use engine_world::engine::Engine;
 use engine_world::places::FIRST_PLACE;
+use engine_world::seats::Seats;
 use engine_world::task::{ForwardReferences, Task};
 use engine_world::weak_slots::weak_slots;
 use main_context::{Batch, TurnError};
@@ -87,10 +90,12 @@ pub struct Started {
 }
 
 /// Why no session began.
-#[derive(Clone, Copy, Debug, PartialEq, Eq)]
+#[derive(Debug, Drop)]
 pub enum StartFault {
     /// Memory was refused before the build.
     OutOfMemory,
+    /// The definition needs this peer first, and no peer of the name is there.
+    PeerMissing(String),
 }
 
 /// The definition that no session began with.
@@ -112,13 +117,24 @@ fn first_engine(alloc: Global, definition: &Definition) -> Result<Engine, AllocE
     ensures world { IfOk result (λ engine. world_of engine.world ≡ said definition.now (first_world definition.now []) lines.build) }
 {
     let weak = weak_slots(alloc, definition)?;
-    let mut engine = Engine::new(alloc, weak, definition.limits());
+    let mut engine = Engine::new(alloc, weak, definition.limits(), Seats::new(alloc));
     announce(&mut engine)?;
     Ok(engine)
 }
 
+// The fault where this peer is missing.
+fn peer_missing(alloc: Global, name: &str) -> StartFault
+    ensures { IsWhy result (Some (missing name.now)) }
+{
+    match String::from_str(alloc, name) {
+        Ok(name) => StartFault::PeerMissing(name),
+        Err(_) => StartFault::OutOfMemory,
+    }
+}
+
 // Builds the objects of a verified definition, by an engine that has built nothing.
 fn build(verified: Verified, mut engine: Engine, forwards: ForwardReferences) -> Started
+    requires matches { mismatch verified [] ≡ None }
     requires rests { IsAtRest verified engine }
     requires world { world_of engine.world ≡ said verified (first_world verified []) lines.build }
     requires forwards { map item_of forwards ≡ forward_items 0 verified.places }
@@ -152,19 +168,26 @@ fn build(verified: Verified, mut engine: Engine, forwards: ForwardReferences) ->
 }
 
 impl Session {
-    /// Builds the objects of a verified definition. The build never leaves the machine stuck, and counts no more steps than the report says.
+    /// Builds the objects of a verified definition that needs no peer. The build never leaves the machine stuck, and counts no more steps than
+    /// the report says.
     ///
     /// # Errors
     ///
-    /// `Refused`, with the definition, if no memory is found before the build.
+    /// `Refused`, with the definition: `PeerMissing` for the first peer that it needs, if it needs one, and `OutOfMemory` if no memory is found
+    /// before the build.
     pub fn start(alloc: Global, verified: Verified) -> Result<Started, Refused>
+        ensures matches { IfOk result (λ started. mismatch verified [] ≡ None) }
         ensures built { IfOk result (λ started. Comes started.build (building verified) verified started.session) }
-        ensures keeps { BuildKeeps verified }
-        ensures refused { IfErr result (λ refused. refused.verified ≡ verified) }
+        ensures keeps { mismatch verified [] ≡ None → BuildKeeps verified }
+        ensures refused { IfErr result (λ refused. (refused.verified ≡ verified) × IsWhy refused.fault (mismatch verified [])) }
     {
         let definition = verified.definition();
         // For the proof: some bytes denote the definition.
         let _types = definition.types();
+        if let Some(name) = missing_peer(definition) {
+            let fault = peer_missing(alloc, name);
+            return Err(Refused { fault, verified });
+        }
         let Ok(engine) = first_engine(alloc, definition) else {
             return Err(Refused {
                 fault: StartFault::OutOfMemory,

@@ -9,11 +9,13 @@ ghost use Rattle.engine_world.specs.TaskView.{task_in, agenda_of};
 ghost use Rattle.engine_world.specs.Counting.{Counts, in_subject};
 ghost use Rattle.engine_world.specs.EngineView.{config_of, IsOfKind};
 ghost use Rattle.engine_world.specs.Standing.{GoesWithoutGone, past_turns};
+ghost use Rattle.ui_engine.specs.TaskClosings.{TaskLeaves};
 
 use crate::program_steps::run_program;
 use definitions::Definition;
 use engine_tasks::binds::bind_from_build;
 use engine_tasks::builds::{build, construct};
+use engine_tasks::calls::pass_over;
 use engine_tasks::children::adopt_from_build;
 use engine_tasks::emission::{begin_emission, emit};
 use engine_tasks::events::handle_event;
@@ -27,7 +29,7 @@ use engine_world::task::Task;
 use ui_machine::{Arm, Halt};
 
 /// Does what a task says, and answers whether that was counted. An emission passes over handlers that are blocked, and bindings that set or
-/// have ended.
+/// have ended. A call is of a peer that has not been asked: one that is open leaves it stuck, as it does the machine without a reply.
 pub(crate) fn act(
     engine: &mut Engine,
     definition: &Definition,
@@ -41,6 +43,7 @@ pub(crate) fn act(
         (config_of definition.now engine.new) }
     ensures quiet { OnErr result ((world_of engine.new.world).transcript ≡ (world_of engine.old.world).transcript) }
     ensures counted { OnOk result (Counts definition.now (λ o. in_subject o (task_in definition.now engine.old task)) engine.new) }
+    ensures closing { OnOk result (TaskLeaves definition.now (world_of engine.old.world) (task_in definition.now engine.old task) engine.old.closing engine.new.closing) }
     ensures made { IfOk result (λ made. IsOfKind made (task_in definition.now engine.old task)) }
 {
     match task {
@@ -110,6 +113,10 @@ pub(crate) fn act(
             return Ok(StepKind::Uncounted);
         }
         Task::Answering { .. } => return Err(Halt::Stuck(Arm::Code)),
+        Task::Calling(call) => {
+            pass_over(engine, definition, call)?;
+            return Ok(StepKind::Uncounted);
+        }
         Task::Due { source } => {
             run_source(engine, definition, source)?;
             return Ok(StepKind::Uncounted);

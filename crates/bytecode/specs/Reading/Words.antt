@@ -1,11 +1,10 @@
 -- The instructions, by their words: each word has its row.
-use Rattle.std.specs.Prelude.{ℕ, List, codes, if◌then◌else◌, Result, Ok, Err}
+use Rattle.std.specs.Prelude.{ℕ, List, codes, if◌then◌else◌, Result, Err}
 use Rattle.std.specs.Str.{bytes_eq}
 use Rattle.serde_json.specs.Data.{Data}
 use Rattle.ui_machine.specs.Outcome.{◌>>=◌}
 use Rattle.ui_machine.specs.Definition.Programs.{Instruction}
 use Rattle.ui_machine.specs.Definition.Programs as words
-use Rattle.bytecode.specs.Later.{is_later}
 use Rattle.bytecode.specs.Reading.Operands.{Refusal, bad_instruction, name_at}
 use Rattle.bytecode.specs.Reading.Scopes.{Scope}
 use Rattle.bytecode.specs.Reading.RegisterRows.{const_row, move_row, clear_row, arithmetic_row, compare_row, same_row, not_row, and_row, or_row, join_row, convert_row}
@@ -78,13 +77,8 @@ register_word s word d =
     (if bytes_eq word (codes "convert") then convert_row s d else
     (object_word s word d)))))))))))))
 
--- an instruction, unless no program has such a one so far
-abbrev pub unless_later : Instruction → Result Instruction Refusal
-unless_later i = if is_later i then Err bad_instruction else Ok i
-
 -- the instruction that a JSON array stands for
 unfoldable pub instruction_at : Scope → Data → Result Instruction Refusal
 instruction_at s d = do
   word ← name_at d 0
-  instruction ← register_word s word d
-  unless_later instruction
+  register_word s word d

@@ -13,13 +13,14 @@ use Rattle.type_tree.specs.declared.entry.TypeFlags.{TypeFlags}
 use Rattle.definition_format.specs.declared.faults.DefinitionLimit.TheVariants.{Depth}
 use Rattle.definition_format.specs.Causes.{unknown_parent, final_parent}
 use Rattle.definition_format.specs.Refusals.{Refusal, shape, unknown, bad_type, limit, or_refused}
-use Rattle.definition_format.specs.Document.{under, text_at, truth_at, absent_at}
+use Rattle.definition_format.specs.Document.{under, text_at, truth_at}
 use Rattle.definition_format.specs.Denoted.Entries.{ProgramNames, TypeNames}
 use Rattle.definition_format.specs.Denoted.Types.{is_declared, room_for_type, new_type_name}
 use Rattle.definition_format.specs.Denoted.Drafts.{Answers, ClassDraft, Draft, type_at, unanswered, with_answers}
 use Rattle.definition_format.specs.Denoted.ClassHandlers.{class_handlers_at}
 use Rattle.definition_format.specs.Denoted.Constructed.{constructed_at}
 use Rattle.definition_format.specs.Denoted.Implements.{implements_at}
+use Rattle.definition_format.specs.Denoted.Shapes.{shaped_at}
 
 -- ** parents
 
@@ -81,21 +82,21 @@ declared_at path first list names draft d = do
   interfaces ← implements_at path names draft parent d
   Ok (draft.types ++ class_type name parent flags interfaces ∷ [])
 
--- what types answer, with what an entry gives to a type; a class has no shape so far
-unfoldable pub answers_at : List ℕ → ProgramNames → ℕ → Answers → Data → Result Answers Refusal
-answers_at path programs t answers d = do
+-- what types name, with what an entry names for a type among these
+unfoldable pub answers_at : List ℕ → ProgramNames → List GType → ℕ → Answers → Data → Result Answers Refusal
+answers_at path programs types t answers d = do
   handlers ← class_handlers_at path programs t answers.handlers d
   constructed ← constructed_at path programs t answers.constructed d
-  absent ← absent_at path d (codes "shape" ∷ [])
-  Ok (record { handlers = handlers; constructed = constructed })
+  shaped ← shaped_at path types answers.shapes t answers.shaped d
+  Ok (record { shapes = answers.shapes; handlers = handlers; constructed = constructed; shaped = shaped })
 
 -- a draft with that
 unfoldable pub answering_at : List ℕ → ProgramNames → ℕ → Answers → Data → Draft → Result ClassDraft Refusal
 answering_at path programs t answers d given = do
-  all ← answers_at path programs t answers d
+  all ← answers_at path programs given.types t answers d
   Ok (with_answers given all)
 
--- the types with a class, its properties, its signals and the programs that it names
+-- the types with a class, its properties, its signals and what it names
 abbrev pub class_at : List ℕ → ℕ → Items → TypeNames → ProgramNames → ClassDraft → Data → Result ClassDraft Refusal
 class_at path first list names programs draft d =
     type_at path keys_of_class (declared_at path first list names (unanswered draft) d)

@@ -1,11 +1,11 @@
--- Types with their properties and signals, and the programs that classes name, while they are read.
+-- Types with their properties and signals, and what classes name, while they are read.
 use Rattle.std.specs.Prelude.{ℕ, List, [], length, codes, Option, None, Result, Ok}
 use Rattle.serde_json.specs.Data.{Data}
 use Rattle.ui_machine.specs.Outcome.{◌>>=◌}
 use Rattle.ui_machine.specs.Seq.{read}
 use Rattle.ui_machine.specs.Definition.Types.{GType}
 use Rattle.ui_machine.specs.Definition.Properties.{Spec}
-use Rattle.ui_machine.specs.Definition.Signals.{ClassHandler, Signal}
+use Rattle.ui_machine.specs.Definition.Signals.{ClassHandler, Shape, Signal}
 use Rattle.param_specs.specs.Table.{own_of}
 use Rattle.signal_core.specs.Sources as tables
 use Rattle.signal_core.specs.Table.{Declared, named_of}
@@ -28,17 +28,20 @@ draft_of types table declared = record { types = types; own = own_of table; sign
 abbrev pub bare_draft : List GType → Draft
 bare_draft types = record { types = types; own = λ t. []; signals = λ t. [] }
 
--- ** with what classes answer
+-- ** with what classes name
 
--- the programs that types name: for signals, and for their objects once they are constructed
+-- what types name: programs for signals and for their objects once they are constructed, and their shape among these shapes
 pub record Answers : Type 0 where
+  pub shapes : List Shape
   pub handlers : ℕ → List ClassHandler
   pub constructed : ℕ → Option ℕ
+  pub shaped : ℕ → Option ℕ
 
-abbrev pub no_answers : Answers
-no_answers = record { handlers = λ t. []; constructed = λ t. None }
+-- where no type names anything yet
+abbrev pub no_answers : List Shape → Answers
+no_answers shapes = record { shapes = shapes; handlers = λ t. []; constructed = λ t. None; shaped = λ t. None }
 
--- a draft with the programs that its types name
+-- a draft with what its types name
 pub record ClassDraft : Type 0 where
   pub types : List GType
   pub own : ℕ → List Spec
@@ -51,11 +54,13 @@ with_answers draft answers = record { types = draft.types; own = draft.own; sign
 abbrev pub unanswered : ClassDraft → Draft
 unanswered draft = record { types = draft.types; own = draft.own; signals = draft.signals }
 
-abbrev pub answers_of : List (List ClassHandler) → List (Option ℕ) → Answers
-answers_of handlers constructed = record { handlers = named_of handlers; constructed = read None constructed }
+abbrev pub answers_of : List Shape → List (List ClassHandler) → List (Option ℕ) → List (Option ℕ) → Answers
+answers_of shapes handlers constructed shaped =
+    record { shapes = shapes; handlers = named_of handlers; constructed = read None constructed; shaped = read None shaped }
 
-abbrev pub class_draft_of : List GType → List (List Spec) → Declared → List (Option ℕ) → ClassDraft
-class_draft_of types table declared constructed = with_answers (draft_of types table declared.signals) (answers_of declared.handlers constructed)
+abbrev pub class_draft_of : List GType → List (List Spec) → Declared → List (Option ℕ) → List Shape → List (Option ℕ) → ClassDraft
+class_draft_of types table declared constructed shapes shaped =
+    with_answers (draft_of types table declared.signals) (answers_of shapes declared.handlers constructed shaped)
 
 -- ** members of types
 

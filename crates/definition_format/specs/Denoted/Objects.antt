@@ -14,22 +14,20 @@ use Rattle.definition_format.specs.Causes.{abstract_class}
 use Rattle.definition_format.specs.declared.faults.DefinitionLimit.TheVariants.{Places, Objects}
 use Rattle.definition_format.specs.declared.objects.Bind.{Bind}
 use Rattle.definition_format.specs.Meaning.{Entry, bind_view, plain_object, plain_place}
-use Rattle.definition_format.specs.Refusals.{Refusal, shape, unknown, duplicate, bad_type, limit, or_refused}
-use Rattle.definition_format.specs.Document.{under, members_at, text_at, entries_at, absent_at, only_at, each, at_entry}
-use Rattle.definition_format.specs.Denoted.Names.{is_name}
+use Rattle.serde_json.specs.Find.{get}
+use Rattle.definition_format.specs.Refusals.{Refusal, shape, unknown, bad_type, limit, or_refused}
+use Rattle.definition_format.specs.Document.{under, members_at, text_at, entries_at, only_at, each, at_entry}
+use Rattle.definition_format.specs.Denoted.Names.{unless_taken}
 use Rattle.definition_format.specs.Denoted.Entries.{ObjectNames}
 use Rattle.definition_format.specs.Denoted.Binds.{Target}
 use Rattle.definition_format.specs.Denoted.Filled.{all_filled}
 use Rattle.definition_format.specs.Denoted.Attached.{all_attached}
+use Rattle.definition_format.specs.Denoted.Peers.{peer_or, peers_of}
 
 -- there is a place for one more beside these prototypes and objects, and it may live
 abbrev pub room_for_object : ℕ → List machine.Place → List machine.Place → Result (Unit {0}) Refusal
 room_for_object most prototypes places =
     if nat_le 512 (length places + length prototypes) then Err (limit Places) else (if nat_le most (length places) then Err (limit Objects) else Ok tt)
-
--- a name that is not taken
-abbrev pub unless_taken : List ℕ → List ℕ → Bool → Result (Unit {0}) Refusal
-unless_taken path id taken = if is_name id then (if taken then Err (duplicate path) else Ok tt) else Err (shape path)
 
 -- an id beside those of these places
 abbrev pub new_id : List ℕ → List machine.Place → List ℕ → Result (Unit {0}) Refusal
@@ -48,11 +46,12 @@ class_at_key path types d = do
 abbrev pub keys_of_object : List (List ℕ)
 keys_of_object = codes "id" ∷ codes "class" ∷ codes "peer" ∷ codes "properties" ∷ codes "signals" ∷ codes "children" ∷ []
 
--- what is known where objects are read: the types with their properties, the programs, the prototypes, how many objects may live, and the names
--- of all objects
+-- what is known where objects are read: the types with their properties, which of them have a shape, the programs, the prototypes, how many
+-- objects may live, and the names of all objects
 pub record Scope : Type 0 where
   pub types : List GType
   pub specs : ℕ → List Spec
+  pub has_shape : ℕ → Bool
   pub programs : List Program
   pub prototypes : List machine.Place
   pub most : ℕ
@@ -83,17 +82,17 @@ pub record Placed : Type 0 where
 abbrev pub target_in : Scope → ℕ → ℕ → Target
 target_in scope place class = record { types = scope.types; specs = scope.specs; objects = scope.names; place = place; class = class }
 
--- The object that an entry gives beside these, the child of the object at a place, if it is a child. It has no peer so far.
+-- the object that an entry gives beside these, the child of the object at a place, if it is a child
 unfoldable pub place_at : List ℕ → Scope → Option ℕ → Built → Data → Result Placed Refusal
 place_at path scope parent built d = do
   room ← room_for_object scope.most scope.prototypes built.places
   id ← text_at path d (codes "id")
   new ← new_id (under path (codes "id")) (built.places ++ scope.prototypes) id
   class ← class_at_key path scope.types d
-  peer ← absent_at path d (codes "peer" ∷ [])
+  peers ← peer_or (under path (codes "peer")) (scope.has_shape class) (peers_of scope.prototypes ++ peers_of built.places) (get (codes "peer") d)
   filled ← all_filled path (target_in scope (length built.places) class) built.bindings d
   signals ← all_attached path scope.programs scope.names d
-  Ok (record { place = plain_place id class parent filled.given signals; bindings = filled.bindings })
+  Ok (record { place = plain_place id class parent peers filled.given signals; bindings = filled.bindings })
 
 -- these objects, with the one that an entry gives
 unfoldable pub added_at : List ℕ → Scope → Option ℕ → Built → Data → Result Built Refusal

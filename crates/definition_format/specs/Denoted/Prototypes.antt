@@ -1,5 +1,5 @@
 -- The prototypes of a definition, of which programs make objects.
-use Rattle.std.specs.Prelude.{ℕ, List, [], ◌∷◌, ◌++◌, length, codes, nat_le, if◌then◌else◌, Option, None, Some, Result, Ok, Err}
+use Rattle.std.specs.Prelude.{ℕ, List, [], ◌∷◌, ◌++◌, length, codes, nat_le, Bool, if◌then◌else◌, Option, None, Some, Result, Ok, Err}
 use Rattle.serde_json.specs.Data.{Data}
 use Rattle.serde_json.specs.Find.{get}
 use Rattle.g_values.specs.Reading.{json_value}
@@ -10,11 +10,12 @@ use Rattle.ui_machine.specs.Definition.Properties.{Spec, is_writable}
 use Rattle.ui_machine.specs.Definition.Types.{GType}
 use Rattle.definition_format.specs.Causes.{not_writable}
 use Rattle.definition_format.specs.declared.faults.DefinitionLimit.TheVariants.{Places}
-use Rattle.definition_format.specs.Meaning.{bare_prototype}
+use Rattle.definition_format.specs.Meaning.{prototype_with}
 use Rattle.definition_format.specs.Refusals.{Refusal, shape, bad_spec, limit, or_value_fault}
-use Rattle.definition_format.specs.Document.{under, members_at, text_at, entries_at, absent_at, only_at, each, at_entry}
+use Rattle.definition_format.specs.Document.{under, members_at, text_at, entries_at, only_at, each, at_entry}
 use Rattle.definition_format.specs.Denoted.Given.{property_named, named_once, itself}
 use Rattle.definition_format.specs.Denoted.Objects.{new_id, class_at_key}
+use Rattle.definition_format.specs.Denoted.Peers.{peers_of, peers_or}
 
 -- ** given values
 
@@ -57,27 +58,27 @@ room_for_prototype prototypes = if nat_le 512 (length prototypes) then Err (limi
 abbrev pub keys_of_prototype : List (List ℕ)
 keys_of_prototype = codes "id" ∷ codes "class" ∷ codes "properties" ∷ codes "peers" ∷ []
 
--- The prototype that an entry gives beside these, where classes have these properties. It has no peers so far.
-unfoldable pub prototype_in : List ℕ → List GType → (ℕ → List Spec) → List machine.Place → Data → Result machine.Place Refusal
-prototype_in path types specs prototypes d = do
+-- the prototype that an entry gives beside these, where classes have these properties, and these classes have a shape
+unfoldable pub prototype_in : List ℕ → List GType → (ℕ → List Spec) → (ℕ → Bool) → List machine.Place → Data → Result machine.Place Refusal
+prototype_in path types specs has_shape prototypes d = do
   members ← members_at path d
   room ← room_for_prototype prototypes
   id ← text_at path d (codes "id")
   new ← new_id (under path (codes "id")) prototypes id
   class ← class_at_key path types d
   given ← all_plain_at path types (specs class) d
-  peers ← absent_at path d (codes "peers" ∷ [])
+  peers ← peers_or (under path (codes "peers")) (has_shape class) (peers_of prototypes) (get (codes "peers") d)
   only ← only_at path members keys_of_prototype
-  Ok (bare_prototype id class given)
+  Ok (prototype_with id class peers given)
 
 -- these prototypes, with the one that an entry gives
-unfoldable pub prototype_at : List ℕ → List GType → (ℕ → List Spec) → List machine.Place → Data → Result (List machine.Place) Refusal
-prototype_at path types specs prototypes d = do
-  prototype ← prototype_in path types specs prototypes d
+unfoldable pub prototype_at : List ℕ → List GType → (ℕ → List Spec) → (ℕ → Bool) → List machine.Place → Data → Result (List machine.Place) Refusal
+prototype_at path types specs has_shape prototypes d = do
+  prototype ← prototype_in path types specs has_shape prototypes d
   Ok (prototypes ++ prototype ∷ [])
 
--- the prototypes of a document with these types and their properties
-unfoldable pub prototypes_in : List GType → (ℕ → List Spec) → Data → Result (List machine.Place) Refusal
-prototypes_in types specs d = do
+-- the prototypes of a document with these types and their properties, of which these have a shape
+unfoldable pub prototypes_in : List GType → (ℕ → List Spec) → (ℕ → Bool) → Data → Result (List machine.Place) Refusal
+prototypes_in types specs has_shape d = do
   list ← entries_at [] d (codes "prototypes")
-  each (at_entry (λ path. prototype_at path types specs) (under [] (codes "prototypes"))) 0 [] list
+  each (at_entry (λ path. prototype_at path types specs has_shape) (under [] (codes "prototypes"))) 0 [] list

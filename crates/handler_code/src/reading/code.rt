@@ -3,7 +3,7 @@
 ghost use Rattle.std.specs.Prelude.{◌≡◌, All, IfOk, map};
 ghost use Rattle.serde_json.specs.View.{view};
 ghost use Rattle.bytecode.specs.View.{block_view, instruction_view, register_kind_view};
-ghost use Rattle.bytecode.specs.Known.{IsKnownInstruction, HasKnownCode};
+ghost use Rattle.bytecode.specs.Known.{HasKnownKinds, HasKnownCode};
 ghost use Rattle.handler_code.specs.Reading.ReaderViews.{scope_view, block_outline_view};
 ghost use Rattle.bytecode.specs.Reading.Programs.{Gives, blocks_in, code_in, filled, instruction_behind};
 
@@ -27,7 +27,7 @@ fn instruction_behind(
     json: &Value,
 ) -> Result<Instruction, ProgramError>
     ensures read { Gives instruction_view result (instruction_behind (scope_view scope.now) block at (map instruction_view code.now) (view json.now)) }
-    ensures known { IfOk result (λ i. IsKnownInstruction scope.now.types.now i) }
+    ensures known { IfOk result (λ i. HasKnownKinds scope.now.types.now i) }
 {
     let refused = ProgramFault::BadInstruction(BlockNumber(block), at);
     if is_ended(code) {
@@ -48,7 +48,7 @@ fn code_of(
     items: &[Value],
 ) -> Result<Vec<Instruction>, ProgramError>
     ensures read { Gives (λ v. map instruction_view v.items) result (code_in (scope_view scope.now) block (map view items.now)) }
-    ensures known { IfOk result (λ v. All (λ i. IsKnownInstruction scope.now.types.now i) v.items) }
+    ensures known { IfOk result (λ v. All (λ i. HasKnownKinds scope.now.types.now i) v.items) }
 {
     let mut code = Vec::new(alloc);
     'items: for (at, item) in items.iter().enumerate() {

@@ -5,11 +5,10 @@
 ghost use Rattle.std.specs.Prelude.{◌≡◌, IfOk, false};
 ghost use Rattle.serde_json.specs.View.{view};
 ghost use Rattle.bytecode.specs.View.{instruction_view};
-ghost use Rattle.bytecode.specs.Known.{HasKnownKinds, IsKnownInstruction};
-ghost use Rattle.bytecode.specs.Later.{is_later};
+ghost use Rattle.bytecode.specs.Known.{HasKnownKinds};
 ghost use Rattle.bytecode.specs.Reading.Operands.{Gives};
 ghost use Rattle.handler_code.specs.Reading.ReaderViews.{scope_view};
-ghost use Rattle.bytecode.specs.Reading.Words.{register_word, object_word, signal_word, source_word, jump_word, unless_later, instruction_at};
+ghost use Rattle.bytecode.specs.Reading.Words.{register_word, object_word, signal_word, source_word, jump_word, instruction_at};
 
 use crate::reading::jump_rows::{read_branch, read_branch_null, read_jump, read_return};
 use crate::reading::object_rows::{
@@ -37,7 +36,7 @@ use std::alloc::Global;
 /// kinds, is not tested here.
 ///
 /// `BadInstruction` where the value is no array, its first entry is no word, or its operands are not those of the word: too few, too many, or
-/// of another sort. `call` is BadInstruction too, since no program has it so far. `OutOfMemory` where a name, a text or a list can't be made.
+/// of another sort. `OutOfMemory` where a name, a text or a list can't be made.
 #[tactic(auto, unfolding(bytecode::specs::Reading::Words::instruction_at))]
 pub fn read_instruction(
     alloc: Global,
@@ -45,32 +44,10 @@ pub fn read_instruction(
     json: &Value,
 ) -> Result<Instruction, InstructionError>
     ensures read { Gives instruction_view result (instruction_at (scope_view scope.now) (view json.now)) }
-    ensures known { IfOk result (λ i. IsKnownInstruction scope.now.types.now i) }
+    ensures known { IfOk result (λ i. HasKnownKinds scope.now.types.now i) }
 {
     let word = text_at(json, 0)?;
-    let instruction = read_register_word(alloc, scope, word, json)?;
-    let instruction = unless_later(instruction)?;
-    Ok(instruction)
-}
-
-// Whether an instruction calls a method of a peer.
-#[tactic(auto, using(crate::proofs::LaterGroups::compute_now, crate::proofs::LaterGroups::control_now, crate::proofs::LaterGroups::property_now, crate::proofs::LaterGroups::object_now, crate::proofs::LaterGroups::signal_now, crate::proofs::LaterGroups::source_now))]
-fn is_later(instruction: &Instruction) -> bool
-    ensures { result ≡ is_later (instruction_view instruction.now) }
-{
-    matches!(instruction, Instruction::Peer(_))
-}
-
-// An instruction, unless no program has such a one so far.
-fn unless_later(instruction: Instruction) -> Result<Instruction, InstructionError>
-    ensures read { Gives instruction_view result (unless_later (instruction_view instruction)) }
-    ensures same { IfOk result (λ i. i ≡ instruction) }
-    ensures now { IfOk result (λ i. is_later (instruction_view i) ≡ false) }
-{
-    if is_later(&instruction) {
-        return Err(InstructionError::BadInstruction);
-    }
-    Ok(instruction)
+    read_register_word(alloc, scope, word, json)
 }
 
 // Instructions on registers alone.

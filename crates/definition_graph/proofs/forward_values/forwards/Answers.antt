@@ -2,7 +2,8 @@ use Rattle.std.proofs.Common.{◌≡◌, ◌∙◌, sym, ap, ◌+◌, ◌++◌, 
 use Rattle.ui_machine.specs.Definition.{Definition}
 use Rattle.law_typing.specs.Graph.{forwards_from}
 use Rattle.definition_graph.specs.ChannelView.{channels_of}
-use Rattle.definition_graph.specs.Makings.{entry_view, forwards_at}
+use Rattle.definitions.specs.EntryView.{entry_view}
+use Rattle.definition_graph.specs.Makings.{forwards_at}
 use Rattle.definition_graph.proofs.ChannelLists.{adds}
 use Rattle.definition_graph.proofs.ForwardLists.{next_forwards}
 use Rattle.definition_graph.proofs.forward_values.forwards.Goals as goal

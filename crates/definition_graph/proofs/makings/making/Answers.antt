@@ -1,7 +1,8 @@
 use Rattle.std.proofs.Common.{◌≡◌, ◌∙◌, ap, ◌++◌, map, Some, None, slice_get}
 use Rattle.ui_machine.specs.Definition.{Definition}
 use Rattle.ui_machine.specs.Definition.Lookups.{place_at, specs_of}
-use Rattle.definition_format.specs.Meaning.{attached_view, bare_place, given_property, place_number}
+use Rattle.definition_format.specs.Meaning.{given_property}
+use Rattle.definitions.specs.EntryView.{entry_view}
 use Rattle.law_typing.specs.Graph.{set_from}
 use Rattle.law_typing.specs.Graph.Channels.{present}
 use Rattle.definition_graph.specs.ChannelView.{channels_of, constructed_if}
@@ -23,7 +24,7 @@ returns c =
     let place = c.args.place.0 in
     let o = c.in-Some.entry in
     let given = o.given.now in
-    let p = bare_place o.id.now o.class o.is_prototype (place_number o.parent) (map given_property given) (map attached_view o.signals.now) in
+    let p = entry_view o in
     let some : Some p ≡ place_at d place =
     c.in-Some.ensures
     ∙ (ap (λ (e : Definition). slice_get e.places c.from.result) c.definition.ensures ∙ ap (slice_get d.places) c.from.ensures) in

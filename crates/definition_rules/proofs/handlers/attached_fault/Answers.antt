@@ -4,7 +4,7 @@ use Rattle.law_typing.specs.Rules.Faults.{handler_signature}
 use Rattle.law_typing.specs.Rules.Faults as faults
 use Rattle.law_typing.specs.Rules.Handlers.{attached_faults, attached_fits, unless}
 use Rattle.operand_types.proofs.MappedLists.{from_entry}
-use Rattle.definition_rules.specs.Parts.{entry_view}
+use Rattle.definitions.specs.EntryView.{entry_view}
 use Rattle.definition_rules.proofs.FirstFaults.{stops, goes_on}
 use Rattle.definition_rules.proofs.handlers.attached_fault.Goals as goal
 

@@ -1,6 +1,6 @@
 use Rattle.std.proofs.Common.{◌≡◌, drop, slice_get}
 use Rattle.law_typing.specs.Rules.Handlers.{attached_faults}
-use Rattle.definition_rules.specs.Parts.{entry_view}
+use Rattle.definitions.specs.EntryView.{entry_view}
 use Rattle.definition_rules.proofs.handlers.attached_fault.Given as goal
 
 abbrev pub invariant-loop-number : goal.invariant-loop-number

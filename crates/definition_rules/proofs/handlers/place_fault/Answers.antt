@@ -2,7 +2,7 @@ use Rattle.std.proofs.Common.{◌≡◌, ◌∙◌, refl, Some, sym, ap, ◌+◌
 use Rattle.ui_machine.specs.Definition.{Definition}
 use Rattle.law_typing.specs.Rules.Handlers.{attached_faults, place_faults}
 use Rattle.definition_rules.specs.Faults.{handling_fault}
-use Rattle.definition_rules.specs.Parts.{entry_view}
+use Rattle.definitions.specs.EntryView.{entry_view}
 use Rattle.definition_rules.proofs.FirstFaults.{stops, goes_on, from_got}
 use Rattle.definition_rules.proofs.handlers.place_fault.Goals as goal
 

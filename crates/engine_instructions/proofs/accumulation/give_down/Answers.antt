@@ -55,6 +55,7 @@ returns-in_ok-push-in_default-task-clause-step c =
     other (tasks.Binding number) is = tt
     other (tasks.Connecting place number) is = tt
     other (tasks.Answering source) is = absurd (c.in_default-task.not-Answering source is)
+    other (tasks.Calling call) is = tt
     other (tasks.Due source) is = tt
     other (tasks.Handling event) is = tt
 

@@ -12,3 +12,6 @@ returns-in-Property-clause-step c = rw c.in-Property.is (goes_whole c.args.defin
 
 pub returns-in-Source-clause-step : goal.returns-in-Source-clause-step
 returns-in-Source-clause-step c = rw c.in-Source.is (goes_whole c.args.definition.now c.execute_on_sources.new.engine c.execute_on_sources.result _ c.execute_on_sources.ensures.step)
+
+pub returns-in-Peer-clause-step : goal.returns-in-Peer-clause-step
+returns-in-Peer-clause-step c = rw c.in-Peer.is (goes_whole c.args.definition.now c.call_from_program.new.engine c.call_from_program.result _ c.call_from_program.ensures.step)

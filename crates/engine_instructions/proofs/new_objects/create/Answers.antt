@@ -1,6 +1,6 @@
-use Rattle.std.proofs.Common.{◌≡◌, true, false, ap, sym, ◌∙◌}
-use Rattle.std.specs.Prelude.{codes}
-use Rattle.std.proofs.lemmas.Result.{err_from_is_err_and}
+use Rattle.std.proofs.Common.{◌≡◌, ◌<◌, ◌&&◌, ℕ, Option, length, true, false, ap, subst, sym, ◌∙◌}
+use Rattle.std.specs.Prelude.{IfSome, codes}
+use Rattle.ui_machine.specs.declared.arm.Arm.TheVariants as arms
 use Rattle.ui_machine.specs.Definition.Values.{Value}
 use Rattle.ui_machine.specs.Instructions.Objects.{creating}
 use Rattle.ui_machine.specs.Instructions.Registers.{gives}
@@ -8,34 +8,41 @@ use Rattle.ui_machine.specs.Output.Lines as lines
 use Rattle.ui_machine.specs.Rules.Build.{to_make}
 use Rattle.ui_machine.specs.State.Config.{said}
 use Rattle.frames.specs.FrameView.{frame_view}
-use Rattle.engine_instructions.specs.CreateView.{has_room}
+use Rattle.engine_instructions.specs.CreateView.{created, has_room, prototype_of}
+use Rattle.engine_world.specs.PeerPlaces.{is_there, taken}
 use Rattle.engine_world.specs.TaskView.{agenda_of}
 use Rattle.engine_world.specs.View.{world_of}
 use Rattle.engine_instructions.proofs.Creating.{creates, creates_none}
 use Rattle.engine_instructions.proofs.Jumping.{stuck_left}
 use Rattle.engine_instructions.proofs.new_objects.create.Goals as goal
 
-pub returns-in_err-place-clause-step : goal.returns-in_err-place-clause-step
-returns-in_err-place-clause-step c =
+pub returns-in_default-clause-step : goal.returns-in_default-clause-step
+returns-in_default-clause-step c =
     let d = c.args.definition.now in
     let e = c.args.engine.now in
     let w = world_of e.world in
     let f = frame_view c.args.frame in
-    let p = err_from_is_err_and c.from_residual.result c.from_residual.ensures.1 in
-    rw (p.1, p.2)
-    (stuck_left d e (creating d w (agenda_of d e) f c.args.to.0 c.args.id.now) _
-    (creates_none d c.types-types.ensures.basic w (agenda_of d e) f c.args.to.0 c.args.id.now _ c.in_err-place.ensures))
+    stuck_left d e (creating d w (agenda_of d e) f c.args.to.0 c.args.id.now) arms.Code
+    (creates_none d w (agenda_of d e) f c.args.to.0 c.args.id.now arms.Code (sym c.in_default.ensures))
 
-pub returns-then-not-has_room-clause-step : goal.returns-then-not-has_room-clause-step
-returns-then-not-has_room-clause-step c =
+pub returns-then-not-may_create-clause-step : goal.returns-then-not-may_create-clause-step
+returns-then-not-may_create-clause-step c =
     let d = c.args.definition.now in
     let e = c.args.engine.now in
     let w = world_of e.world in
     let f = frame_view c.args.frame in
-    let full : has_room d w (to_make (agenda_of d e)) ≡ false = sym c.if-not-has_room.ensures in
-    let refused = creates d c.types-types.ensures.basic w (agenda_of d e) f c.args.to.0 c.args.id.now c.in_ok-place.place.0 false c.in_ok-place.ensures full
+    let q = prototype_of c.in-Some.prototype in
+    let there = is_there c.new_peer-peer.result in
+    let full : (has_room d w (to_make (agenda_of d e)) && there) ≡ false = sym c.if-not-may_create.ensures in
+    let refused = creates d w (agenda_of d e) f c.args.to.0 c.args.id.now q false there (taken c.new_peer-peer.result) (sym c.in-Some.ensures) full c.new_peer-peer.ensures.there c.new_peer-peer.ensures.taken
     ∙ ap (λ (v : Value). gives (said d w (lines.limit (codes "new"))) c.args.to.0 v f) (sym c.object_or_null.ensures) in
     rw refused c.write_null_and_say_limit.ensures.step
+
+pub create_at-requires : goal.create_at-requires
+create_at-requires c = record {
+  peer = subst (λ (p : Option ℕ). IfSome p (λ number. number < length c.args.engine.now.world.seats)) (sym c.number.ensures) c.new_peer-peer.ensures.within;
+  counted = c.requires.counted;
+}
 
 pub returns-clause-step : goal.returns-clause-step
 returns-clause-step c =
@@ -43,5 +50,9 @@ returns-clause-step c =
     let e = c.args.engine.now in
     let w = world_of e.world in
     let f = frame_view c.args.frame in
-    let room : has_room d w (to_make (agenda_of d e)) ≡ true = sym c.if-not-has_room.ensures in
-    rw (creates d c.types-types.ensures.basic w (agenda_of d e) f c.args.to.0 c.args.id.now c.in_ok-place.place.0 true c.in_ok-place.ensures room) c.create_at.ensures.step
+    let q = prototype_of c.in-Some.prototype in
+    let there = is_there c.new_peer-peer.result in
+    let room : (has_room d w (to_make (agenda_of d e)) && there) ≡ true = sym c.if-not-may_create.ensures in
+    let made = creates d w (agenda_of d e) f c.args.to.0 c.args.id.now q true there (taken c.new_peer-peer.result) (sym c.in-Some.ensures) room c.new_peer-peer.ensures.there c.new_peer-peer.ensures.taken
+    ∙ ap (λ (p : Option ℕ). created d w f c.args.to.0 q.number p) (sym c.number.ensures) in
+    rw made c.create_at.ensures.step

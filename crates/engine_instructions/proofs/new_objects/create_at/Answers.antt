@@ -22,8 +22,8 @@ returns-in_err-new-clause-step c =
     let f = frame_view c.args.frame in
     let p = err_from_is_err_and c.from_residual.result c.from_residual.ensures.1 in
     rw (p.1, p.2)
-    (stops_left e.counted (agenda_of d e) (created d (world_of e.world) f c.args.to.0 c.args.place.0) _
-    (created_stops d (world_of e.world) f c.args.to.0 c.args.place.0 _ (c.in_err-new.ensures.stops false)))
+    (stops_left e.counted (agenda_of d e) (created d (world_of e.world) f c.args.to.0 c.args.place.0 c.args.peer) _
+    (created_stops d (world_of e.world) f c.args.to.0 c.args.place.0 c.args.peer _ (c.in_err-new.ensures.stops false)))
 
 pub write_register-requires : goal.write_register-requires
 write_register-requires c = record { counted = c.in_ok-new.ensures.counted.at _ c.requires.counted }
@@ -37,7 +37,7 @@ returns-in_err-write_register-clause-step c =
     let u = with_line (string_bytes new.line) (world_of m.world) in
     let p = err_from_is_err_and c.from_residual-in_err-write_register.result c.from_residual-in_err-write_register.ensures.1 in
     rw (p.1, p.2)
-    (create_unwritten d e m (frame_view c.args.frame) c.args.to.0 c.args.place.0 u (Constructing new.object.0 new.steps false) (value_view c.object_value.result)
+    (create_unwritten d e m (frame_view c.args.frame) c.args.to.0 c.args.place.0 c.args.peer u (Constructing new.object.0 new.steps false) (value_view c.object_value.result)
     (c.in_ok-new.ensures.made false) (same_agenda d e m c.make.ensures.same.0 c.make.ensures.handlers) c.make.ensures.same.1
     (c.object_value.ensures ∙ ap (λ n. values.object (Some n)) c.in_ok-new.ensures.identity)
     _ c.in_err-write_register.ensures.step)
@@ -60,8 +60,8 @@ returns-clause-step c =
     let t = Constructing new.object.0 new.steps false in
     let agenda = same_agenda d e m c.make.ensures.same.0 c.make.ensures.handlers in
     let names = c.object_value.ensures ∙ ap (λ n. values.object (Some n)) c.in_ok-new.ensures.identity in
-    let world = create_world d e m f c.args.to.0 c.args.place.0 u t v (c.in_ok-new.ensures.made false) agenda c.make.ensures.same.1 names mid c.in_ok-write_register.ensures.step in
-    create_written d e m f c.args.to.0 c.args.place.0 u t v (c.in_ok-new.ensures.made false) agenda c.make.ensures.same.1 names mid c.in_ok-write_register.ensures.step
+    let world = create_world d e m f c.args.to.0 c.args.place.0 c.args.peer u t v (c.in_ok-new.ensures.made false) agenda c.make.ensures.same.1 names mid c.in_ok-write_register.ensures.step in
+    create_written d e m f c.args.to.0 c.args.place.0 c.args.peer u t v (c.in_ok-new.ensures.made false) agenda c.make.ensures.same.1 names mid c.in_ok-write_register.ensures.step
     c.begin_construction.new.engine (c.in_ok-begin_construction.ensures.world ∙ ap (λ (w : World). with_line (string_bytes new.line) w) world) (c.in_ok-begin_construction.ensures.agenda d) c.begin_construction.ensures.same
 
 pub returns-in_err-begin_construction-clause-quiet : goal.returns-in_err-begin_construction-clause-quiet
@@ -70,7 +70,7 @@ returns-in_err-begin_construction-clause-quiet c =
     let e = c.args.engine.now in
     let m = c.make.new.engine in
     let new = c.in_ok-new.new in
-    let world = create_world d e m (frame_view c.args.frame) c.args.to.0 c.args.place.0 (with_line (string_bytes new.line) (world_of m.world)) (Constructing new.object.0 new.steps false)
+    let world = create_world d e m (frame_view c.args.frame) c.args.to.0 c.args.place.0 c.args.peer (with_line (string_bytes new.line) (world_of m.world)) (Constructing new.object.0 new.steps false)
     (value_view c.object_value.result) (c.in_ok-new.ensures.made false) (same_agenda d e m c.make.ensures.same.0 c.make.ensures.handlers) c.make.ensures.same.1
     (c.object_value.ensures ∙ ap (λ n. values.object (Some n)) c.in_ok-new.ensures.identity) c.write_register.new.engine c.in_ok-write_register.ensures.step in
     let p = err_from_is_err_and c.from_residual-in_err-begin_construction.result c.from_residual-in_err-begin_construction.ensures.1 in

@@ -34,5 +34,6 @@ returns-in_default c hs = by c.args.task.now refl
     by (tasks.Thawing object slots) is = refl
     by (tasks.Constructing object steps held) is = refl
     by (tasks.Answering source) is = refl
+    by (tasks.Calling call) is = refl
     by (tasks.Due source) is = refl
     by (tasks.Handling event) is = refl

@@ -1,4 +1,7 @@
-use Rattle.std.proofs.Common.{◌≡◌, [], false, IsSome, ap, subst, sym, ◌∙◌}
+use Rattle.std.proofs.Common.{◌≡◌, ℕ, [], None, Option, cond, false, IsSome, ap, subst, sym, ◌∙◌}
+use Rattle.ui_machine.specs.Instructions.Registers.{operand_in}
+use Rattle.engine_world.specs.ClosingView.{closed_with, or_number}
+use Rattle.engine_instructions.specs.ClosedPeers.{closed_in}
 use Rattle.std.specs.Prelude.{OnOk, Result, Ok, Err}
 use Rattle.std.proofs.lemmas.Result.{err_from_is_err_and}
 use Rattle.frames.specs.FrameView.{frame_view}
@@ -56,7 +59,6 @@ dispose-requires c =
     let back = sym c.push_frame.ensures.beside in
     record {
       live = subst (λ (x : Engine). IsSome (living x.world.table.objects id)) back (operand_lives (world_of e.world) (frame_view c.args.frame) c.args.object.0 id c.in_ok-object.ensures);
-      first = sym c.is_disposed.ensures ∙ c.if-is_disposed.false;
       knows = subst (λ (x : Engine). Knows d x.world.weak) back c.requires.counted.knows;
     }
 
@@ -78,3 +80,26 @@ returns-clause-counted c = on c.dispose.result c.dispose.ensures.counted
         → OnOk result (Counts c.args.definition.now nothing c.dispose.new.engine)
     on (Ok x) k = k.at nothing (frame_held c.args.definition.now c.args.engine.now c.push_frame.new.engine (frame_view c.args.frame) (c.in_ok-push_frame.ensures.counted c.args.definition.now) c.requires.counted)
     on (Err halt) k = tt
+
+pub returns-then-is_disposed-clause-closing : goal.returns-then-is_disposed-clause-closing
+returns-then-is_disposed-clause-closing c =
+    let w = world_of c.args.engine.now.world in
+    let f = frame_view c.args.frame in
+    let id = c.in_ok-object.object.0 in
+    let so = ap (λ (x : Engine). is_disposed (living x.world.table.objects id)) (sym c.push_frame.ensures.beside) ∙ sym c.is_disposed.ensures ∙ c.if-is_disposed.true in
+    ap (λ (x : Engine). x.closing) c.push_frame.ensures.beside
+    ∙ sym (ap (λ (k : Option ℕ). or_number k c.args.engine.now.closing)
+    (ap (closed_in w) c.in_ok-object.ensures ∙ ap (λ b. cond b None (closed_with w id)) so))
+
+pub returns-clause-closing : goal.returns-clause-closing
+returns-clause-closing c = on c.dispose.result c.dispose.ensures.closing
+  where
+    on : (result : Result (Unit {0}) Halt) → OnOk result (c.dispose.new.engine.closing ≡ or_number (closed_with (world_of c.push_frame.new.engine.world) c.in_ok-object.object.0) c.push_frame.new.engine.closing)
+        → OnOk result (c.dispose.new.engine.closing ≡ or_number (closed_in (world_of c.args.engine.now.world) (operand_in (world_of c.args.engine.now.world) (frame_view c.args.frame) c.args.object.0)) c.args.engine.now.closing)
+    on (Ok x) is =
+        let w = world_of c.args.engine.now.world in
+        let id = c.in_ok-object.object.0 in
+        let so = ap (λ (x : Engine). is_disposed (living x.world.table.objects id)) (sym c.push_frame.ensures.beside) ∙ sym c.is_disposed.ensures ∙ c.if-is_disposed.false in
+        is ∙ ap (λ (x : Engine). or_number (closed_with (world_of x.world) id) x.closing) c.push_frame.ensures.beside
+        ∙ sym (ap (λ (k : Option ℕ). or_number k c.args.engine.now.closing) (ap (closed_in w) c.in_ok-object.ensures ∙ ap (λ b. cond b None (closed_with w id)) so))
+    on (Err halt) is = tt

@@ -42,6 +42,7 @@ returns-in_default-task c = record {
     other (tasks.Binding number) is = tt
     other (tasks.Connecting place number) is = tt
     other (tasks.Answering source) is = tt
+    other (tasks.Calling call) is = tt
     other (tasks.Due source) is = tt
     other (tasks.Handling event) is = tt
 

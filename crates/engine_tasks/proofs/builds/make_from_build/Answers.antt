@@ -1,4 +1,4 @@
-use Rattle.std.proofs.Common.{true, None, Ok, List, ◌∷◌, ap, ◌∙◌}
+use Rattle.std.proofs.Common.{true, Ok, List, ◌∷◌, ap, ◌∙◌}
 use Rattle.std.proofs.lemmas.Result.{err_from_is_err_and}
 use Rattle.ui_machine.specs.Rules.Construction.{making}
 use Rattle.ui_machine.specs.State.Tasks.{Constructing, Task}
@@ -15,7 +15,7 @@ returns-in_err-new-clause-step c =
     let d = c.args.definition.now in
     let e = c.args.engine.now in
     let p = err_from_is_err_and c.from_residual.result c.from_residual.ensures.1 in
-    rw (p.1, p.2) (stops_on _ (making d (world_of e.world) c.args.place.0 None true) (λ s. Ok (before (agenda_of d e) e.counted s)) (c.in_err-new.ensures.stops true))
+    rw (p.1, p.2) (stops_on _ (making d (world_of e.world) c.args.place.0 c.args.peer true) (λ s. Ok (before (agenda_of d e) e.counted s)) (c.in_err-new.ensures.stops true))
 
 pub returns-clause-step : goal.returns-clause-step
 returns-clause-step c =

@@ -1,4 +1,4 @@
-use Rattle.std.proofs.Common.{◌≡◌, suc, false, None, Some, List, [], ◌∷◌, slice_get, length, map, string_bytes, rules, refl, sym, ap, arith, ◌∙◌}
+use Rattle.std.proofs.Common.{◌≡◌, suc, false, Some, List, [], ◌∷◌, slice_get, length, string_bytes, rules, refl, sym, ap, arith, ◌∙◌}
 use Rattle.ui_machine.specs.Definition.Lookups.{type_of, specs_of}
 use Rattle.ui_machine.specs.Output.Lines as lines
 use Rattle.ui_machine.specs.Output.Text.{text_of_line}
@@ -7,7 +7,7 @@ use Rattle.ui_machine.specs.State.Config.{starts}
 use Rattle.ui_machine.specs.State.References.{in_values}
 use Rattle.ui_machine.specs.State.Tasks.{Constructing}
 use Rattle.ui_machine.specs.Rules.Construction.{with_object, new_object}
-use Rattle.definition_format.specs.Meaning.{attached_view, bare_place, place_number, given_property}
+use Rattle.definitions.specs.EntryView.{entry_view}
 use Rattle.instances.specs.Store.{made_object}
 use Rattle.instances.proofs.Created.{made_holds}
 use Rattle.engine_world.specs.View.{with_line, world_of}
@@ -19,24 +19,24 @@ returns-clause-made c held =
     let d = c.args.definition.now in
     let w = world_of c.args.engine.now.world in
     let class = c.in-Some.entry.class in
-    let place = bare_place c.in-Some.entry.id.now class c.in-Some.entry.is_prototype (place_number c.in-Some.entry.parent) (map given_property c.in-Some.entry.given.now) (map attached_view c.in-Some.entry.signals.now) in
+    let place = entry_view c.in-Some.entry in
     let at : slice_get d.places c.args.place.0 ≡ Some place = sym c.in-Some.ensures in
     let concrete : (type_of d class).is_abstract ≡ false = search rules in
     let id = c.in_ok-object.object.0 in
-    let object : world_of c.create_object.new.engine.world ≡ with_object d w (new_object d c.args.place.0 place None) =
-    c.in_ok-object.ensures.world ∙ ap (λ (vs : List Value). with_object d w (made_object class c.args.place.0 vs None)) c.in_ok-values.ensures in
+    let object : world_of c.create_object.new.engine.world ≡ with_object d w (new_object d c.args.place.0 place c.args.peer) =
+    c.in_ok-object.ensures.world ∙ ap (λ (vs : List Value). with_object d w (made_object class c.args.place.0 vs c.args.peer)) c.in_ok-values.ensures in
     let line : string_bytes c.in_ok-line.line ≡ text_of_line d.types (lines.construct (suc (length w.objects)) (type_of d class).name) = rw (c.class_name.ensures, c.in_ok-object.ensures.identity) at c.in_ok-line.ensures in
-    made_there d c.types-types.ensures.basic w c.args.place.0 place at held concrete
+    made_there d c.types-types.ensures.basic w c.args.place.0 place at c.args.peer held concrete
     ∙ sym (ap (λ v. starts (with_line (string_bytes c.in_ok-line.line) v) (Constructing id c.in_ok-steps.steps held ∷ [])) object
-    ∙ ap (λ text. starts (with_line text (with_object d w (new_object d c.args.place.0 place None))) (Constructing id c.in_ok-steps.steps held ∷ [])) line
+    ∙ ap (λ text. starts (with_line text (with_object d w (new_object d c.args.place.0 place c.args.peer))) (Constructing id c.in_ok-steps.steps held ∷ [])) line
     ∙ rw (c.in_ok-object.ensures.identity, c.in_ok-steps.ensures) refl)
 
 pub returns-clause-counted : goal.returns-clause-counted
 returns-clause-counted c =
     let d = c.args.definition.now in
     let class = c.in-Some.entry.class in
-    let place = bare_place c.in-Some.entry.id.now class c.in-Some.entry.is_prototype (place_number c.in-Some.entry.parent) (map given_property c.in-Some.entry.given.now) (map attached_view c.in-Some.entry.signals.now) in
+    let place = entry_view c.in-Some.entry in
     let at : slice_get d.places c.args.place.0 ≡ Some place = sym c.in-Some.ensures in
     let valid = valid_defaults d c.types-types.ensures.basic (world_of c.args.engine.now.world) c.args.place.0 place at in
     c.in_ok-object.ensures.counted
-    (λ o. omega (arith, ap (in_values o (specs_of d class)) c.in_ok-values.ensures, made_holds d c.args.place.0 place None o valid))
+    (λ o. omega (arith, ap (in_values o (specs_of d class)) c.in_ok-values.ensures, made_holds d c.args.place.0 place c.args.peer o valid))

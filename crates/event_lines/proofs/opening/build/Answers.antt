@@ -1,10 +1,8 @@
-use Rattle.std.proofs.Common.{Ok, Err, Result, refl, subst}
-use Rattle.ui_machine.specs.Definition.{Definition}
-use Rattle.definition_format.specs.Meaning.{IsBasic}
+use Rattle.std.proofs.Common.{[], Ok, Err, Result, refl, subst}
+use Rattle.law_pools.proofs.PoolProofs.{matched_is_ready}
 use Rattle.ui_engine.specs.declared.dispatch.Reply.{Reply}
 use Rattle.ui_engine.specs.declared.session.SessionFault.{SessionFault}
 use Rattle.ui_engine.specs.SessionView.{Comes, building}
-use Rattle.ui_engine.proofs.Keeping.{none_needed}
 use Rattle.event_lines.specs.Opening as openings
 use Rattle.event_lines.specs.Opening.{IsTaken}
 use Rattle.event_lines.proofs.Openings.{opens_built, opens_stopped}
@@ -13,8 +11,7 @@ use Rattle.event_lines.proofs.opening.build.Goals as goal
 pub returns-in-Ok-build : goal.returns-in-Ok-build
 returns-in-Ok-build c bytes denotes judged =
     let d = c.args.verified in
-    let basic = subst (λ (e : Definition). IsBasic e) c.definition.ensures.same c.types-types.ensures.basic in
-    let taken : IsTaken bytes d = record { denoted = denotes; judged = judged; accepted = c.definition.ensures.accepted; ready = none_needed d basic } in
+    let taken : IsTaken bytes d = record { denoted = denotes; judged = judged; accepted = c.definition.ensures.accepted; ready = matched_is_ready d [] c.in-Ok.ensures.matches tt } in
     let s = c.in-Ok.started.session in
     record {
       opening = openings.built s;
@@ -22,14 +19,16 @@ returns-in-Ok-build c bytes denotes judged =
       opens = opens_built bytes d s taken c.in-Ok-build.field-0 (subst (λ (b : Result Reply SessionFault). Comes b (building d) d s) c.in-Ok-build.is c.in-Ok.ensures.built);
     }
 
-pub returns-in-Err : goal.returns-in-Err
-returns-in-Err c bytes denotes judged =
+pub returns-in-Err-build : goal.returns-in-Err-build
+returns-in-Err-build c bytes denotes judged =
     let d = c.args.verified in
-    let basic = subst (λ (e : Definition). IsBasic e) c.definition.ensures.same c.types-types.ensures.basic in
-    let taken : IsTaken bytes d = record { denoted = denotes; judged = judged; accepted = c.definition.ensures.accepted; ready = none_needed d basic } in
+    let taken : IsTaken bytes d = record { denoted = denotes; judged = judged; accepted = c.definition.ensures.accepted; ready = matched_is_ready d [] c.in-Ok.ensures.matches tt } in
     let s = c.in-Ok.started.session in
     record {
       opening = openings.stopped s;
       is = refl;
-      opens = opens_stopped bytes d s taken c.in-Err.field-0 (subst (λ (b : Result Reply SessionFault). Comes b (building d) d s) c.in-Err.is c.in-Ok.ensures.built);
+      opens = opens_stopped bytes d s taken c.in-Err-build.field-0 (subst (λ (b : Result Reply SessionFault). Comes b (building d) d s) c.in-Err-build.is c.in-Ok.ensures.built);
     }
+
+pub returns-in-Err : goal.returns-in-Err
+returns-in-Err c bytes denotes judged = c.unstarted.ensures bytes c.args.verified denotes judged c.in-Err.ensures.refused.1

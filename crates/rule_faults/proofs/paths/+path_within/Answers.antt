@@ -1,7 +1,7 @@
 use Rattle.std.proofs.Common.{◌≡◌, ◌∙◌, suc, ◌-◌, ◌++◌, [], List, ℕ, codes, ap, subst, IfOk, string_bytes, arith}
 use Rattle.definition_format.specs.Meaning.{place_number}
 use Rattle.law_typing.specs.Verdict.FaultText.{before_in_list, entry_of, path_within}
-use Rattle.rule_faults.specs.Places.{entry_view}
+use Rattle.definitions.specs.EntryView.{entry_view}
 use Rattle.rule_faults.proofs.PathSteps.{nowhere, of_next, of_prototype, of_root}
 use Rattle.rule_faults.proofs.paths.+path_within.Goals as goal
 

@@ -1,6 +1,6 @@
 use Rattle.std.proofs.Common.{◌∙◌, sym, ap, arith}
 use Rattle.law_typing.specs.Verdict.FaultText.{is_beside}
-use Rattle.rule_faults.specs.Places.{entry_view}
+use Rattle.definitions.specs.EntryView.{entry_view}
 use Rattle.rule_faults.proofs.Counts.{next_count, one_if}
 use Rattle.rule_faults.proofs.paths.before_in_list.Goals as goal
 use Rattle.rule_faults.proofs.paths.before_in_list.Goals.{then-is_beside, else-is_beside}

@@ -1,6 +1,6 @@
 use Rattle.std.proofs.Common.{◌≡◌, ◌≤◌}
 use Rattle.law_typing.specs.Verdict.FaultText.{before_in_list}
-use Rattle.rule_faults.specs.Places.{entry_view}
+use Rattle.definitions.specs.EntryView.{entry_view}
 use Rattle.rule_faults.proofs.paths.before_in_list.Given as goal
 
 abbrev pub invariant-loop-number : goal.invariant-loop-number

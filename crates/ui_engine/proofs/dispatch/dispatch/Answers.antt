@@ -9,8 +9,9 @@ use Rattle.engine_world.specs.EngineView.{config_of}
 use Rattle.engine_world.specs.Counting.{nothing}
 use Rattle.engine_world.proofs.Counts.{keeps_said}
 use Rattle.ui_machine.proofs.Prefixes.{prefix_by, prefix_on}
+use Rattle.ui_engine.specs.Stepping.{NoneOpen}
 use Rattle.ui_engine.proofs.Reaching.{reaches_here}
-use Rattle.ui_engine.proofs.Standing.{breaks_there, ends_there, halts_from, safe_there}
+use Rattle.ui_engine.proofs.Standing.{breaks_there, closed_after, ends_there, halts_from, safe_there}
 use Rattle.engine_instructions.proofs.Whole.{engine_whole}
 use Rattle.ui_engine.proofs.dispatch.dispatch.Goals as goal
 
@@ -75,6 +76,9 @@ returns-clause-rests c =
     record {
       counts = (keeps_said d c.run.new.engine c.say.new.self c.say.ensures.beside).at nothing c.in_ok-run.ensures.counted;
       idle = ap (λ (h : Connected). tasks_of d h.handlers c.run.new.engine.stack) c.say.ensures.handlers ∙ ran.1.agenda;
+      closed =
+          subst (λ (w : World). NoneOpen w) (sym c.in_ok-say.ensures.ok)
+          (closed_after d (engine_whole d c.begin_dispatch.new.engine) ran.0 (subst (λ (x : Config). NoneOpen x.world) (sym c.in_ok-begin_dispatch.ensures.ok) c.requires.rests.closed));
     }
 
 pub returns-clause-grows : goal.returns-clause-grows
@@ -91,4 +95,4 @@ returns-clause-few c =
 pub run-requires-clause-safe : goal.run-requires-clause-safe
 run-requires-clause-safe c =
     let d = c.args.definition.now in
-    safe_there d c.in_ok-begin_dispatch.ensures.ok (engine_whole d c.begin_dispatch.new.engine) c.requires.safe
+    safe_there d c.in_ok-begin_dispatch.ensures.ok (engine_whole d c.begin_dispatch.new.engine) c.requires.safe c.requires.rests.closed

@@ -1,5 +1,8 @@
-use Rattle.std.proofs.Common.{ap, subst, suc, sym, ◌∙◌}
+use Rattle.std.proofs.Common.{Option, Result, Ok, Err, ap, subst, suc, sym, ◌∙◌}
+use Rattle.std.specs.Prelude.{OnOk}
+use Rattle.ui_machine.specs.declared.arm.Halt.{Halt}
 use Rattle.ui_machine.specs.Definition.Lookups.{program_at}
+use Rattle.ui_machine.specs.Definition.Programs.{Program}
 use Rattle.ui_machine.specs.Instructions.{instruction_step, running}
 use Rattle.ui_machine.specs.Outcome.{Answer}
 use Rattle.ui_machine.specs.Seq.{total}
@@ -15,6 +18,8 @@ use Rattle.engine_world.specs.TaskView.{agenda_of}
 use Rattle.engine_world.specs.View.{world_of}
 use Rattle.engine_world.specs.declared.engine.Engine.{Engine}
 use Rattle.engine_world.proofs.Counts.{keeps_same, taken_alike}
+use Rattle.engine_instructions.specs.ClosedPeers.{LeavesClosed}
+use Rattle.ui_engine.specs.TaskClosings.{ProgramLeaves, TakenLeaves}
 use Rattle.engine_instructions.proofs.KnownCode.{taken_known}
 use Rattle.engine_instructions.proofs.Programs.{left_counted, no_instruction, taken_keeps, takes_instruction, unknown_program}
 use Rattle.ui_engine.proofs.program_steps.run_program.Goals as goal
@@ -63,3 +68,19 @@ returns-clause-step c =
     ∙ ap (left (suc e.counted)) (takes_instruction d (world_of e.world) (agenda_of d e) f (program_view c.in-Some.program.now) (sym c.in-Some.ensures.program) t c.in-Some-take.ensures)
     ∙ ap (λ (g : Engine). left g.counted (instruction_step d (world_of g.world) (agenda_of d g) t.frame t.instruction)) (sym is) in
     subst (λ (a : Answer Config). GoesWithoutGone c.execute.result a (config_of d c.execute.new.engine)) (sym whole) c.execute.ensures.step
+
+on_ok : (r : Result (Unit {0}) Halt) (P Q : Type 0) → (P → Q) → OnOk r P → OnOk r Q
+on_ok (Ok x) P Q on h = on h
+on_ok (Err e) P Q on h = h
+
+pub returns-clause-closing : goal.returns-clause-closing
+returns-clause-closing c =
+    let d = c.args.definition.now in
+    let e = c.args.engine.now in
+    let f = frame_view c.args.frame in
+    let new = c.execute.new.engine.closing in
+    let t : Taken = record { instruction = instruction_view c.in-Some-take.instruction.now; frame = frame_view c.take.new.self } in
+    on_ok c.execute.result _ _ (λ left.
+    subst (λ (o : Option Program). ProgramLeaves (world_of e.world) f o e.closing new) c.in-Some.ensures.program
+    (subst (λ (o : Option Taken). TakenLeaves (world_of e.world) o e.closing new) (sym c.in-Some-take.ensures)
+    (subst (λ (g : Engine). LeavesClosed t.instruction (world_of g.world) t.frame g.closing new) c.in_ok-count.ensures.ok.1 left))) c.execute.ensures.closing

@@ -4,7 +4,6 @@ use Rattle.ui_machine.specs.Definition.{Definition}
 use Rattle.ui_machine.specs.Runs.{Dispatches, Halts, beginning, of_build}
 use Rattle.ui_machine.specs.State.Config.{Config}
 use Rattle.ui_machine.specs.State.Tasks.{Building}
-use Rattle.definition_format.specs.Meaning.{IsBasic}
 use Rattle.definition_format.specs.Origin.{IsDenoted}
 use Rattle.engine_world.specs.View.{world_of}
 use Rattle.engine_world.specs.TaskView.{build_from}
@@ -23,8 +22,7 @@ dispatch-requires-clause-safe c =
     let w = world_of c.args.engine.world in
     let fs = c.args.forwards in
     let from = subst (λ (e : Definition). IsDenoted e) same c.types-types.ensures.denoted in
-    let basic = subst (λ (e : Definition). IsBasic e) same c.types-types.ensures.basic in
-    let safe = subst (λ (x : Config). IsSafe d x) (sym (begins_at d w fs c.requires.world c.requires.forwards)) (build_safe d from basic c.definition-definition.ensures.accepted) in
+    let safe = subst (λ (x : Config). IsSafe d x) (sym (begins_at d w fs c.requires.world c.requires.forwards)) (build_safe d from c.requires.matches c.definition-definition.ensures.accepted) in
     subst (λ (e : Definition). IsSafe e (beginning w (Building (build_from e 0 fs)))) (sym same) safe
 
 pub invariant_of-result : goal.invariant_of-result
@@ -35,11 +33,10 @@ invariant_of-result c _ =
     let fs = c.args.forwards in
     let new = world_of c.dispatch.new.engine.world in
     let from = subst (λ (e : Definition). IsDenoted e) same c.types-types.ensures.denoted in
-    let basic = subst (λ (e : Definition). IsBasic e) same c.types-types.ensures.basic in
     let carried = subst (λ (e : Definition). Carried (Ok c.in-Ok.reply) e (beginning w (Building (build_from e 0 fs))) new) same c.in-Ok.ensures.carried in
     let done = subst (λ (x : Config). Dispatches d [] x c.in-Ok.reply.steps new) (begins_at d w fs c.requires.world c.requires.forwards) carried.0 in (
       subst (λ (e : Definition). IsAtRest e c.dispatch.new.engine) same c.in-Ok.ensures.rests,
-      build_rests d from basic c.in-Ok.reply.steps new done,
+      build_rests d from c.requires.matches c.in-Ok.reply.steps new done,
     )
 
 pub returns-in-Ok : goal.returns-in-Ok

@@ -1,24 +1,26 @@
-use Rattle.std.proofs.Common.{[], ap, subst, sym, ◌∙◌}
-use Rattle.ui_machine.specs.State.Config.{said}
+use Rattle.std.proofs.Common.{[], ap, refl, subst, sym, ◌∙◌}
+use Rattle.ui_machine.specs.State.Config.{World, said}
 use Rattle.ui_machine.specs.Output.Lines as lines
+use Rattle.ui_machine.specs.Runs.{first_world}
 use Rattle.signal_core.specs.Connected.{Connected}
 use Rattle.engine_world.specs.declared.engine.Engine.{Engine}
 use Rattle.engine_world.specs.Counting.{Connects}
 use Rattle.engine_world.specs.KnownHandlers.{AllTakeKnownHandlers}
 use Rattle.engine_world.specs.TaskView.{agenda_of}
 use Rattle.engine_world.proofs.Counts.{none_counted}
+use Rattle.ui_engine.specs.Stepping.{NoneOpen}
 use Rattle.ui_engine.proofs.session.first_engine.Goals as goal
 
 pub returns-clause-world : goal.returns-clause-world
 returns-clause-world c =
     let d = c.args.definition.now in
-    c.in_ok-announce.ensures.line ∙ ap (λ w. said d w lines.build) (c.new-engine.ensures.world d)
+    c.in_ok-announce.ensures.line ∙ ap (λ w. said d w lines.build) (c.new-engine.ensures.world d ∙ ap (first_world d) c.new.ensures)
 
 pub returns-clause-rests : goal.returns-clause-rests
 returns-clause-rests c =
     let d = c.args.definition.now in
     let beside = c.announce.ensures.beside in
-    let world = c.in_ok-announce.ensures.line ∙ ap (λ w. said d w lines.build) (c.new-engine.ensures.world d) in
+    let world = c.in_ok-announce.ensures.line ∙ ap (λ w. said d w lines.build) (c.new-engine.ensures.world d ∙ ap (first_world d) c.new.ensures) in
     let idle = ap (λ (e : Engine). agenda_of d e) beside ∙ c.new-engine.ensures.idle d in
     let marks = ap (λ (e : Engine). e.world.weak) beside ∙ c.new-engine.ensures.marks in
     let same = ap (λ (e : Engine). e.world.handlers) beside ∙ c.new-engine.ensures.handlers in
@@ -33,4 +35,5 @@ returns-clause-rests c =
     record {
       counts = none_counted d c.announce.new.engine c.in_ok-weak.weak c.in_ok-weak.ensures connects marks counts world idle;
       idle = idle;
+      closed = subst (λ (w : World). NoneOpen w) (sym world) (λ number. refl);
     }

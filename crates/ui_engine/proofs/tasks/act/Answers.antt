@@ -92,3 +92,6 @@ returns-in-Binding-clause-counted c =
 
 pub returns-in-Binding-clause-step : goal.returns-in-Binding-clause-step
 returns-in-Binding-clause-step c = rw c.in-Binding.is (goes_whole c.args.definition.now c.bind_from_build.new.engine (Ok (tt {0})) _ c.in_ok-bind_from_build-in-Binding.ensures.step)
+
+pub returns-in-Calling-clause-step : goal.returns-in-Calling-clause-step
+returns-in-Calling-clause-step c = rw c.in-Calling.is (goes_whole c.args.definition.now c.pass_over.new.engine (Ok (tt {0})) _ c.in_ok-pass_over-in-Calling.ensures.step)

@@ -6,7 +6,7 @@ use Rattle.definitions.proofs.definition.Definition.signal_count.Goals as goal
 pub returns-then-index-len : goal.returns-then-index-len
 returns-then-index-len c = record {
   count =
-      unknown_count (parts c.self.inside.types c.self.inside.specs c.self.inside.signals c.self.inside.constructed.items c.self.inside.programs.entries c.self.inside.prototypes.entries c.self.inside.objects.entries c.self.inside.bindings.items c.self.inside.limits)
+      unknown_count (parts c.self.inside.types c.self.inside.specs c.self.inside.signals c.self.inside.constructed.items c.self.inside.shapes.entries c.self.inside.shaped.items c.self.inside.programs.entries c.self.inside.prototypes.entries c.self.inside.objects.entries c.self.inside.bindings.items c.self.inside.limits)
       c.args.self.now c.self.view_is c.args.class (omega (arith, c.len.ensures, c.index.ensures));
   few = omega arith;
 }
@@ -15,7 +15,7 @@ pub returns : goal.returns
 returns c = record {
   count =
       c.signal_count.ensures.count
-      ∙ known_count (parts c.self.inside.types c.self.inside.specs c.self.inside.signals c.self.inside.constructed.items c.self.inside.programs.entries c.self.inside.prototypes.entries c.self.inside.objects.entries c.self.inside.bindings.items c.self.inside.limits)
+      ∙ known_count (parts c.self.inside.types c.self.inside.specs c.self.inside.signals c.self.inside.constructed.items c.self.inside.shapes.entries c.self.inside.shaped.items c.self.inside.programs.entries c.self.inside.prototypes.entries c.self.inside.objects.entries c.self.inside.bindings.items c.self.inside.limits)
       c.args.self.now c.self.view_is c.args.class (omega (arith, c.len.ensures, c.index.ensures));
   few = c.signal_count.ensures.few;
 }

@@ -9,10 +9,10 @@ use Rattle.definitions.proofs.definition.Definition.slot.Goals as goal
 
 pub returns-then-index-len : goal.returns-then-index-len
 returns-then-index-len c =
-    ap (λ (specs : List Spec). slot_named specs c.args.name.now) (sym (unknown_specs (parts c.self.inside.types c.self.inside.specs c.self.inside.signals c.self.inside.constructed.items c.self.inside.programs.entries c.self.inside.prototypes.entries c.self.inside.objects.entries c.self.inside.bindings.items c.self.inside.limits) c.args.class (omega (arith, c.len.ensures, c.index.ensures))))
+    ap (λ (specs : List Spec). slot_named specs c.args.name.now) (sym (unknown_specs (parts c.self.inside.types c.self.inside.specs c.self.inside.signals c.self.inside.constructed.items c.self.inside.shapes.entries c.self.inside.shaped.items c.self.inside.programs.entries c.self.inside.prototypes.entries c.self.inside.objects.entries c.self.inside.bindings.items c.self.inside.limits) c.args.class (omega (arith, c.len.ensures, c.index.ensures))))
     ∙ ap (λ (d : machine.Definition). slot_of d c.args.class c.args.name.now) c.self.view_is
 
 pub returns : goal.returns
 returns c =
-    c.find.ensures ∙ ap (λ (specs : List Spec). slot_named specs c.args.name.now) (sym (known_specs (parts c.self.inside.types c.self.inside.specs c.self.inside.signals c.self.inside.constructed.items c.self.inside.programs.entries c.self.inside.prototypes.entries c.self.inside.objects.entries c.self.inside.bindings.items c.self.inside.limits) c.args.class (omega (arith, c.len.ensures, c.index.ensures))))
+    c.find.ensures ∙ ap (λ (specs : List Spec). slot_named specs c.args.name.now) (sym (known_specs (parts c.self.inside.types c.self.inside.specs c.self.inside.signals c.self.inside.constructed.items c.self.inside.shapes.entries c.self.inside.shaped.items c.self.inside.programs.entries c.self.inside.prototypes.entries c.self.inside.objects.entries c.self.inside.bindings.items c.self.inside.limits) c.args.class (omega (arith, c.len.ensures, c.index.ensures))))
     ∙ ap (λ (d : machine.Definition). slot_of d c.args.class c.args.name.now) c.self.view_is

@@ -5,7 +5,7 @@ use Rattle.std.proofs.lemmas.Result.{err_from_is_err_and}
 use Rattle.serde_json.specs.View.{view}
 use Rattle.bytecode.specs.View.{instruction_view}
 use Rattle.bytecode.specs.declared.instructions.Instruction.{Instruction}
-use Rattle.bytecode.specs.Known.{IsKnownInstruction}
+use Rattle.bytecode.specs.Known.{HasKnownKinds}
 use Rattle.bytecode.specs.Reading.Each.{each}
 use Rattle.handler_code.specs.Reading.ReaderViews.{scope_view}
 use Rattle.bytecode.specs.Reading.Programs.{code_in, instruction_behind, with_next_instruction}
@@ -34,8 +34,8 @@ items-preserved c =
           (adds step view c.args.items.now c.items.at code (each step 0 [] (map view c.args.items.now))
           v (instruction_view c.in_ok-instruction.instruction) (instruction_behind (scope_view c.args.scope.now) c.args.block c.items.at code (view v))
           (λ instruction. code ++ instruction ∷ []) c.items-test.true c.index-items-at.is refl (rw c.as_slice.ensures.value at c.in_ok-instruction.ensures.read) c.items.invariant.read);
-      known = subst (λ (is : List Instruction). All (λ i. IsKnownInstruction c.args.scope.now.types.now i) is) (sym c.in_ok-push.ensures.items)
-          (All-push (λ i. IsKnownInstruction c.args.scope.now.types.now i) c.items.code.items c.in_ok-instruction.instruction c.items.invariant.known c.in_ok-instruction.ensures.known);
+      known = subst (λ (is : List Instruction). All (λ i. HasKnownKinds c.args.scope.now.types.now i) is) (sym c.in_ok-push.ensures.items)
+          (All-push (λ i. HasKnownKinds c.args.scope.now.types.now i) c.items.code.items c.in_ok-instruction.instruction c.items.invariant.known c.in_ok-instruction.ensures.known);
     }
 
 pub returns-clause-read : goal.returns-clause-read

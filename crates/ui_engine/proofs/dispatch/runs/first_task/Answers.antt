@@ -8,7 +8,7 @@ use Rattle.engine_world.specs.TaskView.{task_in}
 use Rattle.engine_world.specs.EngineView.{config_of}
 use Rattle.engine_world.proofs.Counts.{config_same, taken_off, given_back, same_tasks}
 use Rattle.engine_world.specs.View.{world_of}
-use Rattle.ui_engine.proofs.Standing.{cut_off}
+use Rattle.ui_engine.proofs.Standing.{cut_off, none_open}
 use Rattle.ui_engine.proofs.Stepping.{first_can, first_stepped, first_grows}
 use Rattle.ui_engine.proofs.dispatch.runs.first_task.Goals as goal
 
@@ -43,7 +43,7 @@ pub unreachable-requires : goal.unreachable-requires
 unreachable-requires c =
     let d = c.args.definition.now in
     let stuck = rw c.in-Err-Stuck.field-0-is at c.in-Err-Stuck.ensures.step in
-    first_can d c.args.engine.now.world.handlers.handlers (config_of d c.args.engine.now) (config_of d c.act.new.engine) c.requires.none c.in-Some.task c.pop.new.self (c.in-Some.ensures.tasks d c.args.engine.now.world.handlers.handlers)
+    first_can d c.args.engine.now.world.handlers.handlers (config_of d c.args.engine.now) (config_of d c.act.new.engine) c.requires.none c.in-Some.task c.pop.new.self (c.in-Some.ensures.tasks d c.args.engine.now.world.handlers.handlers) (none_open d c.requires.safe)
     c.requires.safe c.in-Err-Stuck.field-0-0 stuck
 
 pub act-requires : goal.act-requires
@@ -73,11 +73,11 @@ pub returns-clause-stepped : goal.returns-clause-stepped
 returns-clause-stepped c =
     let d = c.args.definition.now in
     subst (λ (e : Config). Stepped (Ok c.in-Ok.made) d (config_of d c.args.engine.now) e) (sym (config_same d c.act.new.engine c.let_go_any.new.table c.let_go_any.ensures.only))
-    (first_stepped d c.args.engine.now.world.handlers.handlers (config_of d c.args.engine.now) (config_of d c.act.new.engine) c.requires.none c.in-Some.task c.pop.new.self (c.in-Some.ensures.tasks d c.args.engine.now.world.handlers.handlers)
+    (first_stepped d c.args.engine.now.world.handlers.handlers (config_of d c.args.engine.now) (config_of d c.act.new.engine) c.requires.none c.in-Some.task c.pop.new.self (c.in-Some.ensures.tasks d c.args.engine.now.world.handlers.handlers) (none_open d c.requires.safe)
     c.in-Ok.made c.in-Ok.ensures.step c.in-Ok.ensures.made)
 
 pub returns-clause-grows : goal.returns-clause-grows
 returns-clause-grows c =
     let d = c.args.definition.now in
-    first_grows d c.args.engine.now.world.handlers.handlers (config_of d c.args.engine.now) (config_of d c.act.new.engine) c.requires.none c.in-Some.task c.pop.new.self (c.in-Some.ensures.tasks d c.args.engine.now.world.handlers.handlers)
+    first_grows d c.args.engine.now.world.handlers.handlers (config_of d c.args.engine.now) (config_of d c.act.new.engine) c.requires.none c.in-Some.task c.pop.new.self (c.in-Some.ensures.tasks d c.args.engine.now.world.handlers.handlers) (none_open d c.requires.safe)
     c.in-Ok.made c.in-Ok.ensures.step

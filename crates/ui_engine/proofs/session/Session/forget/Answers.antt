@@ -18,6 +18,7 @@ invariant_of-self c goes_on =
           exact = kept.0.counts.exact;
         };
         idle = kept.0.idle;
+        closed = kept.0.closed;
       },
       subst (λ (lines : List _). Rests c.self.inside.verified (record w { transcript = lines })) (sym (ap (map string_bytes) c.clear.ensures.items)) (forgotten_rests c.self.inside.verified w kept.1),
     )

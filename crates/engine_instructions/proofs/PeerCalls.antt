@@ -1,0 +1,191 @@
+-- What the instruction `call` finds, and what it leads to.
+use Rattle.std.proofs.Common.{◌≡◌, ◌∙◌, refl, sym, ap, subst, ℕ, Bool, true, false, length, nat_lt, List, [], ◌∷◌, Option, None, Some, IsSome, Ok, Err, slice_get, option_and_then}
+use Rattle.ui_machine.specs.declared.arm.Arm.TheVariants as arms
+use Rattle.ui_machine.specs.declared.arm.Halt.{Halt}
+use Rattle.ui_machine.specs.Definition.{Definition}
+use Rattle.ui_machine.specs.Definition.Signals.{Method}
+use Rattle.ui_machine.specs.Definition.Values.{Value}
+use Rattle.ui_machine.specs.Instructions.{in_front}
+use Rattle.ui_machine.specs.Instructions.Peers.{calling}
+use Rattle.ui_machine.specs.Instructions.Registers.{goes_on, operand_in, values_in}
+use Rattle.ui_machine.specs.Outcome.{Answer, Stops, known, only_if, ◌>>=◌}
+use Rattle.ui_machine.specs.Rules.Disposal.{peer_of}
+use Rattle.ui_machine.specs.Rules.Programs.{all_fit}
+use Rattle.ui_machine.specs.Rules.Transform.{kind_fits}
+use Rattle.ui_machine.specs.State.Config.{Started, World, peer_at}
+use Rattle.ui_machine.specs.State.Objects.{Object, class_in, living, object_at}
+use Rattle.ui_machine.specs.State.Peers.{Peer, method_number, method_of}
+use Rattle.ui_machine.specs.State.Tasks.{Call, Calling, Frame, Task}
+use Rattle.ui_machine.specs.Steps.{left}
+use Rattle.engine_instructions.specs.CallingView.{Called, called_in, due_call}
+use Rattle.engine_world.proofs.Emits.{stops_on}
+use Rattle.engine_world.proofs.Registers.{stops_left}
+
+-- ** the method
+
+module _ (w : World) (id : ℕ) (name : List ℕ) (live : IsSome (living w.objects id)) where
+  abbrev with_number : ℕ → Peer → ℕ → Answer Called
+  with_number peer p number = known arms.Call (method_of p number) >>= λ (m : Method). Ok (record { peer = peer; number = number; method = m })
+
+  abbrev with_peer : ℕ → Peer → Answer Called
+  with_peer peer p = known arms.Call (method_number p name) >>= with_number peer p
+
+  abbrev with_place : ℕ → Answer Called
+  with_place peer = known arms.Call (peer_at w peer) >>= with_peer peer
+
+  by_object : (o : Option ℕ) → o ≡ peer_of (living w.objects id) → (known arms.Call o >>= with_place) ≡ called_in w id name
+  by_object o is = ap (λ (p : Option ℕ). known arms.Call p >>= with_place) is ∙ by (living w.objects id) live
+    where
+      by : (x : Option Object) → IsSome x → (known arms.Call (peer_of x) >>= with_place) ≡ (known arms.Operand x >>= λ (x : Object). known arms.Call x.peer >>= with_place)
+      by None none = cc none
+      by (Some x) some = refl
+
+  pub no_peer : None ≡ peer_of (living w.objects id) → Err arms.Call ≡ called_in w id name
+  no_peer none = by_object None none
+
+  module _ (peer : ℕ) (of : Some peer ≡ peer_of (living w.objects id)) where
+    by_place : (o : Option Peer) → o ≡ slice_get w.peers peer → (known arms.Call o >>= with_peer peer) ≡ called_in w id name
+    by_place o at = ap (λ (p : Option Peer). known arms.Call p >>= with_peer peer) at ∙ by_object (Some peer) of
+
+    pub no_place : None ≡ slice_get w.peers peer → Err arms.Call ≡ called_in w id name
+    no_place none = by_place None none
+
+    module _ (p : Peer) (at : Some p ≡ slice_get w.peers peer) where
+      by_name : (o : Option ℕ) → o ≡ method_number p name → (known arms.Call o >>= with_number peer p) ≡ called_in w id name
+      by_name o is = ap (λ (n : Option ℕ). known arms.Call n >>= with_number peer p) is ∙ by_place (Some p) at
+
+      pub no_method : None ≡ method_number p name → Err arms.Call ≡ called_in w id name
+      no_method none = by_name None none
+
+      module _ (number : ℕ) (is : Some number ≡ method_number p name) where
+        by_method : (o : Option Method) → o ≡ option_and_then (λ (q : Peer). method_of q number) (slice_get w.peers peer)
+            → (known arms.Call o >>= λ (m : Method). Ok (record { peer = peer; number = number; method = m })) ≡ called_in w id name
+        by_method o found =
+            ap (λ (m : Option Method). known arms.Call m >>= λ (m : Method). Ok (record { peer = peer; number = number; method = m }))
+            (found ∙ ap (option_and_then (λ (q : Peer). method_of q number)) (sym at))
+            ∙ by_name (Some number) is
+
+        pub not_numbered : None ≡ option_and_then (λ (q : Peer). method_of q number) (slice_get w.peers peer) → Err arms.Call ≡ called_in w id name
+        not_numbered none = by_method None none
+
+        pub found : (m : Method) → Some m ≡ option_and_then (λ (q : Peer). method_of q number) (slice_get w.peers peer)
+            → Ok (record { peer = peer; number = number; method = m }) ≡ called_in w id name
+        found m some = by_method (Some m) some
+
+-- ** the call
+
+module _ (d : Definition) (w : World) (f : Frame) (to object : ℕ) (name args : List ℕ) where
+  abbrev call_so : ℕ → Called → List Value → Call
+  call_so id c given = record { object = id; peer = c.peer; method = c.number; args = given; to = to }
+
+  abbrev fits : Called → List Value → Bool
+  fits c given = all_fit (kind_fits (class_in w.objects) d.types) given c.method.params
+
+  abbrev with_values : ℕ → Called → List Value → Answer Call
+  with_values id c given = only_if (fits c given) arms.Call (only_if (nat_lt to (length f.registers)) arms.Code (Ok (call_so id c given)))
+
+  abbrev with_called : ℕ → Called → Answer Call
+  with_called id c = values_in f args >>= with_values id c
+
+  abbrev with_id : ℕ → Answer Call
+  with_id id = called_in w id name >>= with_called id
+
+  -- what stops on the way
+  pub operand_stops : (halt : Halt) → Stops halt (operand_in w f object) → Stops halt (due_call d w f to object name args)
+  operand_stops halt s = stops_on halt (operand_in w f object) with_id s
+
+  module _ (id : ℕ) (is : operand_in w f object ≡ Ok id) where
+    due_by : (a : Answer Called) → called_in w id name ≡ a → due_call d w f to object name args ≡ (a >>= with_called id)
+    due_by a so = ap (λ (x : Answer ℕ). x >>= with_id) is ∙ ap (λ (x : Answer Called). x >>= with_called id) so
+
+    pub not_called : Err arms.Call ≡ called_in w id name → due_call d w f to object name args ≡ Err arms.Call
+    not_called none = due_by (Err arms.Call) (sym none)
+
+    module _ (c : Called) (so : Ok c ≡ called_in w id name) where
+      pub values_stop : (halt : Halt) → Stops halt (values_in f args) → Stops halt (due_call d w f to object name args)
+      values_stop halt s = subst (λ (a : Answer Call). Stops halt a) (sym (due_by (Ok c) (sym so))) (stops_on halt (values_in f args) (with_values id c) s)
+
+      module _ (given : List Value) (has : values_in f args ≡ Ok given) where
+        due_if : (a b : Bool) → fits c given ≡ a → nat_lt to (length f.registers) ≡ b → due_call d w f to object name args ≡ only_if a arms.Call (only_if b arms.Code (Ok (call_so id c given)))
+        due_if a b fit room =
+            due_by (Ok c) (sym so) ∙ ap (λ (x : Answer (List Value)). x >>= with_values id c) has
+            ∙ ap (λ x. only_if x arms.Call (only_if (nat_lt to (length f.registers)) arms.Code (Ok (call_so id c given)))) fit
+            ∙ ap (λ x. only_if a arms.Call (only_if x arms.Code (Ok (call_so id c given)))) room
+
+        pub misfits : fits c given ≡ false → due_call d w f to object name args ≡ Err arms.Call
+        misfits not_so = due_if false (nat_lt to (length f.registers)) not_so refl
+
+        pub no_register : fits c given ≡ true → nat_lt to (length f.registers) ≡ false → due_call d w f to object name args ≡ Err arms.Code
+        no_register fit none = due_if true false fit none
+
+        pub is_due : fits c given ≡ true → nat_lt to (length f.registers) ≡ true → due_call d w f to object name args ≡ Ok (call_so id c given)
+        is_due fit room = due_if true true fit room
+
+  -- ** the instruction
+
+  abbrev goes : Call → Answer Started
+  goes call = goes_on w (Calling call ∷ []) f
+
+  by_due : calling d w f to object name args ≡ (due_call d w f to object name args >>= goes)
+  unfolding calling
+  by_due = of_operand (operand_in w f object)
+    where
+      of_room : (c : Called) (id : ℕ) (given : List Value) (a b : Bool)
+          → only_if a arms.Call (only_if b arms.Code (goes (call_so id c given))) ≡ (only_if a arms.Call (only_if b arms.Code (Ok (call_so id c given))) >>= goes)
+      of_room c id given false b = refl
+      of_room c id given true false = refl
+      of_room c id given true true = refl
+
+      of_values : (c : Called) (id : ℕ) (v : Answer (List Value))
+          → (v >>= λ given. only_if (fits c given) arms.Call (only_if (nat_lt to (length f.registers)) arms.Code (goes (call_so id c given)))) ≡ ((v >>= with_values id c) >>= goes)
+      of_values c id (Err arm) = refl
+      of_values c id (Ok given) = of_room c id given (fits c given) (nat_lt to (length f.registers))
+
+      of_method : (id peer number : ℕ) (o : Option Method)
+          → (known arms.Call o >>= λ m. values_in f args >>= λ given. only_if (fits (record { peer = peer; number = number; method = m }) given) arms.Call (only_if (nat_lt to (length f.registers)) arms.Code (goes (call_so id (record { peer = peer; number = number; method = m }) given))))
+          ≡ (((known arms.Call o >>= λ (m : Method). Ok (record { peer = peer; number = number; method = m })) >>= with_called id) >>= goes)
+      of_method id peer number None = refl
+      of_method id peer number (Some m) = of_values (record { peer = peer; number = number; method = m }) id (values_in f args)
+
+      of_name : (id peer : ℕ) (p : Peer) (o : Option ℕ)
+          → (known arms.Call o >>= λ number. known arms.Call (method_of p number) >>= λ m. values_in f args >>= λ given.
+          only_if (fits (record { peer = peer; number = number; method = m }) given) arms.Call (only_if (nat_lt to (length f.registers)) arms.Code (goes (call_so id (record { peer = peer; number = number; method = m }) given))))
+          ≡ (((known arms.Call o >>= λ number. known arms.Call (method_of p number) >>= λ (m : Method). Ok (record { peer = peer; number = number; method = m })) >>= with_called id) >>= goes)
+      of_name id peer p None = refl
+      of_name id peer p (Some number) = of_method id peer number (method_of p number)
+
+      of_place : (id peer : ℕ) (o : Option Peer)
+          → (known arms.Call o >>= λ p. known arms.Call (method_number p name) >>= λ number. known arms.Call (method_of p number) >>= λ m. values_in f args >>= λ given.
+          only_if (fits (record { peer = peer; number = number; method = m }) given) arms.Call (only_if (nat_lt to (length f.registers)) arms.Code (goes (call_so id (record { peer = peer; number = number; method = m }) given))))
+          ≡ (((known arms.Call o >>= λ p. known arms.Call (method_number p name) >>= λ number. known arms.Call (method_of p number) >>= λ (m : Method). Ok (record { peer = peer; number = number; method = m })) >>= with_called id) >>= goes)
+      of_place id peer None = refl
+      of_place id peer (Some p) = of_name id peer p (method_number p name)
+
+      of_peer : (id : ℕ) (o : Option ℕ)
+          → (known arms.Call o >>= λ peer. known arms.Call (peer_at w peer) >>= λ p. known arms.Call (method_number p name) >>= λ number. known arms.Call (method_of p number) >>= λ m. values_in f args >>= λ given.
+          only_if (fits (record { peer = peer; number = number; method = m }) given) arms.Call (only_if (nat_lt to (length f.registers)) arms.Code (goes (call_so id (record { peer = peer; number = number; method = m }) given))))
+          ≡ (((known arms.Call o >>= λ peer. known arms.Call (peer_at w peer) >>= λ p. known arms.Call (method_number p name) >>= λ number. known arms.Call (method_of p number) >>= λ (m : Method). Ok (record { peer = peer; number = number; method = m })) >>= with_called id) >>= goes)
+      of_peer id None = refl
+      of_peer id (Some peer) = of_place id peer (peer_at w peer)
+
+      of_object : (id : ℕ) (a : Answer Object)
+          → (a >>= λ (o : Object). known arms.Call o.peer >>= λ peer. known arms.Call (peer_at w peer) >>= λ p. known arms.Call (method_number p name) >>= λ number. known arms.Call (method_of p number) >>= λ m. values_in f args >>= λ given.
+          only_if (fits (record { peer = peer; number = number; method = m }) given) arms.Call (only_if (nat_lt to (length f.registers)) arms.Code (goes (call_so id (record { peer = peer; number = number; method = m }) given))))
+          ≡ (((a >>= λ (o : Object). known arms.Call o.peer >>= λ peer. known arms.Call (peer_at w peer) >>= λ p. known arms.Call (method_number p name) >>= λ number. known arms.Call (method_of p number) >>= λ (m : Method). Ok (record { peer = peer; number = number; method = m })) >>= with_called id) >>= goes)
+      of_object id (Err arm) = refl
+      of_object id (Ok o) = of_peer id o.peer
+
+      of_operand : (a : Answer ℕ)
+          → (a >>= λ id. object_at w.objects id >>= λ (o : Object). known arms.Call o.peer >>= λ peer. known arms.Call (peer_at w peer) >>= λ p. known arms.Call (method_number p name) >>= λ number. known arms.Call (method_of p number) >>= λ m. values_in f args >>= λ given.
+          only_if (fits (record { peer = peer; number = number; method = m }) given) arms.Call (only_if (nat_lt to (length f.registers)) arms.Code (goes (call_so id (record { peer = peer; number = number; method = m }) given))))
+          ≡ ((a >>= with_id) >>= goes)
+      of_operand (Err arm) = refl
+      of_operand (Ok id) = of_object id (object_at w.objects id)
+
+  pub call_stops : (n : ℕ) (rest : List Task) (halt : Halt) → Stops halt (due_call d w f to object name args) → Stops halt (left n (in_front rest (calling d w f to object name args)))
+  call_stops n rest halt s =
+      stops_left n rest (calling d w f to object name args) halt
+      (subst (λ (a : Answer Started). Stops halt a) (sym by_due) (stops_on halt (due_call d w f to object name args) goes s))
+
+  pub calls : (call : Call) → due_call d w f to object name args ≡ Ok call → calling d w f to object name args ≡ goes_on w (Calling call ∷ []) f
+  calls call is = by_due ∙ ap (λ (a : Answer Call). a >>= goes) is

@@ -1,0 +1,42 @@
+use Rattle.std.proofs.Common.{[], ◌∷◌, List, ap, map, string_bytes, ◌∙◌}
+use Rattle.std.proofs.lemmas.Result.{err_from_is_err_and}
+use Rattle.ui_machine.specs.State.Tasks.{Calling, Task}
+use Rattle.bytecode.specs.View.{number_of}
+use Rattle.frames.specs.FrameView.{frame_view}
+use Rattle.engine_world.specs.Counting.{nothing}
+use Rattle.engine_world.specs.TaskView.{agenda_of, call_of}
+use Rattle.engine_world.specs.View.{world_of}
+use Rattle.engine_instructions.proofs.PeerCalls.{call_stops, calls}
+use Rattle.engine_instructions.proofs.Pushed.{count_pushed, frame_held, world_pushed}
+use Rattle.engine_instructions.proofs.Starting.{started_left}
+use Rattle.engine_instructions.proofs.calls.call_from_program.Goals as goal
+
+pub returns-in_err-due-clause-step : goal.returns-in_err-due-clause-step
+returns-in_err-due-clause-step c =
+    let d = c.args.definition.now in
+    let e = c.args.engine.now in
+    let call = c.args.call.now in
+    let p = err_from_is_err_and c.from_residual.result c.from_residual.ensures.1 in
+    rw (p.1, p.2)
+    (call_stops d (world_of e.world) (frame_view c.args.frame) call.to.0 call.object.0 (string_bytes call.method) (map number_of call.args.items) e.counted (agenda_of d e) _ c.in_err-due.ensures)
+
+pub returns-clause-step : goal.returns-clause-step
+returns-clause-step c =
+    let d = c.args.definition.now in
+    let e = c.args.engine.now in
+    let w = world_of e.world in
+    let b = c.push_frame.new.engine in
+    let call = c.args.call.now in
+    let due = call_of c.in_ok-due.due in
+    let f = frame_view c.args.frame in
+    started_left e.counted (agenda_of d e) _ w (Calling due ∷ []) f _ _ _
+    (calls d w f call.to.0 call.object.0 (string_bytes call.method) (map number_of call.args.items) due c.in_ok-due.ensures)
+    (c.push_task.ensures.world ∙ world_pushed d e b f c.push_frame.ensures.beside)
+    (c.in_ok-push_task.ensures.agenda d ∙ ap (λ (ts : List Task). Calling due ∷ ts) (c.in_ok-push_frame.ensures.agenda d))
+    (c.push_task.ensures.same ∙ count_pushed d e b f c.push_frame.ensures.beside)
+
+pub returns-clause-counted : goal.returns-clause-counted
+returns-clause-counted c =
+    let d = c.args.definition.now in
+    (c.in_ok-push_task.ensures.counted d).at nothing
+    (frame_held d c.args.engine.now c.push_frame.new.engine (frame_view c.args.frame) (c.in_ok-push_frame.ensures.counted d) c.requires.counted)

@@ -1,0 +1,146 @@
+-- What keeps a session from ever being stuck: each dispatch begins where a law says so, and leaves the world at rest.
+use Rattle.std.proofs.Common.{◌≡◌, ℕ, List, [], ◌∷◌, Option, None, Some, false, subst, sym}
+use Rattle.ui_machine.specs.Definition.{Definition}
+use Rattle.ui_machine.specs.Rules.Events.{names_released, refusal}
+use Rattle.ui_machine.specs.Rules.MainLoop.{turned}
+use Rattle.ui_machine.specs.Runs.{Dispatches, Fits, RunsSources, Tally, beginning, of_build, of_request}
+use Rattle.ui_machine.specs.State.Config.{Config, World}
+use Rattle.ui_machine.specs.State.Peers.{Peer, Reply}
+use Rattle.ui_machine.specs.State.Sources.{Source, is_numbered, source_of}
+use Rattle.ui_machine.specs.State.Tasks.{Due, Event, Request}
+use Rattle.ui_machine.specs.State.Tasks as config
+use Rattle.law_typing.specs.Good.Bindings.{SourceGood}
+use Rattle.law_typing.specs.Good.Standing.{standing}
+use Rattle.law_typing.specs.Good.Requests.{RequestRead, entry_of}
+use Rattle.law_typing.specs.Graph.{graph}
+use Rattle.law_typing.specs.Graph.Channels.{Entry}
+use Rattle.law_typing.specs.Graph.Channels as entries
+use Rattle.law_typing.specs.Graph.Depths.{depth}
+use Rattle.law_typing.specs.Laws.StepsKeepGood.{IsGood, IsResting, PoolReady, bound_of}
+use Rattle.law_typing.specs.Laws.WellRead.{WellRead}
+use Rattle.law_typing.specs.Verdict.Accepted.{Accepted, Each}
+use Rattle.law_static.proofs.BuildCostProofs.{build_begins}
+use Rattle.law_static.proofs.RequestProofs.{requests_begin}
+use Rattle.law_static.proofs.SourceProofs.{sources_begin}
+use Rattle.law_typing.proofs.Lists.{each_in}
+use Rattle.law_typing.proofs.OneSolutionProofs.{find_in}
+use Rattle.law_tasks.proofs.StepsProofs.{steps_keep_good}
+use Rattle.law_sessions.specs.Dispatches.{Keeps}
+use Rattle.law_sessions.proofs.DispatchProofs.{both_fit}
+use Rattle.law_sessions.proofs.EntryProofs.{IsPrinted, build_printed, printed_few, request_printed, source_printed}
+use Rattle.law_sessions.proofs.KeepsProofs.{keeps}
+use Rattle.law_sessions.proofs.SessionProofs.{not_released, request_keeps, runs_source, source_keeps, turns}
+use Rattle.engine_pools.specs.Promises.{Begins, BuildKeeps, EventKeeps, Rests, by_request, by_source}
+use Rattle.engine_pools.specs.Safety.{IsSafe}
+use Rattle.engine_pools.proofs.Apt.{asks_on}
+
+module _ (d : Definition) where
+  -- the lines do not matter
+  pub without_lines_rests : (w : World) → Rests d w → Rests d (record w { transcript = [] })
+  without_lines_rests w rests a =
+      let r = rests a in
+      record {
+        objects = λ id o e. (let g = r.objects id o e in record {
+          place = g.place;
+          is = g.is;
+          class = g.class;
+          values = g.values;
+          children = g.children;
+          parent = g.parent;
+          queue = g.queue;
+          apart = g.apart;
+          peer = g.peer;
+        });
+        handlers = r.handlers;
+        bindings = r.bindings;
+        sources = r.sources;
+        peers = r.peers;
+        document = r.document;
+        held = r.held;
+        floating = r.floating;
+        thawed = r.thawed;
+        few = r.few;
+      }
+
+  -- a dispatch leaves the world at rest
+  rests_by : (c : Config) → ((a : Accepted d) → (e : Entry) × Keeps d a e c) → (replies : List Reply) → Each (Fits d) replies → (count : ℕ) (new : World)
+      → Dispatches d replies c count new → Rests d new
+  rests_by c keeps replies fit count new dispatches a = ((keeps a).1.ends replies fit count new dispatches).1
+
+  module _ (well : WellRead d) where
+    -- what begins well is safe
+    safe_by : (a : Accepted d) (e : Entry) (c : Config) → IsPrinted d a e → IsGood d a (bound_of d a e) c → IsSafe d c
+    safe_by a e c printed good =
+        let few = printed_few d a well e printed in
+        let kept = keeps steps_keep_good d well a e c few printed good in
+        record {
+          most = depth (graph d) a.weighed.depths;
+          safe = record { unstuck = kept.never_stuck; shallow = kept.shallow };
+          asks = asks_on d a (bound_of d a e) steps_keep_good well few c good;
+        }
+
+    -- ** the build
+
+    module _ (peers : List Peer) (ready : PoolReady d peers) where
+      pub build_promised : BuildKeeps d peers
+      build_promised a = keeps steps_keep_good d well a entries.build (of_build d peers) (printed_few d a well entries.build (build_printed d a)) (build_printed d a) (build_begins d well a peers ready)
+
+      pub build_safe : Accepted d → IsSafe d (of_build d peers)
+      build_safe a = safe_by a entries.build (of_build d peers) (build_printed d a) (build_begins d well a peers ready)
+
+      pub build_rests : (replies : List Reply) → Each (Fits d) replies → (count : ℕ) (new : World) → Dispatches d replies (of_build d peers) count new → Rests d new
+      build_rests = rests_by (of_build d peers) (λ a. (_, build_promised a))
+
+    -- ** requests
+
+    module _ (w : World) (rests : Rests d w) (r : Request) (read : RequestRead d r) (held : names_released w r ≡ false) where
+      request_promised : (a : Accepted d) → Keeps d a (entry_of d r) (of_request w r)
+      request_promised a = request_keeps steps_keep_good d well a w (rests a) r read held
+
+      pub request_safe : Accepted d → IsSafe d (of_request w r)
+      request_safe a = safe_by a (entry_of d r) (of_request w r) (request_printed d a r) (requests_begin d well a w (rests a) r read held)
+
+      pub request_rests : (replies : List Reply) → Each (Fits d) replies → (count : ℕ) (new : World) → Dispatches d replies (of_request w r) count new → Rests d new
+      request_rests = rests_by (of_request w r) (λ a. (_, request_promised a))
+
+      request_event_keeps : EventKeeps d w (config.request r)
+      request_event_keeps a e c (by_request s) = request_promised a
+
+    -- a request that is not refused keeps its promise
+    pub serve_keeps : (w : World) → Rests d w → (r : Request) → RequestRead d r → refusal w (config.request r) ≡ None → EventKeeps d w (config.request r)
+    serve_keeps w rests r read none a e c begins = request_event_keeps w rests r read (not_released steps_keep_good d well a w r none) a e c begins
+
+    -- ** sources
+
+    source_known : (a : Accepted d) (w : World) → IsResting d a w → (number : ℕ) (s : Source) → source_of number w.sources ≡ Some s → SourceGood d (standing w.objects) s
+    source_known a w rest number s is = each_in (SourceGood d (standing w.objects)) w.sources rest.sources s (find_in (is_numbered number) w.sources s is).0
+
+    module _ (w : World) (rests : Rests d w) (number : ℕ) (s : Source) (stands : source_of number w.sources ≡ Some s) where
+      source_promised : (a : Accepted d) → (e : Entry) × Keeps d a e (beginning w (Due number))
+      source_promised a = (_, source_keeps steps_keep_good d well a w (rests a) number s stands)
+
+      pub source_safe : Accepted d → IsSafe d (beginning w (Due number))
+      source_safe a =
+          safe_by a (entries.source s.program) (beginning w (Due number)) (source_printed d a s.program (source_known a w (rests a) number s stands).told)
+          (sources_begin d well a w (rests a) number s stands)
+
+      pub source_rests : (replies : List Reply) → Each (Fits d) replies → (count : ℕ) (new : World) → Dispatches d replies (beginning w (Due number)) count new → Rests d new
+      source_rests = rests_by (beginning w (Due number)) source_promised
+
+    -- ** turns
+
+    pub turn_rests : (w : World) (moment : ℕ) → Rests d w → Rests d (turned d w moment)
+    turn_rests w moment rests a = turns steps_keep_good d well a w moment (rests a)
+
+    runs_rest : (a : Accepted d) (numbers : List ℕ) (replies : List Reply) → Each (Fits d) replies → (w : World) (tally : Tally) (new : World) → IsResting d a w
+        → RunsSources d numbers replies w tally new → IsResting d a new
+    runs_rest a [] replies fit w tally new rests run = subst (IsResting d a) run.same rests
+    runs_rest a (number ∷ more) replies fit w tally new rests run =
+        let parts = both_fit d run.first run.later (subst (Each (Fits d)) run.replied fit) in
+        runs_rest a more run.later parts.1 run.mid run.later_tally new
+        (runs_source steps_keep_good d well a number run.first parts.0 w run.first_tally run.mid rests run.begins) run.goes_on
+
+    pub turn_event_keeps : (w : World) → Rests d w → (moment : ℕ) → EventKeeps d w (config.turn moment)
+    turn_event_keeps w rests moment a e c (by_source m number v s runs) =
+        source_keeps steps_keep_good d well a v
+        (runs_rest a runs.before runs.replies runs.fit (turned d w m) runs.tally v (turn_rests w m rests a) runs.run) number s runs.stands

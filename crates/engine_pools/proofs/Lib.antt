@@ -1,0 +1,17 @@
+pub mod Reaching
+pub mod Living
+pub mod Lifting
+pub mod Standing
+pub mod Points
+pub mod Asking
+pub mod Apt
+pub mod Resting
+pub mod Keeping
+pub mod Closings
+pub mod Known
+pub mod BoxByBox
+pub mod Ends
+pub mod Fitting
+pub mod Replies
+pub mod FirstCalls
+pub mod CallSteps

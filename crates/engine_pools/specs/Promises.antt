@@ -1,0 +1,36 @@
+-- What is promised of the dispatches of a session: none is ever stuck, and each keeps within the bound that the report prints for what it
+-- begins with.
+use Rattle.ui_machine.specs.Definition.{Definition}
+use Rattle.ui_machine.specs.Runs.{beginning, of_build, of_request}
+use Rattle.ui_machine.specs.State.Config.{World, Config}
+use Rattle.ui_machine.specs.State.Peers.{Peer}
+use Rattle.ui_machine.specs.State.Sources.{Source}
+use Rattle.ui_machine.specs.State.Tasks.{Due, Event, Request}
+use Rattle.ui_machine.specs.State.Tasks as config
+use Rattle.std.specs.Prelude.{ℕ, List}
+use Rattle.law_typing.specs.Good.Requests.{entry_of}
+use Rattle.law_typing.specs.Graph.Channels.{Entry}
+use Rattle.law_typing.specs.Graph.Channels as entries
+use Rattle.law_typing.specs.Laws.StepsKeepGood.{IsResting}
+use Rattle.law_typing.specs.Verdict.Accepted.{Accepted}
+use Rattle.law_sessions.specs.Dispatches.{Keeps}
+use Rattle.law_sessions.specs.Sessions.{Runs}
+
+-- a world between two dispatches, however the definition is accepted
+abbrev pub Rests : Definition → World → Type 0
+Rests d w = (a : Accepted d) → IsResting d a w
+
+-- A dispatch that an event begins in a world, by what it begins with and where. A request begins one; a turn begins one for each of its
+-- sources that is still there at its place, once those before it have run.
+pub data Begins (d : Definition) (w : World) : Event → Entry → Config → Type 0 where
+  by_request : (r : Request) → Begins d w (config.request r) (entry_of d r) (of_request w r)
+  by_source : (moment number : ℕ) (v : World) (s : Source) → Runs d w moment number v s →
+      Begins d w (config.turn moment) (entries.source s.program) (beginning v (Due number))
+
+-- the build of a definition with these peers keeps what is promised of a dispatch
+abbrev pub BuildKeeps : Definition → List Peer → Type 0
+BuildKeeps d peers = (a : Accepted d) → Keeps d a entries.build (of_build d peers)
+
+-- so does each dispatch that an event begins in a world
+abbrev pub EventKeeps : Definition → World → Event → Type 0
+EventKeeps d w event = (a : Accepted d) (e : Entry) (c : Config) → Begins d w event e c → Keeps d a e c

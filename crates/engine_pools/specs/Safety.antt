@@ -1,0 +1,40 @@
+-- Configurations from which nothing is ever stuck, and each question is apt.
+use Rattle.std.specs.Prelude.{◌≡◌, ℕ, IfSome, IsSomeAnd, IsTrue, List, None, Option, Some, slice_get}
+use Rattle.ui_machine.specs.Definition.{Definition}
+use Rattle.ui_machine.specs.Definition.Signals.{Method}
+use Rattle.ui_machine.specs.Definition.Values.{Value}
+use Rattle.ui_machine.specs.Rules.Programs.{all_fit}
+use Rattle.ui_machine.specs.Rules.Transform.{kind_fits}
+use Rattle.ui_machine.specs.State.Config.{Config}
+use Rattle.ui_machine.specs.State.Peers.{Question}
+use Rattle.ui_machine.specs.State.References.{mentions, next_unheld}
+use Rattle.ui_machine.specs.Steps.{question}
+use Rattle.law_sessions.specs.Dispatches.{Throughout}
+use Rattle.law_sessions.specs.Safe.{Safe}
+use Rattle.engine_pools.specs.Following.{Point, Stands}
+use Rattle.engine_pools.specs.PoolView.{Takes}
+
+-- nothing is to be finalised
+abbrev pub NoneUnheld : Definition → Config → Type 0
+NoneUnheld d c = next_unheld (mentions d c) c.world.objects ≡ None
+
+-- a question is to a peer that is there, with arguments that its method takes
+pub record IsApt (d : Definition) (c : Config) (q : Question) : Type 0 where
+  pub there : IsSomeAnd (slice_get c.world.peers q.peer) (λ p. p.state ≡ q.state)
+  pub args : Takes d (slice_get q.state.shape q.method) q.args
+
+-- so is that of a configuration, if it asks one
+abbrev pub AsksAptly : Definition → Config → Type 0
+AsksAptly d c = IfSome (question d c) (IsApt d c)
+
+-- a configuration from which no run is stuck, or has more than so many frames, and each question is apt
+pub record IsSafe (d : Definition) (c : Config) : Type 0 where
+  pub most : ℕ
+  pub safe : Safe d most c
+  pub asks : Throughout d c (AsksAptly d)
+
+-- the point is that of a safe configuration of the machine
+pub record ComesOfSafe (d : Definition) (p : Point) : Type 0 where
+  pub at : Config
+  pub safe : IsSafe d at
+  pub stands : Stands p at

@@ -1,0 +1,66 @@
+//! The boxes of a pool: how one is asked for a due call, and closed.
+
+ghost use Rattle.std.specs.Prelude.{◌≡◌, None, map, option_map};
+ghost use Rattle.ui_machine.specs.State.Config.{is_asked};
+ghost use Rattle.g_values.specs.View.{value_view};
+ghost use Rattle.native_peers.specs.Pool.{entries, relations, seen};
+ghost use Rattle.native_peers.specs.Seen.{Asks, SameRelations};
+ghost use Rattle.engine_world.specs.View.{world_of};
+ghost use Rattle.engine_pools.specs.PoolView.{IsAskable, closed_in, due, is_due};
+
+use engine_world::engine::Engine;
+use engine_world::task::DueCall;
+use g_values::Value;
+use native_peers::{Peer, PeerPool};
+
+/// Asks the peer of a due call, which is open. A fault is no value.
+pub fn ask(pool: &mut PeerPool, call: &DueCall) -> Option<Value>
+    requires asked { IsAskable (seen (λ p. (⟦<dyn Peer as Peer>⟧ p.peer.vtable).state p.peer.value) (entries pool.now)) call.now.peer call.now.method (map value_view call.now.args.items) }
+    ensures asks { Asks call.now.peer
+        (seen (λ p. (⟦<dyn Peer as Peer>⟧ p.peer.vtable).state p.peer.value) (entries pool.old)) (seen (λ p. (⟦<dyn Peer as Peer>⟧ p.peer.vtable).state p.peer.value) (entries pool.new))
+        (relations (λ p. (⟦<dyn Peer as Peer>⟧ p.peer.vtable).moves p.peer.value) (entries pool.old)) call.now.method (map value_view call.now.args.items) (option_map value_view result) }
+    ensures same { SameRelations (relations (λ p. (⟦<dyn Peer as Peer>⟧ p.peer.vtable).moves p.peer.value) (entries pool.old)) (relations (λ p. (⟦<dyn Peer as Peer>⟧ p.peer.vtable).moves p.peer.value) (entries pool.new)) }
+{
+    // For the proof: the kinds of the peer's methods are plain.
+    let _shape = pool.shape(call.peer);
+    match pool.invoke(call.peer, call.method, call.args.as_slice()) {
+        Ok(value) => Some(value),
+        Err(_fault) => None,
+    }
+}
+
+// Whether the engine knows the peer of a number to be open.
+fn is_open(engine: &Engine, number: usize) -> bool
+    ensures { result ≡ is_asked (world_of engine.now.world) number }
+{
+    match engine.world.seats.seat(number) {
+        Some(seat) => seat.is_open,
+        None => false,
+    }
+}
+
+// Whether the box of a number is open, while the engine knows the peer to be closed.
+fn is_due(engine: &Engine, pool: &PeerPool, number: usize) -> bool
+    ensures { result ≡ is_due (world_of engine.now.world) (seen (λ p. (⟦<dyn Peer as Peer>⟧ p.peer.vtable).state p.peer.value) (entries pool.now)) number }
+{
+    if number >= pool.left() {
+        return false;
+    }
+    pool.is_open(number) && !is_open(engine, number)
+}
+
+/// Closes the box of the peer that a step has closed, if it has closed one: the engine has left its number, and knows it to be closed.
+pub fn close_due(engine: &mut Engine, pool: &mut PeerPool)
+    ensures closed { seen (λ p. (⟦<dyn Peer as Peer>⟧ p.peer.vtable).state p.peer.value) (entries pool.new)
+        ≡ closed_in (due (world_of engine.old.world) (seen (λ p. (⟦<dyn Peer as Peer>⟧ p.peer.vtable).state p.peer.value) (entries pool.old)) engine.old.closing)
+        (seen (λ p. (⟦<dyn Peer as Peer>⟧ p.peer.vtable).state p.peer.value) (entries pool.old)) }
+    ensures same { SameRelations (relations (λ p. (⟦<dyn Peer as Peer>⟧ p.peer.vtable).moves p.peer.value) (entries pool.old)) (relations (λ p. (⟦<dyn Peer as Peer>⟧ p.peer.vtable).moves p.peer.value) (entries pool.new)) }
+    ensures taken { engine.new ≡ record engine.old { closing = None } }
+{
+    let Some(number) = engine.closing.take() else {
+        return;
+    };
+    if is_due(engine, pool, number) {
+        pool.close(number);
+    }
+}

@@ -1,0 +1,4 @@
+use Rattle.engine_tasks.proofs.calls.answered.Goals as goal
+
+pub zero_of-value-requires : goal.zero_of-value-requires
+zero_of-value-requires c = (c.in-Some.ensures.known c.types-types.result.now).1

@@ -1,0 +1,223 @@
+//! Calls of peers: what is asked of one that is open, and what comes of its answer. A peer that is closed is not called.
+
+ghost use Rattle.std.specs.Prelude.{◌≡◌, List, None, Option, Some, IfSome, OnErr, OnOk, false, option_map, string_bytes};
+ghost use Rattle.ui_machine.specs.Definition as machine;
+ghost use Rattle.ui_machine.specs.Definition.Types.{GType};
+ghost use Rattle.ui_machine.specs.Instructions.Peers.{calling_on, left_with};
+ghost use Rattle.ui_machine.specs.declared.arm.Arm.TheVariants as arms;
+ghost use Rattle.ui_machine.specs.Outcome.{Goes, known};
+ghost use Rattle.ui_machine.specs.State.Config.{is_asked};
+ghost use Rattle.ui_machine.specs.State.Peers.{Reply};
+ghost use Rattle.ui_machine.specs.State.References.{in_task, same};
+ghost use Rattle.ui_machine.specs.State.Tasks.{Calling};
+ghost use Rattle.ui_machine.specs.Steps.{asked_first, left};
+ghost use Rattle.g_values.specs.View.{value_view};
+ghost use Rattle.engine_world.specs.Counting.{Counts};
+ghost use Rattle.engine_world.specs.EngineView.{config_of};
+ghost use Rattle.engine_world.specs.GivenView.{Finds};
+ghost use Rattle.engine_world.specs.SeatView.{HasKnownKinds};
+ghost use Rattle.engine_world.specs.TaskView.{agenda_of, call_of};
+ghost use Rattle.engine_world.specs.View.{with_line, world_of};
+ghost use Rattle.engine_tasks.specs.CallView.{answered, conclusion_view, method_called, named_view, question_view, reply_of, unanswered};
+
+use definitions::Definition;
+use engine_world::engine::Engine;
+use engine_world::lines::Line;
+use engine_world::program_frames::pass_answer;
+use engine_world::references::let_go_values;
+use engine_world::task::{DueCall, Task};
+use g_values::{Value, zero_of};
+use peer_shapes::MethodRef;
+use ui_machine::{Arm, Halt};
+
+/// What is asked of an open peer: a method of its shape, by number, with arguments.
+#[derive(Clone, Copy)]
+pub struct PeerQuestion<'a> {
+    pub peer: usize,
+    pub method: usize,
+    pub args: &'a [Value],
+}
+
+/// What a call comes to: the line that tells of it, and the value that the program is given.
+#[derive(Drop)]
+pub struct Conclusion {
+    line: String,
+    value: Value,
+}
+
+/// Whether the peer of a number is there and open, so that it is asked.
+pub fn is_asked(engine: &Engine, peer: usize) -> bool
+    ensures { result ≡ is_asked (world_of engine.now.world) peer }
+{
+    match engine.world.seats.seat(peer) {
+        Some(seat) => seat.is_open,
+        None => false,
+    }
+}
+
+/// What the first task asks of a peer, if it asks one.
+pub fn question(engine: &Engine) -> Option<PeerQuestion<'_>>
+    ensures { (d : machine.Definition) → option_map (question_view (world_of engine.now.world)) result
+        ≡ asked_first (world_of engine.now.world) (agenda_of d engine.now) }
+{
+    let Some(task) = engine.stack.first() else {
+        return None;
+    };
+    let Task::Calling(call) = task else {
+        return None;
+    };
+    if !is_asked(engine, call.peer) {
+        return None;
+    }
+    Some(PeerQuestion {
+        peer: call.peer,
+        method: call.method,
+        args: call.args.as_slice(),
+    })
+}
+
+// A method of a peer, under the peer's name.
+#[derive(Clone, Copy)]
+struct NamedMethod<'a> {
+    peer: &'a str,
+    method: MethodRef<'a>,
+}
+
+// The method that a call asks for. Its kinds are known whatever the types are.
+fn method_called<'a>(engine: &'a Engine, call: &DueCall) -> Option<NamedMethod<'a>>
+    ensures named { known arms.Call (option_map named_view result) ≡ method_called (world_of engine.now.world) (call_of call.now) }
+    ensures known { (types : List GType) → IfSome result (λ called. HasKnownKinds types called.method) }
+{
+    let Some(seat) = engine.world.seats.seat(call.peer) else {
+        return None;
+    };
+    let Some(method) = engine.world.seats.method(call.peer, call.method) else {
+        return None;
+    };
+    Some(NamedMethod {
+        peer: seat.name,
+        method,
+    })
+}
+
+// What a call comes to as its peer answers, or faults: after a fault the program is given the zero value.
+fn answered<'a>(
+    engine: &'a Engine,
+    definition: &Definition,
+    call: &'a DueCall,
+    answer: Option<Value>,
+) -> Result<Conclusion, Halt>
+    ensures { Finds conclusion_view result (answered definition.now (world_of engine.now.world) (call_of call.now) (option_map value_view answer)) }
+{
+    let Some(called) = method_called(engine, call) else {
+        return Err(Halt::Stuck(Arm::Call));
+    };
+    let types = definition.types();
+    match answer {
+        Some(value) => {
+            let told = Line::Call {
+                peer: called.peer,
+                method: called.method.name,
+                args: call.args.as_slice(),
+                answer: &value,
+            };
+            let line = told.text(engine.alloc, types)?;
+            Ok(Conclusion { line, value })
+        }
+        None => {
+            let told = Line::Fault {
+                peer: called.peer,
+                method: called.method.name,
+                args: call.args.as_slice(),
+            };
+            let line = told.text(engine.alloc, types)?;
+            let value = zero_of(types, called.method.result);
+            Ok(Conclusion { line, value })
+        }
+    }
+}
+
+// What a call comes to as its peer is closed: the program is given the zero value.
+fn unanswered<'a>(
+    engine: &'a Engine,
+    definition: &Definition,
+    call: &'a DueCall,
+) -> Result<Conclusion, Halt>
+    ensures { Finds conclusion_view result (unanswered definition.now (world_of engine.now.world) (call_of call.now)) }
+{
+    let Some(called) = method_called(engine, call) else {
+        return Err(Halt::Stuck(Arm::Call));
+    };
+    let types = definition.types();
+    let told = Line::Closed {
+        peer: called.peer,
+        method: called.method.name,
+        args: call.args.as_slice(),
+    };
+    let line = told.text(engine.alloc, types)?;
+    let value = zero_of(types, called.method.result);
+    Ok(Conclusion { line, value })
+}
+
+// A call is done: its line is said, the program is given the value, and the arguments are let go.
+fn conclude(
+    engine: &mut Engine,
+    definition: &Definition,
+    call: DueCall,
+    conclusion: Conclusion,
+) -> Result<(), Halt>
+    requires counted { Counts definition.now (λ o. in_task o (Calling (call_of call))) engine.now }
+    ensures step { Goes result
+        (left engine.old.counted (left_with (with_line (string_bytes conclusion.line) (world_of engine.old.world)) (agenda_of definition.now engine.old) call.to.0 (value_view conclusion.value)))
+        (config_of definition.now engine.new) }
+    ensures quiet { OnErr result ((world_of engine.new.world).transcript ≡ (world_of engine.old.world).transcript) }
+    ensures counted { OnOk result (Counts definition.now (λ o. same o call.object.0) engine.new) }
+{
+    let Conclusion { line, value } = conclusion;
+    pass_answer(engine, definition, call.to, value)?;
+    engine.world.say(line)?;
+    let_go_values(&mut engine.world.table, call.args.as_slice());
+    Ok(())
+}
+
+/// A peer that was asked has answered, or has faulted where there is no value: a line tells of it, and the program that called is given the
+/// value. Where the peer is closed it has not been asked, and the program is given the zero value.
+pub fn answer(
+    engine: &mut Engine,
+    definition: &Definition,
+    call: DueCall,
+    answer: Option<Value>,
+) -> Result<(), Halt>
+    requires counted { Counts definition.now (λ o. in_task o (Calling (call_of call))) engine.now }
+    ensures step { Goes result
+        (left engine.old.counted (calling_on definition.now (world_of engine.old.world) (call_of call) (agenda_of definition.now engine.old)
+        (Some (reply_of (world_of engine.old.world) (call_of call) (option_map value_view answer)))))
+        (config_of definition.now engine.new) }
+    ensures quiet { OnErr result ((world_of engine.new.world).transcript ≡ (world_of engine.old.world).transcript) }
+    ensures counted { OnOk result (Counts definition.now (λ o. same o call.object.0) engine.new) }
+{
+    if !is_asked(engine, call.peer) {
+        return pass_over(engine, definition, call);
+    }
+    let conclusion = answered(engine, definition, &call, answer)?;
+    conclude(engine, definition, call, conclusion)
+}
+
+/// A call is due, and its peer has not been asked: where it is closed a line says so, and the program is given the zero value.
+pub fn pass_over(engine: &mut Engine, definition: &Definition, call: DueCall) -> Result<(), Halt>
+    requires counted { Counts definition.now (λ o. in_task o (Calling (call_of call))) engine.now }
+    ensures step { Goes result
+        (left engine.old.counted (calling_on definition.now (world_of engine.old.world) (call_of call) (agenda_of definition.now engine.old) None))
+        (config_of definition.now engine.new) }
+    ensures closed { is_asked (world_of engine.old.world) call.peer ≡ false → (reply : Option Reply) → Goes result
+        (left engine.old.counted (calling_on definition.now (world_of engine.old.world) (call_of call) (agenda_of definition.now engine.old) reply))
+        (config_of definition.now engine.new) }
+    ensures quiet { OnErr result ((world_of engine.new.world).transcript ≡ (world_of engine.old.world).transcript) }
+    ensures counted { OnOk result (Counts definition.now (λ o. same o call.object.0) engine.new) }
+{
+    if is_asked(engine, call.peer) {
+        return Err(Halt::Stuck(Arm::Call));
+    }
+    let conclusion = unanswered(engine, definition, &call)?;
+    conclude(engine, definition, call, conclusion)
+}

@@ -1,0 +1,27 @@
+-- Which peer the object of a place gets.
+use Rattle.std.specs.Prelude.{ℕ, Bool, None, Option, Some, false, true}
+use Rattle.ui_machine.specs.declared.arm.Arm.TheVariants as arms
+use Rattle.ui_machine.specs.Definition.{Definition}
+use Rattle.ui_machine.specs.Definition.Lookups.{place_at}
+use Rattle.ui_machine.specs.Definition.Places.{Place}
+use Rattle.ui_machine.specs.Outcome.{Answer, known, ◌>>=◌}
+use Rattle.ui_machine.specs.Rules.Build.{peer_for}
+use Rattle.ui_machine.specs.State.Config.{World}
+use Rattle.engine_world.specs.declared.object_peers.NewPeer.{NewPeer}
+use Rattle.engine_world.specs.declared.object_peers.NewPeer.TheVariants as news
+
+-- the peer that the object at a place of the build has for its own
+abbrev pub own_peer : Definition → World → (place : ℕ) → Answer (Option ℕ)
+own_peer d w place = known arms.Code (place_at d place) >>= λ (p : Place). peer_for d w p
+
+-- whether there is a peer for a new object, if it wants one
+abbrev pub is_there : NewPeer → Bool
+is_there news.NotWanted = true
+is_there (news.Left number) = true
+is_there news.NoneLeft = false
+
+-- the peer that it takes
+abbrev pub taken : NewPeer → Option ℕ
+taken news.NotWanted = None
+taken (news.Left number) = Some number
+taken news.NoneLeft = None

@@ -1,0 +1,102 @@
+//! Which peer an object gets as it is made.
+
+ghost use Rattle.std.specs.Prelude.{◌≡◌, ◌<◌, ◌||◌, IfOk, IfSome, is_some, length, not};
+ghost use Rattle.ui_machine.specs.Rules.Build.{first_peer};
+ghost use Rattle.ui_machine.specs.Rules.Construction.{has_shape, peer_left, peer_to_take};
+ghost use Rattle.definition_format.specs.Meaning.{name_bytes};
+ghost use Rattle.definitions.specs.EntryView.{entry_view};
+ghost use Rattle.instances.specs.Store.{Shows};
+ghost use Rattle.engine_world.specs.PeerPlaces.{is_there, own_peer, taken};
+ghost use Rattle.engine_world.specs.View.{world_of};
+
+use crate::engine::Engine;
+use crate::places::entry_at;
+use crate::seats::Seats;
+use definitions::{Definition, ObjectEntry};
+use type_tree::TypeId;
+use ui_machine::{Arm, Place};
+
+/// The peer for a new object of a prototype.
+#[derive(Clone, Copy, Debug, PartialEq, Eq)]
+pub enum NewPeer {
+    /// The object's class has no shape.
+    NotWanted,
+    /// The first of the prototype's that no object has got, by its number.
+    Left(usize),
+    /// Objects have got all of the prototype's.
+    NoneLeft,
+}
+
+impl NewPeer {
+    /// Whether there is a peer for the object, if it wants one.
+    pub fn is_there(self) -> bool
+        ensures { result ≡ is_there self }
+    {
+        match self {
+            NewPeer::NotWanted | NewPeer::Left(_) => true,
+            NewPeer::NoneLeft => false,
+        }
+    }
+
+    /// The peer that the object takes.
+    pub fn number(self) -> Option<usize>
+        ensures { result ≡ taken self }
+    {
+        match self {
+            NewPeer::Left(number) => Some(number),
+            NewPeer::NotWanted | NewPeer::NoneLeft => None,
+        }
+    }
+}
+
+// Whether an object of the class has a peer.
+fn has_shape(definition: &Definition, class: TypeId) -> bool
+    ensures { result ≡ has_shape definition.now class }
+{
+    definition.shape_number(class).is_some()
+}
+
+// The number of the peer of the first of these names.
+fn first_peer(seats: &Seats, names: &[String]) -> Option<usize>
+    ensures first { result ≡ first_peer seats.now (name_bytes names.now) }
+    ensures within { IfSome result (λ number. number < length seats.now) }
+{
+    match names {
+        [] => None,
+        [name, ..] => seats.find(name.as_str()),
+    }
+}
+
+/// The peer that the object at a place of the build has for its own: it has one where its class has a shape.
+pub fn own_peer(
+    engine: &Engine,
+    definition: &Definition,
+    place: Place,
+) -> Result<Option<usize>, Arm>
+    ensures own { Shows (λ peer. peer) result (own_peer definition.now (world_of engine.now.world) place.0) }
+    ensures within { IfOk result (λ peer. IfSome peer (λ number. number < length engine.now.world.seats)) }
+{
+    let Some(entry) = entry_at(definition, place) else {
+        return Err(Arm::Code);
+    };
+    let peer = first_peer(&engine.world.seats, entry.peers);
+    if has_shape(definition, entry.class) != peer.is_some() {
+        return Err(Arm::Code);
+    }
+    Ok(peer)
+}
+
+/// The peer for a new object of a prototype.
+pub fn new_peer(engine: &Engine, definition: &Definition, prototype: &ObjectEntry<'_>) -> NewPeer
+    ensures there { is_there result ≡ (not (has_shape definition.now prototype.now.class) || is_some (peer_left (world_of engine.now.world) (entry_view prototype.now))) }
+    ensures taken { taken result ≡ peer_to_take definition.now (world_of engine.now.world) (entry_view prototype.now) }
+    ensures within { IfSome (taken result) (λ number. number < length engine.now.world.seats) }
+{
+    if !has_shape(definition, prototype.class) {
+        return NewPeer::NotWanted;
+    }
+    match engine.world.seats.first_left(prototype.peers) {
+        Some(number) => NewPeer::Left(number),
+        None => NewPeer::NoneLeft,
+    }
+}

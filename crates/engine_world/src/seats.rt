@@ -1,0 +1,182 @@
+//! The peers of a pool, as far as the engine knows them: their names and shapes, whether they are open, and which objects have them.
+
+ghost use Rattle.std.specs.Prelude.{◌≡◌, ◌<◌, ◌∷◌, ◌++◌, [], List, None, Some, IfSome, IsTrue, OnOk, length, option_and_then, option_map, slice_get, string_bytes};
+ghost use Rattle.ui_machine.specs.Definition.Types.{GType};
+ghost use Rattle.ui_machine.specs.Rules.Construction.{lent};
+ghost use Rattle.ui_machine.specs.State.Peers.{Peer, first_left, if_left, is_left, method_of, peer_number};
+ghost use Rattle.peer_shapes.specs.MethodViews.{is_plain_shape};
+ghost use Rattle.peer_shapes.specs.MethodViews.{lent_view as lent_method};
+ghost use Rattle.definition_format.specs.Meaning.{name_bytes};
+ghost use Rattle.engine_world.specs.SeatView.{HasKnownKinds, closed_at, lent_view, new_peer};
+
+use indexmap::IndexMap;
+use peer_shapes::{MethodRef, Shape};
+use std::alloc::{AllocError, Global};
+use std::marker::Model;
+use ui_machine::ObjectId;
+
+/// What the engine knows of a peer beside its name.
+#[derive(Drop)]
+pub struct Seat {
+    pub shape: Shape,
+    /// Whether the peer may be called.
+    pub is_open: bool,
+    /// The object that got the peer.
+    pub holder: Option<ObjectId>,
+}
+
+/// What the engine knows of a peer, lent.
+#[derive(Clone, Copy)]
+pub struct SeatRef<'a> {
+    pub name: &'a str,
+    pub shape: &'a Shape,
+    pub is_open: bool,
+    pub holder: Option<ObjectId>,
+}
+
+/// The peers of a pool in their order, in which they go by number, each found by its name. The kinds of their methods are plain ones. A
+/// contract sees the machine's peers, of which no calls and no faults are known.
+#[derive(Drop)]
+pub struct Seats {
+    seats: IndexMap<String, Seat>,
+}
+
+impl Model for Seats {
+    ghost use Rattle.std.specs.Prelude.{List, map};
+    ghost use Rattle.std.specs.List.{AllByRecursion};
+    ghost use Rattle.ui_machine.specs.State.Peers.{Peer};
+    ghost use Rattle.engine_world.specs.SeatView.{HasPlainShape, seated};
+
+    ghost Value = { List Peer };
+
+    ghost view = { λ s. map seated s.seats.entries };
+
+    ghost invariant = { λ s. AllByRecursion HasPlainShape (map seated s.seats.entries) };
+}
+
+impl Seats {
+    /// No peers. It takes no memory.
+    pub fn new(alloc: Global) -> Self
+        ensures { result ≡ [] }
+    {
+        Seats {
+            seats: IndexMap::new(alloc),
+        }
+    }
+
+    /// How many peers there are.
+    pub fn len(&self) -> usize
+        ensures { result ≡ length self.now }
+    {
+        self.seats.len()
+    }
+
+    /// Adds a peer that no object has got, under a new name.
+    ///
+    /// # Errors
+    ///
+    /// `AllocError` if memory is refused. The peers are as they were.
+    pub fn add(&mut self, name: String, shape: Shape, is_open: bool) -> Result<(), AllocError>
+        requires fresh { peer_number self.old (string_bytes name) ≡ None }
+        requires plain { IsTrue (is_plain_shape shape) }
+        ensures { OnOk result (self.new ≡ self.old ++ new_peer (string_bytes name) shape is_open ∷ []) }
+    {
+        let seat = Seat {
+            shape,
+            is_open,
+            holder: None,
+        };
+        let _ = self.seats.insert(name, seat)?;
+        Ok(())
+    }
+
+    /// The number of the peer of a name.
+    pub fn find(&self, name: &str) -> Option<usize>
+        ensures found { result ≡ peer_number self.now name.now }
+        ensures within { IfSome result (λ number. number < length self.now) }
+    {
+        self.seats.get_index_of(name)
+    }
+
+    /// The peer of a number, if there are so many.
+    pub fn seat(&self, number: usize) -> Option<SeatRef<'_>>
+        ensures found { option_map lent_view result ≡ slice_get self.now number }
+        ensures plain { IfSome result (λ seat. IsTrue (is_plain_shape seat.shape.now)) }
+    {
+        let (name, seat) = self.seats.get_index(number)?;
+        Some(SeatRef {
+            name: name.as_str(),
+            shape: &seat.shape,
+            is_open: seat.is_open,
+            holder: seat.holder,
+        })
+    }
+
+    /// A method of the peer of a number, if they are there. Its kinds are known whatever the types are.
+    pub fn method(&self, number: usize, method: usize) -> Option<MethodRef<'_>>
+        ensures found { option_map lent_method result ≡ option_and_then (λ (p : Peer). method_of p method) (slice_get self.now number) }
+        ensures known { (types : List GType) → IfSome result (HasKnownKinds types) }
+    {
+        let seat = self.seat(number)?;
+        seat.shape.method(method)
+    }
+
+    // Whether no object has got the peer of a number.
+    fn is_left(&self, number: usize) -> bool
+        ensures { result ≡ is_left (slice_get self.now number) }
+    {
+        match self.seat(number) {
+            Some(seat) => seat.holder.is_none(),
+            None => false,
+        }
+    }
+
+    // The number of the peer of a name, if no object has got it.
+    fn find_left(&self, name: &str) -> Option<usize>
+        ensures found { result ≡ if_left self.now (peer_number self.now name.now) None }
+        ensures within { IfSome result (λ number. number < length self.now) }
+    {
+        let number = self.find(name)?;
+        if self.is_left(number) {
+            Some(number)
+        } else {
+            None
+        }
+    }
+
+    /// The number of the first peer of these names that no object has got. It goes through the names from the first one on, so that objects
+    /// made of a prototype with many peers take the longer, the more of them are got.
+    pub fn first_left(&self, names: &[String]) -> Option<usize>
+        ensures first { result ≡ first_left self.now (name_bytes names.now) }
+        ensures within { IfSome result (λ number. number < length self.now) }
+    {
+        'names: for name in names {
+            if let Some(number) = self.find_left(name.as_str()) {
+                return Some(number);
+            }
+        }
+        None
+    }
+
+    /// The peer of a number becomes an object's.
+    pub(crate) fn lend(&mut self, number: usize, object: ObjectId)
+        requires { number < length self.now }
+        ensures { self.new ≡ lent (Some number) object.0 self.old }
+    {
+        let Some(seat) = self.seats.get_index_mut(number) else {
+            return;
+        };
+        seat.holder = Some(object);
+    }
+
+    /// The peer of a number may not be called from now on.
+    pub(crate) fn close(&mut self, number: usize)
+        requires { number < length self.now }
+        ensures { self.new ≡ closed_at self.old number }
+    {
+        let Some(seat) = self.seats.get_index_mut(number) else {
+            return;
+        };
+        seat.is_open = false;
+    }
+}

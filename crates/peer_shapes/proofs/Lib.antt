@@ -1,0 +1,2 @@
+pub mod NamedEntries
+pub mod MethodNames

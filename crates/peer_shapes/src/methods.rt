@@ -1,0 +1,26 @@
+//! Methods of peers.
+
+use g_values::Kind;
+
+/// A method of a shape. Its kinds are plain ones: truth values, whole numbers and texts.
+#[derive(Debug, Drop)]
+pub struct Method {
+    pub name: String,
+    pub params: Vec<Kind>,
+    pub result: Kind,
+}
+
+/// What a method takes and answers, under its name.
+#[derive(Drop)]
+pub(crate) struct Signature {
+    pub(crate) params: Vec<Kind>,
+    pub(crate) result: Kind,
+}
+
+/// A method of a shape, lent.
+#[derive(Clone, Copy, Debug)]
+pub struct MethodRef<'a> {
+    pub name: &'a str,
+    pub params: &'a [Kind],
+    pub result: Kind,
+}
