@@ -1,6 +1,7 @@
 //! Methods of peers.
 
 use g_values::Kind;
+use std::alloc::AllocError;
 
 /// A method of a shape. Its kinds are plain ones: truth values, whole numbers and texts.
 #[derive(Debug, Drop)]
@@ -15,6 +16,20 @@ pub struct Method {
 pub(crate) struct Signature {
     pub(crate) params: Vec<Kind>,
     pub(crate) result: Kind,
+}
+
+impl Clone for Signature {
+    ghost use Rattle.std.specs.Prelude.{◌≡◌};
+
+    ghost is_clone = { λ s copy. (copy.params.items ≡ s.params.items) × (copy.result ≡ s.result) };
+
+    fn clone(&self) -> Result<Signature, AllocError> {
+        let params = self.params.clone()?;
+        Ok(Signature {
+            params,
+            result: self.result,
+        })
+    }
 }
 
 /// A method of a shape, lent.

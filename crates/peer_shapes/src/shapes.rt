@@ -1,6 +1,6 @@
 //! Shapes.
 
-ghost use Rattle.std.specs.Prelude.{◌≡◌, ◌<◌, ◌∷◌, ◌++◌, [], None, IfSome, OnOk, length, option_map, slice_get, string_bytes};
+ghost use Rattle.std.specs.Prelude.{◌≡◌, ◌<◌, ◌∷◌, ◌++◌, [], None, IfOk, IfSome, OnOk, length, option_map, slice_get, string_bytes};
 ghost use Rattle.ui_machine.specs.Definition.Names.{place_named};
 ghost use Rattle.peer_shapes.specs.MethodViews.{lent_view, method_view};
 
@@ -60,6 +60,18 @@ impl Shape {
             params: signature.params.as_slice(),
             result: signature.result,
         })
+    }
+
+    /// The same methods once more.
+    ///
+    /// # Errors
+    ///
+    /// `AllocError` if memory is refused.
+    pub fn copied(&self) -> Result<Self, AllocError>
+        ensures { IfOk result (λ copy. copy ≡ self.now) }
+    {
+        let methods = self.methods.clone()?;
+        Ok(Shape { methods })
     }
 
     /// Adds a method, whose name is a new one.

@@ -1,4 +1,3 @@
-use Rattle.std.proofs.Common.{◌∙◌, sym}
 use Rattle.peer_shapes.proofs.MethodNames.{method_is}
 use Rattle.peer_shapes.proofs.shapes.Shape.find.Goals as goal
 
