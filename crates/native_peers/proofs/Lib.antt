@@ -6,3 +6,4 @@ pub mod Named
 pub mod Needing
 pub mod Places
 pub mod Relations
+pub mod Apart

@@ -3,7 +3,6 @@ use Rattle.std.specs.Prelude.{List, map, Option, None, Some, option_map, Result,
 use Rattle.ui_machine.specs.State.Peers.{Peer}
 use Rattle.law_pools.specs.Needs as law
 use Rattle.law_pools.specs.Needs.{Mismatch, missing, closed, misshapen, unused}
-use Rattle.peer_shapes.specs.MethodViews.{method_view}
 use Rattle.native_peers.specs.Seen.{Seen}
 use Rattle.native_peers.specs.declared.faults.MatchFault.{MatchFault}
 use Rattle.native_peers.specs.declared.faults.MatchFault.TheVariants as faults

@@ -11,6 +11,10 @@ use Rattle.native_peers.specs.declared.pools.PeerPool.{PeerPool}
 abbrev pub entries : {I : Type 0} {Held : I → Type 0} → PeerPool I Held → List (NamedPeer I Held)
 entries pool = pool.peers.items
 
+-- their names
+abbrev pub names : {I : Type 0} {Held : I → Type 0} → List (NamedPeer I Held) → List (List ℕ)
+names peers = map (λ p. string_bytes p.name) peers
+
 -- the number of the first peer of a name
 abbrev pub number_of : {I : Type 0} {Held : I → Type 0} → List (NamedPeer I Held) → List ℕ → Option ℕ
 number_of peers name = place_named (λ p. string_bytes p.name) peers name

@@ -9,6 +9,7 @@
 mod entries;
 mod faults;
 mod kinds;
+mod members;
 mod mismatches;
 mod needs;
 mod peers;

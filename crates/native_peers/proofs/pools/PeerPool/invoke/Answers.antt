@@ -1,3 +1,4 @@
+use Rattle.native_peers.proofs.Apart.{set_apart}
 use Rattle.std.proofs.Common.{ap, string_bytes}
 use Rattle.native_peers.proofs.Asking.{asked}
 use Rattle.native_peers.proofs.Places.{here, inside}
@@ -16,3 +17,9 @@ returns-clause-same g c =
     let items = c.args.self.now.peers.items in
     let at = here items c.args.k c.index_mut.result.now (inside items c.args.k _ c.requires.open) c.index_mut.ensures.value in
     same_relations (λ p. (g.dyn-1.0.entry p.peer.vtable).1.moves p.peer.value) items c.args.k c.index_mut.result.now c.invoke.new.self at c.invoke.ensures.invokes.same_moves
+
+pub invariant_of-self : goal.invariant_of-self
+invariant_of-self g c =
+    let items = c.args.self.now.peers.items in
+    let at = here items c.args.k c.index_mut.result.now (inside items c.args.k _ c.requires.open) c.index_mut.ensures.value in
+    record { apart = set_apart (λ p. string_bytes p.name) items c.args.k c.index_mut.result.now c.invoke.new.self at (ap (λ s. string_bytes s) c.invoke.ensures.name) c.args.self.now.apart }
