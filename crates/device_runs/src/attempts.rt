@@ -3,6 +3,7 @@
 use crate::scripted_feed::ScriptedFeed;
 use crate::scripted_sink::ScriptedSink;
 use event_lines::{Counted, run};
+use native_peers::PeerPool;
 use std::alloc::{AllocError, Global};
 
 /// What fails in a run, and how much a write takes.
@@ -68,11 +69,12 @@ pub struct Attempt {
 }
 
 impl Case<'_> {
-    /// Runs the definition over its events, with what the script says.
+    /// Runs the definition without peers over its events, with what the script says.
     pub fn attempt(&self, alloc: Global, script: Script) -> Attempt {
         let mut reader = Counted::new(ScriptedFeed::new(self.events, script.read));
         let mut writer = Counted::new(ScriptedSink::new(alloc, script.most, script.write));
-        let status = run(alloc, self.definition, &mut reader, &mut writer);
+        let mut pool = PeerPool::new(alloc);
+        let status = run(alloc, self.definition, &mut pool, &mut reader, &mut writer);
         Attempt {
             status,
             written: writer.device.taken,

@@ -1,6 +1,6 @@
 -- What a good configuration asks is apt, and what a method of plain kinds takes does not depend on types.
 use Rattle.std.proofs.Common.{◌≡◌, refl, ap, sym, ◌∙◌, subst, ℕ, zero, suc, ◌≤◌, Bool, true, false, cond, ◌&&◌, List, [], ◌∷◌, Option, None, Some}
-use Rattle.std.specs.Prelude.{IfSome, IsSomeAnd, IsTrue, slice_get}
+use Rattle.std.specs.Prelude.{IfSome, IsSomeAnd, slice_get}
 use Rattle.std.specs.List.{list_all}
 use Rattle.ui_machine.specs.Definition.{Definition}
 use Rattle.ui_machine.specs.Definition.Kinds.{Kind}
@@ -11,12 +11,11 @@ use Rattle.ui_machine.specs.Definition.Values.{Value}
 use Rattle.ui_machine.specs.Definition.Values as values
 use Rattle.ui_machine.specs.Rules.Programs.{all_fit}
 use Rattle.ui_machine.specs.Rules.Transform.{kind_fits}
-use Rattle.ui_machine.specs.Seq.{read}
 use Rattle.ui_machine.specs.State.Config.{Config, World, is_asked, peer_state}
-use Rattle.ui_machine.specs.State.Peers.{Peer, PeerState, Question, method_of, no_peer}
+use Rattle.ui_machine.specs.State.Peers.{Peer, PeerState, Question, no_peer}
 use Rattle.ui_machine.specs.State.References.{mentions, next_unheld}
 use Rattle.ui_machine.specs.State.Tasks.{Call, Calling, Task}
-use Rattle.ui_machine.specs.Steps.{asked_after, asked_first, most_steps, question}
+use Rattle.ui_machine.specs.Steps.{asked_after, asked_first, most_steps}
 use Rattle.law_sessions.specs.Dispatches.{Throughout}
 use Rattle.law_sessions.proofs.DispatchProofs.{stays}
 use Rattle.law_typing.specs.Graph.{graph}
@@ -26,7 +25,6 @@ use Rattle.law_typing.specs.Laws.StepsKeepGood.{IsGood, StepsKeepGood}
 use Rattle.law_typing.specs.Laws.WellRead.{WellRead}
 use Rattle.law_typing.specs.Verdict.Accepted.{Accepted}
 use Rattle.peer_shapes.specs.MethodViews.{is_plain, is_plain_method, is_plain_shape}
-use Rattle.law_typing.specs.Good.{Good}
 use Rattle.law_typing.specs.Good.Agenda.{AgendaGood}
 use Rattle.law_typing.specs.Good.ComingDown.{none}
 use Rattle.law_typing.specs.Good.Programs.{CallingGood}

@@ -10,17 +10,17 @@ use Rattle.ui_machine.specs.Seq.{read, write}
 use Rattle.ui_machine.specs.State.Config.{Config}
 use Rattle.ui_machine.specs.State.Peers.{Peer, PeerState, Reply, no_peer}
 use Rattle.ui_machine.specs.State.References.{mentions, next_unheld}
-use Rattle.ui_machine.specs.State.Tasks.{Call, Calling, Emitting, Task}
+use Rattle.ui_machine.specs.State.Tasks.{Call, Calling, Task}
 use Rattle.ui_machine.specs.Steps.{act, asked_after, asked_first, first_of, question, step}
 use Rattle.law_peers.specs.Forgetting.{forgotten_at, forgotten_reply}
-use Rattle.law_peers.specs.PeerLaws.{peer_in, replied_in, shut}
+use Rattle.law_peers.specs.PeerLaws.{peer_in, shut}
 use Rattle.law_peers.proofs.ForgettingProofs.{step_forgets}
 use Rattle.law_peers.proofs.RunLives.{reaches_lives}
 use Rattle.machine_laws.specs.GoneLaws.{Gone, is_next, pruned, pruned_at}
 use Rattle.engine_world.specs.Standing.{gone_handlers, without_gone}
 use Rattle.native_peers.specs.Seen.{Relations, Seen}
 use Rattle.engine_pools.specs.Following.{Arrives, Breaks, Follows, Point, Stands}
-use Rattle.engine_pools.specs.PoolView.{GivenBy, Knows, OneMore, Takes, one_more, seen_of}
+use Rattle.engine_pools.specs.PoolView.{GivenBy, Knows, Takes, one_more, seen_of}
 use Rattle.engine_pools.specs.Safety.{ComesOfSafe, IsApt, NoneUnheld}
 use Rattle.engine_pools.proofs.Lifting.{lift_step}
 use Rattle.engine_pools.proofs.Living.{map_read, no_seen, one_replies, read_at, read_set, read_unset, seen_at, shut_seen}

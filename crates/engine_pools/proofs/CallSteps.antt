@@ -1,11 +1,10 @@
 -- The step of a due call whose peer is open: how the machine follows it.
-use Rattle.std.proofs.Common.{◌≡◌, refl, ap, sym, ◌∙◌, subst, ℕ, true, List, [], ◌∷◌, map, Option, None, Some, Ok, Err}
-use Rattle.std.specs.Prelude.{slice_get, slice_set}
+use Rattle.std.proofs.Common.{◌≡◌, refl, ap, sym, ◌∙◌, ℕ, true, List, ◌∷◌, map, Option, None, Some, Ok, Err}
 use Rattle.ui_machine.specs.declared.arm.Arm.{Arm}
 use Rattle.ui_machine.specs.Definition.{Definition}
 use Rattle.ui_machine.specs.Definition.Values.{Value}
 use Rattle.ui_machine.specs.Instructions.Peers.{calling_on}
-use Rattle.ui_machine.specs.State.Config.{Config, World, is_asked, peer_state}
+use Rattle.ui_machine.specs.State.Config.{Config, is_asked, peer_state}
 use Rattle.ui_machine.specs.State.Peers.{Reply}
 use Rattle.ui_machine.specs.State.Tasks.{Call, Calling, Task}
 use Rattle.ui_machine.specs.Steps.{act, left}

@@ -1,5 +1,5 @@
 -- Which peers a step closes: `dispose` and a finalisation close that of the object, and nothing else closes one.
-use Rattle.std.proofs.Common.{◌≡◌, refl, ap, sym, subst, ◌∙◌, ℕ, zero, suc, ◌+◌, ◌<◌, Bool, true, false, cond, not, List, [], ◌∷◌, ◌++◌, map, length, Option, None, Some, Ok, Err, arith}
+use Rattle.std.proofs.Common.{◌≡◌, refl, ap, sym, ◌∙◌, ℕ, zero, suc, ◌+◌, ◌<◌, Bool, true, false, cond, not, List, [], ◌∷◌, map, length, Option, None, Some, Ok, Err, arith}
 use Rattle.std.specs.List.{list_all}
 use Rattle.std.specs.Prelude.{IfOk, IfSome, codes, is_none, is_some, nat_lt, option_and_then, slice_get}
 use Rattle.ui_machine.specs.declared.arm.Arm.{Arm}
@@ -27,8 +27,8 @@ use Rattle.ui_machine.specs.Rules.Programs.{all_fit}
 use Rattle.ui_machine.specs.Rules.Sets.{is_disposed}
 use Rattle.ui_machine.specs.Rules.Transform.{kind_fits, same_bool}
 use Rattle.ui_machine.specs.Seq.{read, write}
-use Rattle.ui_machine.specs.State.Config.{Config, Left, Started, World, is_asked, peer_at, peer_state, said, starts, with_objects}
-use Rattle.ui_machine.specs.State.Objects.{class_in, living, object_at, put}
+use Rattle.ui_machine.specs.State.Config.{Config, Left, Started, World, is_asked, peer_at, peer_state, said, starts}
+use Rattle.ui_machine.specs.State.Objects.{class_in, living, object_at}
 use Rattle.ui_machine.specs.State.Peers.{Peer, PeerState, Reply, closed_peer, first_left, if_left, is_left, method_number, method_of, no_peer, peer_number}
 use Rattle.ui_machine.specs.State.References.{mentions, next_unheld}
 use Rattle.ui_machine.specs.State.Tasks.{Building, Call, Calling, Constructing, Frame, Item, Running, Task, makes}
@@ -36,9 +36,7 @@ use Rattle.ui_machine.specs.Steps.{act, first_of, left, most_steps, uncounted}
 use Rattle.law_peers.specs.Blind.{block_meets_peers, first_meets_peers, instruction_meets_peers, meets_peers, next_meets_peers, tasks_meet_peers}
 use Rattle.law_peers.specs.PeerLaws.{peer_in}
 use Rattle.law_peers.proofs.RunLives.{leaves_peers}
-use Rattle.law_peers.proofs.LifeProofs.{kept}
 use Rattle.engine_world.specs.ClosingView.{closed_with, open_peer}
-use Rattle.engine_world.specs.SeatView.{closed_at}
 use Rattle.engine_world.proofs.Floats.{bind_ok, if_ok_at}
 use Rattle.native_peers.specs.Seen.{Seen}
 use Rattle.engine_pools.specs.PoolView.{seen_of}

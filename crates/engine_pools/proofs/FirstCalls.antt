@@ -1,21 +1,23 @@
 -- A call that comes first, and what the engine knows of its reply.
-use Rattle.std.proofs.Common.{◌≡◌, refl, ap, sym, ◌∙◌, subst, ℕ, Bool, true, false, cond, List, [], ◌∷◌, map, Option, None, Some}
-use Rattle.std.specs.Prelude.{IsSome, IsSomeAnd, IsTrue, slice_get}
+use Rattle.std.proofs.Common.{◌≡◌, refl, ap, sym, ◌∙◌, subst, ℕ, Bool, true, false, cond, List, [], ◌∷◌, Option, None, Some}
+use Rattle.std.specs.Prelude.{IsSome, IsSomeAnd, IsTrue, is_some, option_map, slice_get}
 use Rattle.ui_machine.specs.Definition.{Definition}
 use Rattle.ui_machine.specs.Definition.Signals.{Method}
 use Rattle.ui_machine.specs.Definition.Values.{Value}
 use Rattle.ui_machine.specs.Seq.{read}
-use Rattle.ui_machine.specs.State.Config.{World, is_asked, peer_state}
+use Rattle.ui_machine.specs.State.Config.{Config, World, is_asked, peer_state}
 use Rattle.ui_machine.specs.State.Handlers.{Handler}
 use Rattle.ui_machine.specs.State.Peers.{PeerState, Question, Reply}
 use Rattle.ui_machine.specs.State.Tasks.{Call, Calling, Task}
-use Rattle.ui_machine.specs.Steps.{asked_first}
+use Rattle.ui_machine.specs.State.References.{mentions, next_unheld}
+use Rattle.ui_machine.specs.Steps.{asked_after, asked_first, question}
 use Rattle.law_peers.specs.Forgetting.{forgotten_reply, forgotten_state}
 use Rattle.native_peers.specs.Seen.{Asks, Relations, Seen}
 use Rattle.engine_world.specs.TaskView.{task_of}
 use Rattle.engine_world.specs.declared.task.Task as code
 use Rattle.engine_world.specs.declared.task.Task.TheVariants as tasks
-use Rattle.engine_pools.specs.PoolView.{IsOpen, Knows, MayBeAsked, Takes, forgotten_seen, seen_of}
+use Rattle.engine_pools.specs.Safety.{NoneUnheld}
+use Rattle.engine_pools.specs.PoolView.{Knows, MayBeAsked, Takes, forgotten_seen}
 use Rattle.engine_pools.proofs.Living.{map_read, no_seen, read_at, seen_at}
 
 -- a call that asks is of an open peer
@@ -75,3 +77,23 @@ reply_known w call old new may answer knows asked =
       state = s;
     }) (after ∙ known)
     ∙ ap (λ (s : PeerState). record { question = record { peer = call.peer; state = s; method = call.method; args = call.args }; answer = answer; state = peer_state w call.peer }) known
+
+-- a step that asks is of the first task, where nothing is to be finalised
+pub asked_first_so : (d : Definition) (c : Config) → is_some (question d c) ≡ true → NoneUnheld d c × IsSome (asked_first c.world c.agenda)
+asked_first_so d c asks = by (next_unheld (mentions d c) c.world.objects) refl asks
+  where
+    some : (q : Option Question) → is_some q ≡ true → IsSome q
+    some None is = absurd (cc is)
+    some (Some q) is = refl
+
+    by : (o : Option ℕ) → next_unheld (mentions d c) c.world.objects ≡ o → is_some (asked_after c o) ≡ true → NoneUnheld d c × IsSome (asked_first c.world c.agenda)
+    by None is asks = (is, some (asked_first c.world c.agenda) asks)
+    by (Some id) is asks = absurd (cc asks)
+
+pub mapped_some : {A B : Type 0} (f : A → B) (o : Option A) → is_some o ≡ is_some (option_map f o)
+mapped_some f None = refl
+mapped_some f (Some x) = refl
+
+pub none_asked : (q : Option Question) → false ≡ is_some q → q ≡ None
+none_asked None is = refl
+none_asked (Some x) is = absurd (cc is)

@@ -1,5 +1,5 @@
 -- What keeps a session from ever being stuck: each dispatch begins where a law says so, and leaves the world at rest.
-use Rattle.std.proofs.Common.{◌≡◌, ℕ, List, [], ◌∷◌, Option, None, Some, false, subst, sym}
+use Rattle.std.proofs.Common.{◌≡◌, ℕ, List, [], ◌∷◌, None, Some, false, subst}
 use Rattle.ui_machine.specs.Definition.{Definition}
 use Rattle.ui_machine.specs.Rules.Events.{names_released, refusal}
 use Rattle.ui_machine.specs.Rules.MainLoop.{turned}
@@ -30,7 +30,7 @@ use Rattle.law_sessions.proofs.DispatchProofs.{both_fit}
 use Rattle.law_sessions.proofs.EntryProofs.{IsPrinted, build_printed, printed_few, request_printed, source_printed}
 use Rattle.law_sessions.proofs.KeepsProofs.{keeps}
 use Rattle.law_sessions.proofs.SessionProofs.{not_released, request_keeps, runs_source, source_keeps, turns}
-use Rattle.engine_pools.specs.Promises.{Begins, BuildKeeps, EventKeeps, Rests, by_request, by_source}
+use Rattle.engine_pools.specs.Promises.{BuildKeeps, EventKeeps, Rests, by_request, by_source}
 use Rattle.engine_pools.specs.Safety.{IsSafe}
 use Rattle.engine_pools.proofs.Apt.{asks_on}
 

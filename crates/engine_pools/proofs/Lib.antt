@@ -15,3 +15,11 @@ pub mod Fitting
 pub mod Replies
 pub mod FirstCalls
 pub mod CallSteps
+pub mod Quiet
+pub mod Falls
+pub mod Joining
+pub mod Acts
+pub mod LeftClosings
+pub mod Stepping
+pub mod Turning
+pub mod StepProofs

@@ -1,5 +1,5 @@
 -- A run over peers of which what they count and keep is forgotten is one over these peers.
-use Rattle.std.proofs.Common.{◌≡◌, refl, ap, sym, ◌∙◌, subst, ℕ, zero, suc, List, [], ◌∷◌, ◌++◌, Option, None, Some, Ok, Err}
+use Rattle.std.proofs.Common.{◌≡◌, refl, sym, ◌∙◌, subst, ℕ, zero, suc, List, [], ◌++◌, Option, None, Some, Ok, Err}
 use Rattle.std.specs.Prelude.{option_map}
 use Rattle.ui_machine.specs.Definition.{Definition}
 use Rattle.ui_machine.specs.Outcome.{Answer}

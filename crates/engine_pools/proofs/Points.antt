@@ -1,18 +1,15 @@
 -- How the machine follows from point to point.
-use Rattle.std.proofs.Common.{◌≡◌, refl, ap, sym, ◌∙◌, subst, ℕ, zero, suc, Bool, true, false, cond, List, [], ◌∷◌, ◌++◌, map, length, Option, None, Some, Ok, Err}
-use Rattle.std.specs.Prelude.{nat_eq, option_map, slice_get, slice_set}
+use Rattle.std.proofs.Common.{◌≡◌, refl, ap, sym, ◌∙◌, subst, ℕ, List, [], ◌∷◌, ◌++◌, map, length}
 use Rattle.std.proofs.lemmas.List.{length-map}
-use Rattle.ui_machine.specs.declared.arm.Halt.TheVariants as halts
 use Rattle.ui_machine.specs.Definition.{Definition}
-use Rattle.ui_machine.specs.Runs.{Fits, Halts, HasEnded, Reaches}
+use Rattle.ui_machine.specs.Runs.{Fits, HasEnded, Reaches}
 use Rattle.ui_machine.specs.Seq.{read}
 use Rattle.ui_machine.specs.State.Config.{Config, World}
-use Rattle.ui_machine.specs.State.Peers.{Peer, PeerState, Reply, no_peer}
+use Rattle.ui_machine.specs.State.Peers.{Peer, Reply, no_peer}
 use Rattle.ui_machine.specs.State.Tasks.{Task}
-use Rattle.law_peers.specs.Forgetting.{forgotten, forgotten_at, forgotten_in, forgotten_reply}
-use Rattle.law_peers.specs.PeerLaws.{Lives, peer_in}
+use Rattle.law_peers.specs.Forgetting.{forgotten, forgotten_at}
+use Rattle.law_peers.specs.PeerLaws.{peer_in}
 use Rattle.law_peers.proofs.RunLives.{reaches_lives}
-use Rattle.law_sessions.specs.Dispatches.{Throughout}
 use Rattle.law_sessions.proofs.SafeProofs.{safe_stays}
 use Rattle.law_typing.specs.Verdict.Accepted.{Each}
 use Rattle.machine_laws.specs.GoneLaws.{pruned}
@@ -20,8 +17,8 @@ use Rattle.engine_world.specs.Standing as engine
 use Rattle.engine_world.specs.Standing.{gone_handlers, without_gone}
 use Rattle.native_peers.specs.Seen.{Relations, SameRelations, Seen}
 use Rattle.engine_pools.specs.Following.{Arrives, Breaks, Follows, Halting, Point, Stands}
-use Rattle.engine_pools.specs.PoolView.{GivenBy, IsLeft, Knows, OneMore, as_shown, closed_in, forgotten_seen, one_more, seen_of, with_seen, world_at}
-use Rattle.engine_pools.specs.Safety.{AsksAptly, ComesOfSafe, IsSafe}
+use Rattle.engine_pools.specs.PoolView.{GivenBy, IsLeft, Knows, Replied, as_shown, forgotten_seen, one_more, seen_of, with_seen, world_at}
+use Rattle.engine_pools.specs.Safety.{ComesOfSafe}
 use Rattle.engine_pools.proofs.Lifting.{lift}
 use Rattle.engine_pools.proofs.Living.{all_seen, map_read, no_seen, none_replies, same_lists, seen_at, shut_seen}
 use Rattle.engine_pools.proofs.Reaching.{reaches_here, reaches_on}
@@ -44,6 +41,19 @@ given_before may later same (r ∷ rs) given = (
   record { allowed = (same r.question.peer r.question.state r.question.method r.question.args r.answer r.state).1 given.0.allowed; fits = given.0.fits },
   given_before may later same rs given.1,
 )
+
+pub replied_before : {may later : Relations} {P Q : List Reply → Type 0} → SameRelations may later → ((rs : List Reply) → P rs → Q rs) → Replied later P → Replied may Q
+replied_before {may} {later} same on r = record { replies = r.replies; given = given_before may later same r.replies r.given; so = on r.replies r.so }
+
+-- one after the other
+pub same_on : {a b c : Relations} → SameRelations a b → SameRelations b c → SameRelations a c
+same_on first later k s m args answer t =
+    let p = first k s m args answer t in
+    let q = later k s m args answer t in
+    (λ x. q.0 (p.0 x), λ x. p.1 (q.1 x))
+
+pub same_here : (a : Relations) → SameRelations a a
+same_here a k s m args answer t = (λ x. x, λ x. x)
 
 -- ** peers
 
@@ -142,6 +152,9 @@ module _ (d : Definition) where
   pub follows_before : {may later : Relations} {p q : Point} → SameRelations may later → Follows d later p q → Follows d may p q
   follows_before {may} {later} same f = record { replies = f.replies; given = given_before may later same f.replies f.given; arrives = f.arrives }
 
+  pub follows_to : {may : Relations} {p : Point} {pool : List Seen} {v x : Config} → v ≡ x → Follows d may p (record { pool = pool; view = v }) → Follows d may p (record { pool = pool; view = x })
+  follows_to {may} {p} {pool} same f = subst (λ (y : Config). Follows d may p (record { pool = pool; view = y })) same f
+
   -- what safe configurations lead to is safe
   pub safe_on : {may : Relations} {p q : Point} → ComesOfSafe d p → Follows d may p q → ComesOfSafe d q
   safe_on {may} from follows =
@@ -191,7 +204,7 @@ module _ (d : Definition) where
     breaks = λ c stands. let x = first.arrives c stands in halting_on x.reached (later.breaks x.at x.stands);
   }
 
-  left_before : {may later : Relations} {at : Config} {pool : List Seen} → SameRelations may later → IsLeft d later at pool → IsLeft d may at pool
+  pub left_before : {may later : Relations} {at : Config} {pool : List Seen} → SameRelations may later → IsLeft d later at pool → IsLeft d may at pool
   left_before same (as_shown seen) = as_shown seen
   left_before {may} {later} same (one_more o) =
       one_more (record { reply = o.reply; given = (given_before may later same (o.reply ∷ []) (o.given, tt)).0; asks = o.asks; peers = o.peers })
@@ -202,6 +215,10 @@ module _ (d : Definition) where
     given = given_before may later same b.replies b.given;
     breaks = λ c stands. let h = b.breaks c stands in record { halts = h.halts; left = left_before same h.left };
   }
+
+  pub halting_before : {may later : Relations} {replies : List Reply} {c : Config} {pool : List Seen} {shown : List (List ℕ)} → SameRelations may later
+      → Halting d later replies c pool shown → Halting d may replies c pool shown
+  halting_before same h = record { halts = h.halts; left = left_before same h.left }
 
   -- ** where a dispatch begins and ends
 

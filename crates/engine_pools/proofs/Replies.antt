@@ -1,12 +1,12 @@
 -- A box that was asked, as a reply of the machine.
-use Rattle.std.proofs.Common.{◌≡◌, refl, ap, sym, ◌∙◌, ℕ, zero, suc, Bool, List, [], ◌∷◌, map, Option, None, Some}
+use Rattle.std.proofs.Common.{◌≡◌, refl, ap, sym, ◌∙◌, ℕ, zero, suc, List, [], ◌∷◌, map, Option, Some}
 use Rattle.std.specs.Prelude.{slice_get, slice_set}
 use Rattle.ui_machine.specs.Definition.Signals.{Method}
 use Rattle.ui_machine.specs.Definition.Values.{Value}
 use Rattle.ui_machine.specs.State.Config.{World}
 use Rattle.ui_machine.specs.State.Peers.{Reply}
 use Rattle.native_peers.specs.Seen.{Asks, Relations, Seen}
-use Rattle.engine_pools.specs.PoolView.{GivenBy, Knows, forgotten_seen, seen_of}
+use Rattle.engine_pools.specs.PoolView.{GivenBy, Knows, forgotten_seen}
 use Rattle.engine_pools.proofs.Fitting.{answer_fits}
 
 forgotten_set : (pool : List Seen) (k : ℕ) (s t : Seen) → slice_get pool k ≡ Some s → forgotten_seen t ≡ forgotten_seen s → map forgotten_seen (slice_set pool k t) ≡ map forgotten_seen pool

@@ -1,5 +1,5 @@
 -- A world at rest stays so where what its peers count and keep is forgotten, and where it is remembered.
-use Rattle.std.proofs.Common.{◌≡◌, refl, ap, sym, ◌∙◌, subst, ℕ, zero, suc, Bool, true, false, cond, List, [], ◌∷◌, map, Option, None, Some}
+use Rattle.std.proofs.Common.{◌≡◌, refl, ap, sym, ◌∙◌, subst, ℕ, suc, cond, List, [], ◌∷◌, map, Option, None, Some}
 use Rattle.std.specs.Prelude.{option_map, slice_get}
 use Rattle.std.proofs.lemmas.Option.{slice_get-map}
 use Rattle.ui_machine.specs.Definition.{Definition}
@@ -11,10 +11,13 @@ use Rattle.ui_machine.specs.State.Objects.{Object}
 use Rattle.ui_machine.specs.State.Peers.{Peer, peer_number}
 use Rattle.law_peers.specs.Forgetting.{forgotten, forgotten_in}
 use Rattle.law_static.proofs.SourceProofs.{each_to}
-use Rattle.law_typing.specs.Good.Objects.{ObjectGood, PeerGood, PoolGood}
-use Rattle.law_typing.specs.Good.Standing.{standing}
+use Rattle.law_typing.specs.Good.Objects.{PeerGood, PoolGood}
 use Rattle.law_typing.specs.Laws.StepsKeepGood.{IsResting}
-use Rattle.law_typing.specs.Verdict.Accepted.{Accepted, Each}
+use Rattle.law_typing.specs.Verdict.Accepted.{Accepted}
+use Rattle.native_peers.specs.Seen.{Seen}
+use Rattle.engine_pools.specs.PoolView.{Knows, world_at}
+use Rattle.engine_pools.specs.Promises.{Rests}
+use Rattle.engine_pools.proofs.Points.{forgets_to}
 
 -- a peer that may stand in another's place
 record Alike (p q : Peer) : Type 0 where
@@ -104,3 +107,12 @@ forgotten_rests d a w r = rests_still d w.peers (map forgotten w.peers) (forgets
 
 pub remembered_rests : (d : Definition) (a : Accepted d) (w : World) → IsResting d a (forgotten_in w) → IsResting d a w
 remembered_rests d a w r = rests_still d (map forgotten w.peers) w.peers (remembers w.peers) a (forgotten_in w) refl r
+
+-- beside a pool that is known
+pub rests_there : (d : Definition) (pool : List Seen) (w : World) → Knows w pool → Rests d w → Rests d (world_at pool w)
+rests_there d pool w knows rests a =
+    remembered_rests d a (world_at pool w) (subst (λ (l : List Peer). IsResting d a (record w { peers = l })) (sym (forgets_to pool w.peers knows)) (rests a))
+
+pub rests_here : (d : Definition) (pool : List Seen) (w : World) → Knows w pool → Rests d (world_at pool w) → Rests d w
+rests_here d pool w knows rests a =
+    subst (λ (l : List Peer). IsResting d a (record w { peers = l })) (forgets_to pool w.peers knows) (forgotten_rests d a (world_at pool w) (rests a))

@@ -1,6 +1,6 @@
 -- How the machine follows the engine: it passes over the turns of handlers that are gone or blocked, and of bindings that set or have ended,
 -- and then does the same step.
-use Rattle.std.proofs.Common.{◌≡◌, ◌∙◌, refl, sym, ap, subst, ℕ, Bool, true, false, cond, map, List, [], ◌∷◌, ◌++◌, Option, None, Some, Ok, Err}
+use Rattle.std.proofs.Common.{◌≡◌, ◌∙◌, refl, sym, ap, subst, ℕ, Bool, true, false, cond, List, [], ◌∷◌, ◌++◌, Option, None, Some, Ok, Err}
 use Rattle.std.specs.Prelude.{IfOk, slice_get, ◌||◌}
 use Rattle.ui_machine.specs.declared.arm.Arm.{Arm}
 use Rattle.ui_machine.specs.declared.arm.Arm.TheVariants as arms
@@ -21,7 +21,7 @@ use Rattle.ui_machine.specs.State.References.{mentions, next_unheld}
 use Rattle.ui_machine.specs.State.Tasks.{Building, Emission, Emitting, Item, PlanEntry, Task, Transferring, binds, class_handler, handler, transfer}
 use Rattle.ui_machine.specs.Steps.{act, asked_after, asked_first, before, first_of, question, step, uncounted}
 use Rattle.machine_laws.specs.FrontLaws.{mapped}
-use Rattle.machine_laws.specs.GoneLaws.{AreStillGone, Gone, gone_in, is_next, makes_binding, pruned, pruned_at}
+use Rattle.machine_laws.specs.GoneLaws.{AreStillGone, Gone, gone_in, is_next, makes_binding, pruned_at}
 use Rattle.machine_laws.proofs.GoneProofs.{pruned_again, question_does_without, step_does_without, unheld_as}
 use Rattle.machine_laws.proofs.KeptSteps.{steps_keep_gone}
 use Rattle.signal_core.specs.Laws.{is_passed_over}
@@ -209,7 +209,7 @@ module _ (d : Definition) where
     first_apart : (m : Config) → is_next (gone_handlers m.world) (at_first m).agenda ≡ false
     first_apart m = first_stands m.world m.agenda
 
-    first_none : NoneUnheld d (at_first c)
+    pub first_none : NoneUnheld d (at_first c)
     first_none = first_holds c.world c.agenda c.counted none
 
     acts_first : step d None (at_first c) ≡ act d c.world None (with_first c.world c.agenda) c.counted

@@ -1,12 +1,10 @@
 -- Which peer a task closes.
-use Rattle.std.specs.Prelude.{ℕ, Bool, true, false, Err, List, [], ◌∷◌, None, Ok, Option, Some, slice_get}
+use Rattle.std.specs.Prelude.{ℕ, Bool, true, false, Err, List, ◌∷◌, None, Ok, Option, Some, slice_get}
 use Rattle.ui_machine.specs.Definition.{Definition}
 use Rattle.ui_machine.specs.Definition.Programs.{Block, Instruction}
 use Rattle.ui_machine.specs.Definition.Programs as words
-use Rattle.ui_machine.specs.Instructions.Jumps.{block_in, in_pass, past}
-use Rattle.ui_machine.specs.Instructions.Registers.{operand_in}
+use Rattle.ui_machine.specs.Instructions.Jumps.{block_in, in_pass}
 use Rattle.ui_machine.specs.Outcome.{Answer}
-use Rattle.ui_machine.specs.State.Config.{World}
 use Rattle.ui_machine.specs.State.Peers.{Peer}
 use Rattle.ui_machine.specs.State.Tasks.{Frame, Running, Task}
 use Rattle.engine_world.specs.SeatView.{closed_at}

@@ -3,5 +3,10 @@ pub mod Following
 pub mod Safety
 pub mod Promises
 pub mod ClosingTasks
+pub mod TaskClosings
+pub mod QuietSteps
 pub mod Stepped
 pub mod CallPoints
+pub mod Dispatched
+pub mod Ways
+pub mod TurnView

@@ -14,7 +14,7 @@ use g_values::Value;
 use native_peers::{Peer, PeerPool};
 
 /// Asks the peer of a due call, which is open. A fault is no value.
-pub fn ask(pool: &mut PeerPool, call: &DueCall) -> Option<Value>
+pub(crate) fn ask(pool: &mut PeerPool, call: &DueCall) -> Option<Value>
     requires asked { IsAskable (seen (λ p. (⟦<dyn Peer as Peer>⟧ p.peer.vtable).state p.peer.value) (entries pool.now)) call.now.peer call.now.method (map value_view call.now.args.items) }
     ensures asks { Asks call.now.peer
         (seen (λ p. (⟦<dyn Peer as Peer>⟧ p.peer.vtable).state p.peer.value) (entries pool.old)) (seen (λ p. (⟦<dyn Peer as Peer>⟧ p.peer.vtable).state p.peer.value) (entries pool.new))
@@ -50,7 +50,7 @@ fn is_due(engine: &Engine, pool: &PeerPool, number: usize) -> bool
 }
 
 /// Closes the box of the peer that a step has closed, if it has closed one: the engine has left its number, and knows it to be closed.
-pub fn close_due(engine: &mut Engine, pool: &mut PeerPool)
+pub(crate) fn close_due(engine: &mut Engine, pool: &mut PeerPool)
     ensures closed { seen (λ p. (⟦<dyn Peer as Peer>⟧ p.peer.vtable).state p.peer.value) (entries pool.new)
         ≡ closed_in (due (world_of engine.old.world) (seen (λ p. (⟦<dyn Peer as Peer>⟧ p.peer.vtable).state p.peer.value) (entries pool.old)) engine.old.closing)
         (seen (λ p. (⟦<dyn Peer as Peer>⟧ p.peer.vtable).state p.peer.value) (entries pool.old)) }

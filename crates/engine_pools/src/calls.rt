@@ -1,34 +1,33 @@
 //! Due calls of open peers: the peer is asked, and the program is given what it answers.
 
-ghost use Rattle.std.specs.Prelude.{◌≡◌, true, OnErr, OnOk};
+ghost use Rattle.std.specs.Prelude.{◌≡◌, MatchOption, None, true, is_some, OnErr, OnOk};
 ghost use Rattle.ui_machine.specs.State.Config.{is_asked};
 ghost use Rattle.ui_machine.specs.State.References.{in_task, same};
 ghost use Rattle.ui_machine.specs.State.Tasks.{Calling};
 ghost use Rattle.native_peers.specs.Pool.{entries, relations, seen};
 ghost use Rattle.native_peers.specs.Seen.{SameRelations};
-ghost use Rattle.engine_world.specs.Counting.{Counts};
+ghost use Rattle.engine_world.specs.Counting.{Counts, nothing};
+ghost use Rattle.ui_machine.specs.Steps.{question};
 ghost use Rattle.engine_world.specs.EngineView.{config_of};
 ghost use Rattle.engine_world.specs.TaskView.{call_of};
 ghost use Rattle.engine_world.specs.View.{world_of};
-ghost use Rattle.engine_pools.specs.CallPoints.{calling_point, calling_view};
+ghost use Rattle.engine_pools.specs.CallPoints.{Concludes, TakesCall, calling_point, calling_view};
 ghost use Rattle.engine_pools.specs.Following.{Breaks, Follows};
 ghost use Rattle.engine_pools.specs.Safety.{ComesOfSafe, NoneUnheld};
 
 use crate::boxes::ask;
 use definitions::Definition;
-use engine_tasks::calls::answer;
+use engine_tasks::calls::{answer, question};
 use engine_world::engine::Engine;
-use engine_world::task::DueCall;
+use engine_world::references::let_go_any;
+use engine_world::task::{DueCall, Task};
 use native_peers::{Peer, PeerPool};
 use std::alloc::AllocError;
 use ui_machine::Halt;
 
-/// Asks the open peer of a due call, and gives the program what it answers. No run of the machine from there may be stuck.
-///
-/// # Errors
-///
-/// `AllocError` if no memory is found: then the peer has replied, and no line tells of it.
-pub fn ask_for(
+// Asks the open peer of a due call, and gives the program what it answers. Where no memory is found the peer has replied, and no line tells of
+// it.
+fn ask_for(
     engine: &mut Engine,
     definition: &Definition,
     pool: &mut PeerPool,
@@ -45,6 +44,8 @@ pub fn ask_for(
     ensures breaks { OnErr result (Breaks definition.now (relations (λ p. (⟦<dyn Peer as Peer>⟧ p.peer.vtable).moves p.peer.value) (entries pool.old))
         (calling_point definition.now (seen (λ p. (⟦<dyn Peer as Peer>⟧ p.peer.vtable).state p.peer.value) (entries pool.old)) engine.old call)
         (seen (λ p. (⟦<dyn Peer as Peer>⟧ p.peer.vtable).state p.peer.value) (entries pool.new)) (world_of engine.new.world).transcript) }
+    ensures concludes { OnOk result (Concludes definition.now engine.old call (config_of definition.now engine.new)) }
+    ensures quiet { OnErr result ((world_of engine.new.world).transcript ≡ (world_of engine.old.world).transcript) }
     ensures same { SameRelations (relations (λ p. (⟦<dyn Peer as Peer>⟧ p.peer.vtable).moves p.peer.value) (entries pool.old)) (relations (λ p. (⟦<dyn Peer as Peer>⟧ p.peer.vtable).moves p.peer.value) (entries pool.new)) }
 {
     let value = ask(pool, &call);
@@ -53,4 +54,70 @@ pub fn ask_for(
         Err(Halt::OutOfMemory) => Err(AllocError),
         Err(Halt::Stuck(_)) => unreachable!(),
     }
+}
+
+// Whether the next step asks a peer.
+fn asks(engine: &Engine, definition: &Definition) -> bool
+    requires counted { Counts definition.now nothing engine.now }
+    ensures { result ≡ is_some (question definition.now (config_of definition.now engine.now)) }
+{
+    // For the proof: the clauses speak of the definition.
+    let _ = definition;
+    match engine.world.table.next_unheld() {
+        Some(_) => false,
+        None => question(engine).is_some(),
+    }
+}
+
+/// Takes the first task if it is a call of an open peer, where nothing is to be finalised.
+pub(crate) fn take_call(engine: &mut Engine, definition: &Definition) -> Option<DueCall>
+    requires counted { Counts definition.now nothing engine.now }
+    ensures { MatchOption result ((engine.new ≡ engine.old) × (question definition.now (config_of definition.now engine.old) ≡ None))
+        (λ call. TakesCall definition.now engine.old call engine.new) }
+{
+    if !asks(engine, definition) {
+        return None;
+    }
+    let Some(task) = engine.stack.pop() else {
+        unreachable!();
+    };
+    let Task::Calling(call) = task else {
+        unreachable!();
+    };
+    Some(call)
+}
+
+/// Asks the open peer of a due call, gives the program what it answers, and lets the object of the call go. No run of the machine from there
+/// may be stuck.
+///
+/// # Errors
+///
+/// `AllocError` if no memory is found: then the peer has replied, and no line tells of it.
+pub(crate) fn answer_call(
+    engine: &mut Engine,
+    definition: &Definition,
+    pool: &mut PeerPool,
+    call: DueCall,
+) -> Result<(), AllocError>
+    requires safe { ComesOfSafe definition.now (calling_point definition.now (seen (λ p. (⟦<dyn Peer as Peer>⟧ p.peer.vtable).state p.peer.value) (entries pool.now)) engine.now call) }
+    requires none { NoneUnheld definition.now (calling_view definition.now engine.now call) }
+    requires asked { is_asked (world_of engine.now.world) call.peer ≡ true }
+    requires counted { Counts definition.now (λ o. in_task o (Calling (call_of call))) engine.now }
+    ensures counted { OnOk result (Counts definition.now nothing engine.new) }
+    ensures follows { OnOk result (Follows definition.now (relations (λ p. (⟦<dyn Peer as Peer>⟧ p.peer.vtable).moves p.peer.value) (entries pool.old))
+        (calling_point definition.now (seen (λ p. (⟦<dyn Peer as Peer>⟧ p.peer.vtable).state p.peer.value) (entries pool.old)) engine.old call)
+        (record { pool = (seen (λ p. (⟦<dyn Peer as Peer>⟧ p.peer.vtable).state p.peer.value) (entries pool.new)); view = config_of definition.now engine.new })) }
+    ensures breaks { OnErr result (Breaks definition.now (relations (λ p. (⟦<dyn Peer as Peer>⟧ p.peer.vtable).moves p.peer.value) (entries pool.old))
+        (calling_point definition.now (seen (λ p. (⟦<dyn Peer as Peer>⟧ p.peer.vtable).state p.peer.value) (entries pool.old)) engine.old call)
+        (seen (λ p. (⟦<dyn Peer as Peer>⟧ p.peer.vtable).state p.peer.value) (entries pool.new)) (world_of engine.new.world).transcript) }
+    ensures concludes { OnOk result (Concludes definition.now engine.old call (config_of definition.now engine.new)) }
+    ensures quiet { OnErr result ((world_of engine.new.world).transcript ≡ (world_of engine.old.world).transcript) }
+    ensures same { SameRelations (relations (λ p. (⟦<dyn Peer as Peer>⟧ p.peer.vtable).moves p.peer.value) (entries pool.old)) (relations (λ p. (⟦<dyn Peer as Peer>⟧ p.peer.vtable).moves p.peer.value) (entries pool.new)) }
+{
+    let object = call.object;
+    let Ok(()) = ask_for(engine, definition, pool, call) else {
+        return Err(AllocError);
+    };
+    let_go_any(&mut engine.world.table, Some(object));
+    Ok(())
 }

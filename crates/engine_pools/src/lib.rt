@@ -7,6 +7,12 @@
 
 mod boxes;
 mod calls;
+mod dispatches;
+mod program_steps;
+mod quiet_steps;
+mod runs;
+mod tasks;
+mod turns;
 
-pub use boxes::{ask, close_due};
-pub use calls::ask_for;
+pub use dispatches::{Reply, dispatch};
+pub use turns::{begin_turn, run_sources};

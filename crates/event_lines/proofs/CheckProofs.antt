@@ -1,5 +1,5 @@
 -- What a check comes to.
-use Rattle.std.proofs.Common.{◌≡◌, ℕ, Bool, true, false, List, [], ◌∷◌, ◌++◌, codes, String, Global, Option, Some, None, Result, Ok, Err, refl, sym, ap, subst, ◌∙◌, inl, inr}
+use Rattle.std.proofs.Common.{◌≡◌, ℕ, Bool, List, [], ◌∷◌, codes, String, Global, Option, None, Ok, refl, subst, inl, inr}
 use Rattle.std.specs.Prelude.{string_bytes, ◌⊎◌}
 use Rattle.ui_machine.specs.Definition.{Definition}
 use Rattle.law_typing.specs.Rules.Faults.{Fault}

@@ -1,17 +1,26 @@
 -- What a session's answers are to the lines that it hears.
-use Rattle.std.proofs.Common.{◌≡◌, ℕ, Bool, true, false, List, [], ◌∷◌, ◌++◌, length, drop, Option, None, Some, Ok, Err, refl, sym, ap, ◌∙◌, inl, inr}
+use Rattle.std.proofs.Common.{arith, nat_lt, ◌≡◌, ◌≤◌, ℕ, Bool, true, false, List, [], ◌∷◌, ◌++◌, length, drop, Option, None, Some, Ok, Err, refl, subst, sym, ap, ◌∙◌, inl, inr}
+use Rattle.std.proofs.lemmas.Bool.Decides.{nat_tests}
 use Rattle.ui_machine.specs.State.Tasks.{Event}
 use Rattle.ui_machine.specs.Rules.Events.{Refusal, gone, clock_back, refusal}
 use Rattle.builder_defs.specs.EventMeaning.{event_refusal, event_denoted, Fails}
 use Rattle.definition_format.specs.declared.event_faults.EventError.{EventError}
 use Rattle.definition_format.specs.declared.event_faults.EventError.TheVariants as errors
 use Rattle.ui_machine.specs.Prefix.{IsPrefix}
-use Rattle.ui_engine.specs.declared.dispatch.Reply.{Reply}
-use Rattle.ui_engine.specs.declared.session.SessionFault.{SessionFault}
-use Rattle.ui_engine.specs.declared.session.SessionFault.TheVariants as ends
-use Rattle.ui_engine.specs.SessionView.{SessionState, tally_of, AnswersBy, AnswersEvent}
+use Rattle.native_peers.specs.Seen.{Relations}
+use Rattle.engine_pools.specs.declared.dispatches.Reply.{Reply}
+use Rattle.engine_pools.specs.Ways.{tally_of}
+use Rattle.ui_engine.specs.declared.faults.SessionFault.{SessionFault}
+use Rattle.ui_engine.specs.declared.faults.SessionFault.TheVariants as ends
+use Rattle.ui_engine.specs.SessionView.{SessionState, AnswersBy, AnswersEvent}
+use Rattle.ui_machine.specs.Limits.{most_line_bytes, most_lines}
+use Rattle.event_lines.specs.EventFileRun as file_run
+use Rattle.event_lines.specs.EventFileRun.{LineComesTo, Meets, Outcome, is_blank, sort_of_line}
 use Rattle.event_lines.specs.LineOutcome.{outcome_of, reading_fault, dispatch_fault}
 use Rattle.event_lines.specs.Events.{Says, event_replies}
+use Rattle.event_lines.specs.Reading.{IsOf}
+use Rattle.event_lines.specs.declared.line_reader.Found.{Found}
+use Rattle.event_lines.specs.declared.line_reader.Found.TheVariants as founds
 
 drop_front : {A : Type 0} (xs ys : List A) → drop (length xs) (xs ++ ys) ≡ ys
 drop_front [] ys = refl
@@ -30,16 +39,16 @@ grown xs ys longer =
 abbrev since : SessionState → SessionState → List (List ℕ)
 since old new = drop (length old.world.transcript) new.world.transcript
 
-module _ (old : SessionState) (line : List ℕ) where
-  pub unread : (error : EventError) → Fails error (event_denoted old.definition line) → event_replies old line (outcome_of {T = Unit {0}} (Err (reading_fault error)) (since old old)) old
+module _ (may : Relations) (old : SessionState) (line : List ℕ) where
+  pub unread : (error : EventError) → Fails error (event_denoted old.definition line) → event_replies may old line (outcome_of {T = Unit {0}} (Err (reading_fault error)) (since old old)) old
   unread errors.OutOfMemory fails = inr (drop_all old.world.transcript, refl)
   unread (errors.Refused fault) fails = (inl (record { refusal = event_refusal fault; denotes = fails }, refl), refl)
 
   module _ (event : Event) (denotes : event_denoted old.definition line ≡ Ok event) (new : SessionState) (longer : IsPrefix old.world.transcript new.world.transcript) where
-    pub said_event : (reply : Reply) → AnswersEvent old.stopped (Ok reply) old event new → Says old line (since old new) new
+    pub said_event : (reply : Reply) → AnswersEvent may old.stopped (Ok reply) old event new → Says may old line (since old new) new
     said_event reply answers = by old.stopped answers
       where
-        on : (why : Option Refusal) → refusal old.world event ≡ why → AnswersBy why (Ok reply) old event new → Says old line (since old new) new
+        on : (why : Option Refusal) → refusal old.world event ≡ why → AnswersBy may why (Ok reply) old event new → Says may old line (since old new) new
         on (Some gone) why h = cc h.0
         on (Some clock_back) why h = cc h.0
         on None why h = record {
@@ -52,18 +61,18 @@ module _ (old : SessionState) (line : List ℕ) where
           goes_on = h.goes_on;
         }
 
-        by : (b : Bool) → AnswersEvent b (Ok reply) old event new → Says old line (since old new) new
+        by : (b : Bool) → AnswersEvent may b (Ok reply) old event new → Says may old line (since old new) new
         by true h = cc h.0
         by false h = on (refusal old.world event) refl h
 
-    pub halted : (fault : SessionFault) → AnswersEvent old.stopped (Err fault) old event new → event_replies old line (outcome_of {T = Unit {0}} (Err (dispatch_fault fault)) (since old new)) new
+    pub halted : (fault : SessionFault) → AnswersEvent may old.stopped (Err fault) old event new → event_replies may old line (outcome_of {T = Unit {0}} (Err (dispatch_fault fault)) (since old new)) new
     halted fault answers = by old.stopped fault answers
       where
         shows : new.world.transcript ≡ old.world.transcript ++ since old new
         shows = grown old.world.transcript new.world.transcript longer
 
-        on : (why : Option Refusal) (fault : SessionFault) → refusal old.world event ≡ why → AnswersBy why (Err fault) old event new
-            → event_replies old line (outcome_of {T = Unit {0}} (Err (dispatch_fault fault)) (since old new)) new
+        on : (why : Option Refusal) (fault : SessionFault) → refusal old.world event ≡ why → AnswersBy may why (Err fault) old event new
+            → event_replies may old line (outcome_of {T = Unit {0}} (Err (dispatch_fault fault)) (since old new)) new
         on (Some gone) ends.Released why h = (inr (record { event = event; why = gone; denotes = denotes; refuses = why }, refl), h.1)
         on (Some gone) ends.ClockBack why h = cc h.0
         on (Some gone) ends.Stopped why h = cc h.0
@@ -77,9 +86,21 @@ module _ (old : SessionState) (line : List ℕ) where
         on None ends.ClockBack why h = absurd h
         on None ends.Released why h = absurd h
 
-        by : (b : Bool) (fault : SessionFault) → AnswersEvent b (Err fault) old event new → event_replies old line (outcome_of {T = Unit {0}} (Err (dispatch_fault fault)) (since old new)) new
+        by : (b : Bool) (fault : SessionFault) → AnswersEvent may b (Err fault) old event new → event_replies may old line (outcome_of {T = Unit {0}} (Err (dispatch_fault fault)) (since old new)) new
         by true ends.Stopped h = inr (ap (since old) h.1 ∙ drop_all old.world.transcript, h.1)
         by true ends.OutOfMemory h = cc h.0
         by true ends.ClockBack h = cc h.0
         by true ends.Released h = cc h.0
         by false fault h = on (refusal old.world event) fault refl h
+
+-- a line that is neither blank nor past a limit is the session's to answer
+pub heard : (may : Relations) (old new : SessionState) (n : ℕ) (found : Found) (buffer line : List ℕ) (outcome : Outcome) → found ≡ founds.Whole → IsOf found buffer line → n ≤ most_lines → is_blank buffer ≡ false
+    → event_replies may old buffer outcome new → LineComesTo (event_replies may) old n line outcome new
+heard may old new n found buffer line outcome whole is few seen replies =
+    let of : (line ≡ buffer) × (length line ≤ most_line_bytes) = subst (λ (f : Found). IsOf f buffer line) whole is in
+    let short = of.1 in
+    let not_many : nat_lt most_lines n ≡ false = grind (arith, nat_tests, few) in
+    let not_long : nat_lt most_line_bytes (length line) ≡ false = grind (arith, nat_tests, short) in
+    let not_blank : is_blank line ≡ false = ap is_blank of.0 ∙ seen in
+    let event : sort_of_line n line ≡ file_run.event = rw (not_many, not_long, not_blank) refl in
+    inl (subst (λ f. Meets (event_replies may) f old line outcome new) (sym event) (subst (λ (l : List ℕ). event_replies may old l outcome new) (sym of.0) replies))

@@ -2,6 +2,8 @@ pub mod Pieces
 pub mod LineLemmas
 pub mod Runs
 pub mod EventLemmas
+pub mod Fronts
+pub mod Befores
 pub mod RunOver
 pub mod Openings
 pub mod CheckProofs

@@ -1,65 +1,123 @@
 -- How a run opens, and what follows.
-use Rattle.std.proofs.Common.{◌≡◌, ℕ, ◌+◌, ◌-◌, ◌/◌, Bool, true, false, List, [], ◌∷◌, ◌++◌, take, length, length-append, arith, append_assoc, append-nil, codes, String, Global, Option, Some, None, Result, Ok, Err, refl, sym, ap, subst, ◌∙◌, inl, inr}
+use Rattle.std.proofs.Common.{◌≡◌, ℕ, Bool, true, false, is_some, List, [], ◌∷◌, ◌++◌, map, take, length, length-append, arith, append_assoc, append-nil, String, Global, Option, Some, None, Result, Ok, Err, refl, sym, ap, subst, ◌∙◌, inl, inr}
 use Rattle.std.specs.Prelude.{IfSome, OnErr, string_bytes, ◌⊎◌}
 use Rattle.std.proofs.KnownBytes.{Appends-trans}
-use Rattle.ui_machine.specs.declared.arm.Halt.TheVariants as halts
 use Rattle.ui_machine.specs.Definition.{Definition}
-use Rattle.ui_machine.specs.Runs.{of_build, Carries, Halts}
+use Rattle.ui_machine.specs.Runs.{of_build, Carries}
+use Rattle.ui_machine.specs.State.Peers.{Peer, PeerState}
 use Rattle.builder_defs.specs.Denoted.{denoted}
-use Rattle.ui_engine.specs.declared.dispatch.Reply.{Reply}
-use Rattle.ui_engine.specs.declared.session.SessionFault.{SessionFault}
-use Rattle.ui_engine.specs.declared.session.SessionFault.TheVariants as faults
-use Rattle.ui_engine.specs.SessionView.{SessionState, without_lines, building, tally_of, Comes}
-use Rattle.builder_defs.specs.Refusals.{Refusal}
-use Rattle.builder_defs.specs.FaultText.{refusal_text}
+use Rattle.native_peers.specs.Matching.{as_peers}
+use Rattle.native_peers.specs.Pool.{entries, seen}
+use Rattle.native_peers.specs.Seen.{Relations, SameRelations, Seen}
+use Rattle.native_peers.specs.declared.entries.NamedPeer.{NamedPeer}
+use Rattle.native_peers.specs.declared.pools.PeerPool.{PeerPool}
+use Rattle.law_pools.specs.MatchedPools.{AllFree}
+use Rattle.engine_pools.specs.declared.dispatches.Reply.{Reply}
+use Rattle.ui_engine.specs.Endings.{closed_if, taken_closed}
+use Rattle.engine_pools.specs.Following.{Halting}
+use Rattle.engine_pools.specs.PoolView.{Replied, seen_of, with_seen}
+use Rattle.engine_pools.specs.Ways.{tally_of}
+use Rattle.engine_pools.proofs.Points.{with_seen_is}
+use Rattle.ui_engine.specs.declared.faults.SessionFault.{SessionFault}
+use Rattle.ui_engine.specs.declared.faults.SessionFault.TheVariants as faults
+use Rattle.ui_engine.specs.declared.session.Session.{Session}
+use Rattle.ui_engine.specs.SessionView.{SessionState, without_lines, building, state_at, Comes}
 use Rattle.event_lines.specs.declared.opening.Opening.TheVariants as code
-use Rattle.event_lines.specs.OpeningView.{IsOpening, Opened}
+use Rattle.event_lines.specs.OpeningView.{IsOpening, Leaves, Opened}
 use Rattle.event_lines.specs.CheckView.{IsUnread, IsRejected}
-use Rattle.law_pools.specs.Needs.{mismatch, missing}
+use Rattle.law_pools.specs.Needs.{Mismatch, mismatch}
 use Rattle.law_typing.specs.Verdict.Judges.{Judges}
-use Rattle.event_lines.specs.Texts.{joined, lines_text, mismatch_text, nothing_begun, build_stopped}
-use Rattle.event_lines.specs.EventFileRun.{EventFileRun, InStep, text_from}
+use Rattle.event_lines.specs.Texts.{lines_text, mismatch_text, nothing_begun, build_stopped}
+use Rattle.event_lines.specs.EventFileRun.{EventFileRun, InStep, Replies, text_from}
 use Rattle.event_lines.specs.Events.{event_replies}
 use Rattle.event_lines.proofs.Runs.{few_writes, few_after}
 use Rattle.event_lines.proofs.CheckProofs.{line_is, line_of}
+use Rattle.event_lines.proofs.Befores.{told_before}
 use Rattle.event_lines.proofs.RunOver.{runs_over}
 use Rattle.event_lines.specs.Writing.{Sent, Passes, Tears, Finishes, Sends}
 use Rattle.ui_machine.specs.Prefix.{IsPrefix}
 use Rattle.event_lines.specs.Lines.{lines_of}
-use Rattle.event_lines.specs.Opening.{Opening, refused, rejected, mismatched, unbegun, built, stopped, IsTaken, Opens, Concludes, Plays, Proceeds, Ran}
+use Rattle.event_lines.specs.Opening.{Opening, refused, rejected, mismatched, unbegun, built, stopped, left_by, IsTaken, Opens, Concludes, Ran}
 
-module _ (bytes : List ℕ) (d : Definition) (s : SessionState) (taken : IsTaken bytes d) where
-  pub opens_built : (reply : Reply) → Comes (Ok reply) (building d) d s → Opens bytes (built s)
-  opens_built reply comes = (
-    subst (λ (e : Definition). IsTaken bytes e) (sym comes.definition) taken,
-    record {
-      tally = tally_of reply;
-      carries = subst (λ (e : Definition). Carries e (of_build e []) [] (tally_of reply) s.world) (sym comes.definition) comes.leads;
-      goes_on = comes.goes_on;
-    },
-  )
+-- ** pools
 
-  pub opens_stopped : (fault : SessionFault) → Comes (Err fault) (building d) d s → Opens bytes (stopped s)
-  opens_stopped faults.OutOfMemory comes = (
-    subst (λ (e : Definition). IsTaken bytes e) (sym comes.definition) taken,
-    record {
-      breaks_off = subst (λ (e : Definition). Halts e [] (of_build e []) halts.OutOfMemory s.world.transcript) (sym comes.definition) comes.breaks_off;
-      stops = comes.stops;
-    },
-  )
-  opens_stopped faults.Stopped comes = absurd comes
-  opens_stopped faults.ClockBack comes = absurd comes
-  opens_stopped faults.Released comes = absurd comes
+-- what is seen of peers that no object has got
+pub seen_free : (pool : List Seen) → map seen_of (as_peers pool) ≡ pool
+seen_free [] = refl
+seen_free (s ∷ pool) = ap (λ (l : List Seen). s ∷ l) (seen_free pool)
 
--- the opening of what is not accepted
-pub opens_refused : (bytes : List ℕ) (text : String Global) → IsUnread bytes (string_bytes text) ⊎ IsRejected bytes (string_bytes text) → Opened bytes (code.Refused text)
-opens_refused bytes text (inl (refusal, denotes, is)) = record { opening = refused refusal; is = is; opens = denotes }
-opens_refused bytes text (inr (d, fault, denotes, judged, is)) = record { opening = rejected d fault; is = is; opens = (denotes, judged) }
+-- no object has got the peers of a pool
+pub all_free : (pool : List Seen) → AllFree (as_peers pool)
+all_free [] = tt
+all_free (s ∷ pool) = (refl, all_free pool)
 
--- the opening of what is accepted, but does not match
-pub opens_mismatched : (bytes : List ℕ) (d : Definition) (name : List ℕ) (text : String Global) → denoted bytes ≡ Ok d → Judges d None → mismatch d [] ≡ Some (missing name)
-    → string_bytes text ≡ mismatch_text (missing name) → Opened bytes (code.Refused text)
-opens_mismatched bytes d name text denotes judged lacks is = record { opening = mismatched d (missing name); is = is; opens = (denotes, judged, lacks) }
+-- the peers are closed that an object has got, by what is known of them
+closed_so : (pool : List Seen) (peers : List Peer) → taken_closed (with_seen pool peers) pool ≡ taken_closed peers pool
+closed_so [] [] = refl
+closed_so [] (p ∷ peers) = refl
+closed_so (s ∷ pool) [] = ap (λ (l : List Seen). s ∷ l) (closed_so pool [])
+closed_so (s ∷ pool) (p ∷ peers) = ap (λ (l : List Seen). closed_if (is_some p.holder) s ∷ l) (closed_so pool peers)
+
+-- so is the pool that a session leaves
+pub left_so : (pool left : List Seen) (s : SessionState) → left ≡ taken_closed s.world.peers pool → left ≡ left_by (state_at pool s).world
+left_so pool left s is = is ∙ sym (closed_so pool s.world.peers) ∙ ap (taken_closed (with_seen pool s.world.peers)) (sym (with_seen_is pool s.world.peers))
+
+-- ** openings
+
+module _ {I : Type 0} {Held : I → Type 0} (state_of : NamedPeer I Held → PeerState) (may : Relations) (peers : List Peer) (old : PeerPool I Held) (bytes : List ℕ) where
+  -- the opening of what is not accepted
+  pub opens_refused : (text : String Global) (pool : PeerPool I Held) → pool ≡ old → IsUnread bytes (string_bytes text) ⊎ IsRejected bytes (string_bytes text)
+      → Opened state_of may peers old bytes (code.Refused text pool)
+  opens_refused text pool same (inl (refusal, denotes, is)) = record { opening = refused refusal; is = is; opens = denotes; leaves = same }
+  opens_refused text pool same (inr (d, fault, denotes, judged, is)) = record { opening = rejected d fault; is = is; opens = (denotes, judged); leaves = same }
+
+  -- that for which no memory was found
+  pub opens_unbegun : (pool : PeerPool I Held) → pool ≡ old → Opened state_of may peers old bytes (code.Unbegun pool)
+  opens_unbegun pool same = record { opening = unbegun; is = tt; opens = tt; leaves = same }
+
+  module _ (d : Definition) (denotes : denoted bytes ≡ Ok d) (judged : Judges d None) where
+    -- that of what is accepted, but does not match
+    pub opens_mismatched : (text : String Global) (pool : PeerPool I Held) → pool ≡ old → (m : Mismatch) × (mismatch d peers ≡ Some m) × (string_bytes text ≡ mismatch_text m)
+        → Opened state_of may peers old bytes (code.Refused text pool)
+    opens_mismatched text pool same lack = record { opening = mismatched d lack.0; is = lack.2; opens = (denotes, judged, lack.1); leaves = same }
+
+    module _ (session : Session I Held) (taken : IsTaken bytes d peers) where
+      abbrev s : SessionState
+      s = state_at (seen state_of (entries session.pool)) session.core
+
+      -- that of what is built
+      pub opens_built : (reply : Reply) → Leaves state_of old (code.Built session) → Comes (Ok reply) (building may d peers) d s → Opened state_of may peers old bytes (code.Built session)
+      opens_built reply leaves comes = record {
+        opening = built s;
+        is = refl;
+        opens = (
+          subst (λ (e : Definition). IsTaken bytes e peers) (sym comes.definition) taken,
+          record {
+            tally = tally_of reply;
+            carries = subst (λ (e : Definition). Replied may (λ replies. Carries e (of_build e peers) replies (tally_of reply) s.world)) (sym comes.definition) comes.leads;
+            goes_on = comes.goes_on;
+          },
+        );
+        leaves = leaves;
+      }
+
+      -- that of what broke off in the build
+      pub opens_stopped : (fault : SessionFault) → Leaves state_of old (code.Stopped session) → Comes (Err fault) (building may d peers) d s → Opened state_of may peers old bytes (code.Stopped session)
+      opens_stopped faults.OutOfMemory leaves comes = record {
+        opening = stopped s;
+        is = refl;
+        opens = (
+          subst (λ (e : Definition). IsTaken bytes e peers) (sym comes.definition) taken,
+          record {
+            breaks_off = subst (λ (e : Definition). Replied may (λ replies. Halting e may replies (of_build e peers) (map seen_of s.world.peers) s.world.transcript)) (sym comes.definition) comes.breaks_off;
+            stops = comes.stops;
+          },
+        );
+        leaves = leaves;
+      }
+      opens_stopped faults.Stopped leaves comes = absurd comes
+      opens_stopped faults.ClockBack leaves comes = absurd comes
+      opens_stopped faults.Released leaves comes = absurd comes
 
 -- where what is said of a refusal is so
 pub on_err : {A E : Type 0} {P : Type 0} (r : Result A E) → P → OnErr r P
@@ -119,26 +177,19 @@ after_prefix : (moved left before more text : List ℕ) → before ≡ moved ++ 
 after_prefix moved left before more text e h =
     record { more = h.more; whole = ap (λ t. moved ++ t) h.whole ∙ sym (append_assoc moved (left ++ more) h.more) ∙ ap (λ t. t ++ h.more) (sym (left_and_more moved left before more e)) }
 
-module _ (s : SessionState) (lines : List (List ℕ)) (status : ℕ) (torn : Bool) (unread : Type 0) (first last : Option (List ℕ)) where
-  abbrev build : List ℕ
-  build = lines_text s.world.transcript
-
+module _ (replies : Replies SessionState) (old : SessionState) (build : List ℕ) (torn : Bool) (unread : Type 0) (first last : Option (List ℕ)) where
   -- the build's lines were said, and the events told
-  plays_on : (moved left text : List ℕ) (new : SessionState) → build ≡ moved ++ left → EventFileRun event_replies without_lines (without_lines s) left lines status torn unread first last text new
-      → Plays s lines status torn unread first last (moved ++ text)
-  plays_on moved left text new is file_run = record {
-    new = new;
-    file_run = record {
-      outcomes = file_run.outcomes;
-      told = file_run.told;
-      broke = λ failed. prefix_after moved left build (text_from 1 file_run.outcomes) text is (file_run.broke failed);
-      whole = λ fine. ap (λ t. moved ++ t) (file_run.whole fine) ∙ sym (left_and_more moved left build (text_from 1 file_run.outcomes) is);
-      over = file_run.over;
-      answer = file_run.answer;
-      order = by file_run.order;
-      heard = file_run.heard;
-    };
-    run = λ bytes taken stands. runs_over s lines file_run.outcomes new bytes taken stands file_run.told;
+  plays_on : (lines : List (List ℕ)) (status : ℕ) (moved left text : List ℕ) (new : SessionState) → build ≡ moved ++ left → EventFileRun replies without_lines old left lines status torn unread first last text new
+      → EventFileRun replies without_lines old build lines status torn unread first last (moved ++ text) new
+  plays_on lines status moved left text new is file_run = record {
+    outcomes = file_run.outcomes;
+    told = file_run.told;
+    broke = λ failed. prefix_after moved left build (text_from 1 file_run.outcomes) text is (file_run.broke failed);
+    whole = λ fine. ap (λ t. moved ++ t) (file_run.whole fine) ∙ sym (left_and_more moved left build (text_from 1 file_run.outcomes) is);
+    over = file_run.over;
+    answer = file_run.answer;
+    order = by file_run.order;
+    heard = file_run.heard;
   }
     where
       by : unread ⊎ InStep left file_run.outcomes first last text → unread ⊎ InStep build file_run.outcomes first last (moved ++ text)
@@ -151,106 +202,146 @@ module _ (s : SessionState) (lines : List (List ℕ)) (status : ℕ) (torn : Boo
         near = step.near;
       })
 
-module _ (s : SessionState) (torn : Bool) (unread : Type 0) (first last : Option (List ℕ)) (r r' : ℕ) (a b c : Sent) (p q : List ℕ) where
-  abbrev PlaysOver : ℕ → Sent → Type 0
-  PlaysOver status end = (input : List ℕ) × IfSome first (λ known. known ≡ input) × (text : List ℕ) × Proceeds (built s) (lines_of input) status torn unread first last text × Sends r r' a end text
+  module _ (r r' : ℕ) (a : Sent) where
+    -- what comes of the lines of the build and of the events
+    abbrev pub PlaysOver : ℕ → Sent → SessionState → Type 0
+    PlaysOver status end new =
+        (input : List ℕ) × IfSome first (λ known. known ≡ input) × (text : List ℕ) × EventFileRun replies without_lines old build (lines_of input) status torn unread first last text new × Sends r r' a end text
 
-  -- the build's lines broke off
-  pub breaks_off : r ≡ r' → p ≡ [] → torn ≡ true → unread → Tears a p b (lines_text s.world.transcript) → PlaysOver 4 b
-  breaks_off same none failed un h =
-      let input = any_bytes first in
-      let is : lines_text s.world.transcript ≡ h.moved ++ h.lost = ap (λ t. t ++ lines_text s.world.transcript) (sym none) ∙ h.whole in (
-        input.0,
-        input.1,
-        h.moved,
-        record {
-          new = without_lines s;
-          file_run = record {
-            outcomes = [];
-            told = refl;
-            broke = λ _. record { more = h.lost; whole = append-nil (lines_text s.world.transcript) ∙ is };
-            whole = λ fine. cc (failed, fine);
-            over = λ ne. absurd (ne refl);
-            answer = λ ne. absurd (ne refl);
-            order = inl un;
-            heard = λ _ fine. cc (failed, fine);
-          };
-          run = λ bytes taken stands. runs_over s (lines_of input.0) [] (without_lines s) bytes taken stands refl;
-        },
-        record { appends = h.appends; few = few_writes r r' a.writes b.writes (length h.moved) (omega (arith, same)) (omega (arith, h.full, same)) },
-      )
+    module _ (b : Sent) (p q : List ℕ) where
+      -- the build's lines broke off
+      pub breaks_off : r ≡ r' → p ≡ [] → torn ≡ true → unread → Tears a p b build → PlaysOver 4 b old
+      breaks_off same none failed un h =
+          let input = any_bytes first in
+          let is : build ≡ h.moved ++ h.lost = ap (λ t. t ++ build) (sym none) ∙ h.whole in (
+            input.0,
+            input.1,
+            h.moved,
+            record {
+              outcomes = [];
+              told = refl;
+              broke = λ _. record { more = h.lost; whole = append-nil build ∙ is };
+              whole = λ fine. cc (failed, fine);
+              over = λ ne. absurd (ne refl);
+              answer = λ ne. absurd (ne refl);
+              order = inl un;
+              heard = λ _ fine. cc (failed, fine);
+            },
+            record { appends = h.appends; few = few_writes r r' a.writes b.writes (length h.moved) (omega (arith, same)) (omega (arith, h.full, same)) },
+          )
 
-  -- they were said, and then the events told
-  pub plays : (status : ℕ) (new : SessionState) → p ≡ [] → Passes a p b q (lines_text s.world.transcript)
-      → (input : List ℕ) × IfSome first (λ known. known ≡ input) × (text : List ℕ) × EventFileRun event_replies without_lines (without_lines s) q (lines_of input) status torn unread first last text new × Sends r r' b c text
-      → PlaysOver status c
-  plays status new none h told =
-      let is : lines_text s.world.transcript ≡ h.moved ++ q = ap (λ t. t ++ lines_text s.world.transcript) (sym none) ∙ h.whole in (
-        told.0,
-        told.1,
-        h.moved ++ told.2,
-        plays_on s (lines_of told.0) status torn unread first last h.moved q told.2 new is told.3,
-        record {
-          appends = Appends-trans a.bytes b.bytes c.bytes h.moved told.2 h.appends told.4.appends;
-          few = rw (length-append h.moved told.2) (few_after r r' a.writes b.writes c.writes (length h.moved) (length told.2) h.full told.4.few);
-        },
-      )
+      -- they were said, and then the events told
+      pub plays : (c : Sent) (status : ℕ) (new : SessionState) → p ≡ [] → Passes a p b q build
+          → (input : List ℕ) × IfSome first (λ known. known ≡ input) × (text : List ℕ) × EventFileRun replies without_lines old q (lines_of input) status torn unread first last text new × Sends r r' b c text
+          → PlaysOver status c new
+      plays c status new none h told =
+          let is : build ≡ h.moved ++ q = ap (λ t. t ++ build) (sym none) ∙ h.whole in (
+            told.0,
+            told.1,
+            h.moved ++ told.2,
+            plays_on (lines_of told.0) status h.moved q told.2 new is told.3,
+            record {
+              appends = Appends-trans a.bytes b.bytes c.bytes h.moved told.2 h.appends told.4.appends;
+              few = rw (length-append h.moved told.2) (few_after r r' a.writes b.writes c.writes (length h.moved) (length told.2) h.full told.4.few);
+            },
+          )
 
 -- ** which opening the code's is
 
-open_stopped : (bytes : List ℕ) (session : SessionState) (opening : Opening) → IsOpening (code.Stopped session) opening → Opens bytes opening → Opens bytes (stopped session)
-open_stopped bytes session (refused r) is opens = absurd is
-open_stopped bytes session (rejected d fault) is opens = absurd is
-open_stopped bytes session (mismatched d m) is opens = absurd is
-open_stopped bytes session unbegun is opens = absurd is
-open_stopped bytes session (stopped s) is opens = rw is opens
-open_stopped bytes session (built s) is opens = absurd is
+module _ {I : Type 0} {Held : I → Type 0} (state_of : NamedPeer I Held → PeerState) (may : Relations) (peers : List Peer) (bytes : List ℕ) (session : Session I Held) where
+  abbrev state : SessionState
+  state = state_at (seen state_of (entries session.pool)) session.core
 
-open_built : (bytes : List ℕ) (session : SessionState) (opening : Opening) → IsOpening (code.Built session) opening → Opens bytes opening → Opens bytes (built session)
-open_built bytes session (refused r) is opens = absurd is
-open_built bytes session (rejected d fault) is opens = absurd is
-open_built bytes session (mismatched d m) is opens = absurd is
-open_built bytes session unbegun is opens = absurd is
-open_built bytes session (stopped s) is opens = absurd is
-open_built bytes session (built s) is opens = rw is opens
+  open_stopped : (opening : Opening) → IsOpening state_of (code.Stopped session) opening → Opens may peers bytes opening → Opens may peers bytes (stopped state)
+  open_stopped (refused r) is opens = absurd is
+  open_stopped (rejected d fault) is opens = absurd is
+  open_stopped (mismatched d m) is opens = absurd is
+  open_stopped unbegun is opens = absurd is
+  open_stopped (stopped s) is opens = subst (λ (t : SessionState). Opens may peers bytes (stopped t)) (sym is) opens
+  open_stopped (built s) is opens = absurd is
 
-module _ (bytes : List ℕ) (first last : Option (List ℕ)) (r r' : ℕ) (a c : Sent) (status : ℕ) (torn : Bool) (unread : Type 0) where
+  open_built : (opening : Opening) → IsOpening state_of (code.Built session) opening → Opens may peers bytes opening → Opens may peers bytes (built state)
+  open_built (refused r) is opens = absurd is
+  open_built (rejected d fault) is opens = absurd is
+  open_built (mismatched d m) is opens = absurd is
+  open_built unbegun is opens = absurd is
+  open_built (stopped s) is opens = absurd is
+  open_built (built s) is opens = subst (λ (t : SessionState). Opens may peers bytes (built t)) (sym is) opens
+
+module _ {I : Type 0} {Held : I → Type 0} (state_of : NamedPeer I Held → PeerState) (may : Relations) (old : PeerPool I Held) (bytes : List ℕ) (first last : Option (List ℕ)) (r r' : ℕ) (a c : Sent) (status : ℕ) (torn : Bool) (unread : Type 0) where
+  abbrev pool_seen : List Seen
+  pool_seen = seen state_of (entries old)
+
   abbrev pub IsWritten : List ℕ → ℕ → Type 0
   IsWritten whole answer = (out : List ℕ) × Concludes whole answer status torn out × Sends 0 0 a c out
 
-  abbrev pub RanOver : Type 0
-  RanOver = (input : List ℕ) × IfSome first (λ known. known ≡ input) × (text : List ℕ) × Ran bytes (lines_of input) status torn unread first last text × Sends r r' a c text
+  abbrev pub RanOver : List Seen → Type 0
+  RanOver left =
+      (input : List ℕ) × IfSome first (λ known. known ≡ input) × (text : List ℕ) × Ran may (as_peers pool_seen) left bytes (lines_of input) status torn unread first last text × Sends r r' a c text
 
-  pub ran_stopped : (session : SessionState) → Opened bytes (code.Stopped session) → unread → IsWritten (lines_text session.world.transcript ++ build_stopped) 3 → RanOver
-  ran_stopped session o un w =
+  -- nothing was begun with the pool
+  kept : (pool : PeerPool I Held) → pool ≡ old → seen state_of (entries pool) ≡ map seen_of (as_peers pool_seen)
+  kept pool same = ap (λ (l : PeerPool I Held). seen state_of (entries l)) same ∙ sym (seen_free pool_seen)
+
+  pub ran_stopped : (session : Session I Held) (left : List Seen) → Opened state_of may (as_peers pool_seen) old bytes (code.Stopped session) → left ≡ taken_closed session.core.world.peers (seen state_of (entries session.pool)) → unread
+      → IsWritten (lines_text session.core.world.transcript ++ build_stopped) 3 → RanOver left
+  ran_stopped session left o closes un w =
       let input = any_bytes first in
-      (input.0, input.1, w.0, record { opening = stopped session; opens = open_stopped bytes session o.opening o.is o.opens; proceeds = (un, w.1) }, sends_more r r' a c w.0 w.2)
+      let s = state_at (seen state_of (entries session.pool)) session.core in (
+        input.0,
+        input.1,
+        w.0,
+        record {
+          opening = stopped s;
+          opens = open_stopped state_of may (as_peers pool_seen) bytes session o.opening o.is o.opens;
+          proceeds = (un, left_so (seen state_of (entries session.pool)) left session.core closes, w.1);
+        },
+        sends_more r r' a c w.0 w.2,
+      )
 
-  pub ran_unbegun : unread → IsWritten nothing_begun 3 → RanOver
-  ran_unbegun un w =
+  pub ran_unbegun : (pool : PeerPool I Held) → Opened state_of may (as_peers pool_seen) old bytes (code.Unbegun pool) → unread → IsWritten nothing_begun 3 → RanOver (seen state_of (entries pool))
+  ran_unbegun pool o un w =
       let input = any_bytes first in
-      (input.0, input.1, w.0, record { opening = unbegun; opens = tt; proceeds = (un, w.1) }, sends_more r r' a c w.0 w.2)
+      (input.0, input.1, w.0, record { opening = unbegun; opens = tt; proceeds = (un, kept pool o.leaves, w.1) }, sends_more r r' a c w.0 w.2)
 
-  pub ran_refused : (text : String Global) → Opened bytes (code.Refused text) → unread → IsWritten (line_of (string_bytes text)) 1 → RanOver
-  ran_refused text o un w = by o.opening o.is o.opens
+  pub ran_refused : (text : String Global) (pool : PeerPool I Held) → Opened state_of may (as_peers pool_seen) old bytes (code.Refused text pool) → unread → IsWritten (line_of (string_bytes text)) 1 → RanOver (seen state_of (entries pool))
+  ran_refused text pool o un w = by o.opening o.is o.opens
     where
       input : (input : List ℕ) × IfSome first (λ known. known ≡ input)
       input = any_bytes first
 
-      by : (opening : Opening) → IsOpening (code.Refused text) opening → Opens bytes opening → RanOver
+      by : (opening : Opening) → IsOpening state_of (code.Refused text pool) opening → Opens may (as_peers pool_seen) bytes opening → RanOver (seen state_of (entries pool))
       by (refused refusal) is opens =
           let written = subst (λ t. IsWritten (line_of t) 1) is w in
-          (input.0, input.1, written.0, record { opening = refused refusal; opens = opens; proceeds = (un, written.1) }, sends_more r r' a c written.0 written.2)
+          (input.0, input.1, written.0, record { opening = refused refusal; opens = opens; proceeds = (un, kept pool o.leaves, written.1) }, sends_more r r' a c written.0 written.2)
       by (rejected d fault) is opens =
           let written = subst (λ t. IsWritten t 1) (line_is d fault) (subst (λ t. IsWritten (line_of t) 1) is w) in
-          (input.0, input.1, written.0, record { opening = rejected d fault; opens = opens; proceeds = (un, written.1) }, sends_more r r' a c written.0 written.2)
+          (input.0, input.1, written.0, record { opening = rejected d fault; opens = opens; proceeds = (un, kept pool o.leaves, written.1) }, sends_more r r' a c written.0 written.2)
       by (mismatched d m) is opens =
           let written = subst (λ t. IsWritten (line_of t) 1) is w in
-          (input.0, input.1, written.0, record { opening = mismatched d m; opens = opens; proceeds = (un, written.1) }, sends_more r r' a c written.0 written.2)
+          (input.0, input.1, written.0, record { opening = mismatched d m; opens = opens; proceeds = (un, kept pool o.leaves, written.1) }, sends_more r r' a c written.0 written.2)
       by unbegun is opens = absurd is
       by (stopped s) is opens = absurd is
       by (built s) is opens = absurd is
 
-  pub ran_built : (session : SessionState) → Opened bytes (code.Built session)
-      → (input : List ℕ) × IfSome first (λ known. known ≡ input) × (text : List ℕ) × Proceeds (built session) (lines_of input) status torn unread first last text × Sends r r' a c text → RanOver
-  ran_built session o t = (t.0, t.1, t.2, record { opening = built session; opens = open_built bytes session o.opening o.is o.opens; proceeds = t.3 }, t.4)
+  -- the events were told, whose peers might do what they might at the beginning
+  pub ran_built : (later : Relations) (session : Session I Held) (pool : List Seen) (core : SessionState) (left : List Seen) → Opened state_of may (as_peers pool_seen) old bytes (code.Built session) → SameRelations may later → left ≡ taken_closed core.world.peers pool
+      → PlaysOver (event_replies later) (without_lines (state_at (seen state_of (entries session.pool)) session.core)) (lines_text session.core.world.transcript) torn unread first last r r' a status c (state_at pool core) → RanOver left
+  ran_built later session pool core left o same closes t =
+      let s = state_at (seen state_of (entries session.pool)) session.core in
+      let told = told_before same t.3 in (
+        t.0,
+        t.1,
+        t.2,
+        record {
+          opening = built s;
+          opens = open_built state_of may (as_peers pool_seen) bytes session o.opening o.is o.opens;
+          proceeds = record {
+            new = state_at pool core;
+            file_run = told;
+            run = λ bytes taken stands. runs_over may (as_peers pool_seen) s (lines_of t.0) told.outcomes (state_at pool core) bytes taken stands told.told;
+            leaves = left_so pool left core closes;
+          };
+        },
+        t.4,
+      )

@@ -6,6 +6,7 @@ pub mod Reading
 pub mod LineOutcome
 pub mod Events
 pub mod RunOver
+pub mod Telling
 pub mod Opening
 pub mod OpeningView
 pub mod Files

@@ -3,8 +3,8 @@ use Rattle.std.specs.Prelude.{ℕ, List, Result, Ok, Err}
 use Rattle.builder_defs.specs.EventMeaning.{event_refusal}
 use Rattle.definition_format.specs.declared.event_faults.EventError.{EventError}
 use Rattle.definition_format.specs.declared.event_faults.EventError.TheVariants as errors
-use Rattle.ui_engine.specs.declared.session.SessionFault.{SessionFault}
-use Rattle.ui_engine.specs.declared.session.SessionFault.TheVariants as ends
+use Rattle.ui_engine.specs.declared.faults.SessionFault.{SessionFault}
+use Rattle.ui_engine.specs.declared.faults.SessionFault.TheVariants as ends
 use Rattle.event_lines.specs.Texts.{line_refusal}
 use Rattle.event_lines.specs.EventFileRun.{Outcome, said, refused, cut_off, stopped}
 use Rattle.event_lines.specs.declared.line_handler.LineFault.{LineFault}

@@ -1,15 +1,18 @@
 -- The run of the machine that the lines of an event file come to.
-use Rattle.std.specs.Prelude.{◌≡◌, ◌⊎◌, ℕ, ◌+◌, List, [], ◌∷◌, ◌++◌, Result, Ok, Err}
-use Rattle.ui_machine.specs.declared.arm.Halt.TheVariants as halts
+use Rattle.std.specs.Prelude.{◌≡◌, ◌⊎◌, ℕ, ◌+◌, List, [], ◌∷◌, ◌++◌, map, Result, Ok, Err}
 use Rattle.ui_machine.specs.Definition.{Definition}
 use Rattle.ui_machine.specs.State.Tasks.{Event}
 use Rattle.ui_machine.specs.State.Config.{World}
-use Rattle.ui_machine.specs.Runs.{Tally, IsRun, HaltsIn}
+use Rattle.ui_machine.specs.State.Peers.{Peer, Reply}
+use Rattle.ui_machine.specs.Runs.{Tally, IsRun}
 use Rattle.machine_laws.specs.FrontLaws.{fronted}
-use Rattle.law_typing.specs.Verdict.Accepted.{Accepted}
+use Rattle.law_typing.specs.Verdict.Accepted.{Accepted, Each}
 use Rattle.law_sessions.specs.Dispatches.{Keeps}
 use Rattle.law_sessions.specs.Sessions.{Dispatch, beginning_of, entry_to}
 use Rattle.builder_defs.specs.EventMeaning.{EventRefusal, event_denoted}
+use Rattle.native_peers.specs.Seen.{Relations}
+use Rattle.engine_pools.specs.PoolView.{GivenBy, Replied, seen_of}
+use Rattle.engine_pools.specs.Ways.{CutOff}
 use Rattle.ui_engine.specs.SessionView.{SessionState}
 use Rattle.event_lines.specs.EventFileRun as file_run
 use Rattle.event_lines.specs.EventFileRun.{Outcome, said, refused, cut_off, stopped, LineSort, too_many, too_long, skipped, sort_of_line}
@@ -47,20 +50,23 @@ abbrev pub said_in : List Outcome → List (List ℕ)
 said_in [] = []
 said_in (outcome ∷ outcomes) = said_of outcome ++ said_in outcomes
 
--- in one more event no memory is found
-pub record BreaksOffNext (d : Definition) (w new : World) : Type 0 where
+-- in one more event no memory is found, and the peers are as their replies left them, of which the last may have no line
+pub record BreaksOffNext (d : Definition) (may : Relations) (w new : World) : Type 0 where
   pub event : Event
-  pub breaks_off : HaltsIn d event [] w halts.OutOfMemory new.transcript
+  pub breaks_off : Replied may (λ replies. CutOff d may event replies w (map seen_of new.peers) new.transcript)
 
--- The build of a session and the events that were served are a run of the machine; where the session stopped in an event, that one
--- broke off after it. The definition is accepted, and no dispatch of the run is ever stuck: each keeps what is promised of it, its bound
--- among that. The session has forgotten the lines in front of its own: with them its lines are all that were said.
-pub record RunsOver (s : SessionState) (lines : List (List ℕ)) (outcomes : List Outcome) (new : SessionState) : Type 0 where
+-- The build of a session with these peers and the events that were served are a run of the machine, in which each peer replies as it may;
+-- where the session stopped in an event, that one broke off after it. The definition is accepted, and no dispatch of the run is ever stuck:
+-- each keeps what is promised of it, its bound among that. The session has forgotten the lines in front of its own: with them its lines are
+-- all that were said.
+pub record RunsOver (may : Relations) (s : SessionState) (peers : List Peer) (lines : List (List ℕ)) (outcomes : List Outcome) (new : SessionState) : Type 0 where
+  pub replies : List Reply
+  pub given : Each (GivenBy may) replies
   pub tally : Tally
   pub last : World
-  pub run : IsRun s.definition [] (events_served s.definition 1 lines outcomes) [] tally last
+  pub run : IsRun s.definition peers (events_served s.definition 1 lines outcomes) replies tally last
   pub accepted : Accepted s.definition
-  pub keeps : (x : Dispatch s.definition [] (events_served s.definition 1 lines outcomes)) → Keeps s.definition accepted (entry_to x) (beginning_of x)
+  pub keeps : (x : Dispatch s.definition peers (events_served s.definition 1 lines outcomes)) → Keeps s.definition accepted (entry_to x) (beginning_of x)
   pub front : List (List ℕ)
-  pub after : (last ≡ fronted front new.world) ⊎ BreaksOffNext s.definition last (fronted front new.world)
+  pub after : (last ≡ fronted front new.world) ⊎ BreaksOffNext s.definition may last (fronted front new.world)
   pub shows : front ++ new.world.transcript ≡ s.world.transcript ++ said_in outcomes

@@ -1,37 +1,80 @@
 //! The lines of the event file, from the first to the one that ends the run.
 
-ghost use Rattle.std.specs.Prelude.{◌≡◌, ◌≢◌, ℕ, List, true, ◌||◌, IfSome, false};
+ghost use Rattle.std.specs.Prelude.{◌≡◌, ◌≢◌, ◌≤◌, ℕ, List, true, ◌||◌, IfOk, IfSome, MatchResult, false};
+ghost use Rattle.native_peers.specs.Pool.{entries, relations, seen};
+ghost use Rattle.native_peers.specs.Seen.{SameRelations};
+ghost use Rattle.ui_engine.specs.SessionView.{IsSeated, state_at, without_lines};
+ghost use Rattle.ui_machine.specs.Limits.{most_lines};
 ghost use Rattle.event_lines.specs.Lines.{lines_of};
-ghost use Rattle.event_lines.specs.EventFileRun.{EventFileRun};
+ghost use Rattle.event_lines.specs.EventFileRun.{EventFileRun, ends};
+ghost use Rattle.event_lines.specs.Events.{event_replies};
+ghost use Rattle.event_lines.specs.LineOutcome.{outcome_with};
+ghost use Rattle.event_lines.specs.Telling.{Tells};
 ghost use Rattle.event_lines.specs.Writing.{Sends};
 
 use crate::chunk::Chunk;
 use crate::devices::{Reader, Writer};
 use crate::gather::Gather;
-use crate::line_handler::LineHandler;
-use crate::line_outcome::handle_line;
-use crate::line_reader::LineReader;
+use crate::line_outcome::{LineOutcome, handle_line};
+use crate::line_reader::{Found, LineReader};
 use crate::writing::put_outcome;
+use native_peers::Peer;
 use std::alloc::Global;
+use ui_engine::Session;
+use ui_machine::DeviceFault;
 
-/// Hands the lines of a reader to a handler, says what comes of them, and answers the status: 0; 5 where a line was refused; 3 where
+// Hands the session the line that was found, and says what came of it.
+fn tell<W: Writer>(
+    alloc: Global,
+    session: &mut Session,
+    number: u64,
+    found: Found,
+    buffer: &[u8],
+    gather: &mut Gather,
+    writer: &mut W,
+) -> Result<LineOutcome, DeviceFault>
+    requires writer { W.failed writer.old ≡ false }
+    requires seated { IsSeated (seen (λ p. (⟦<dyn Peer as Peer>⟧ p.peer.vtable).state p.peer.value) (entries session.now.pool)) session.now.core }
+    ensures tells { Tells (relations (λ p. (⟦<dyn Peer as Peer>⟧ p.peer.vtable).moves p.peer.value) (entries session.old.pool)) (state_at (seen (λ p. (⟦<dyn Peer as Peer>⟧ p.peer.vtable).state p.peer.value) (entries session.old.pool)) session.old.core) number found buffer.now result
+        (W.sent writer.old) gather.old (W.sent writer.new) gather.new (state_at (seen (λ p. (⟦<dyn Peer as Peer>⟧ p.peer.vtable).state p.peer.value) (entries session.new.pool)) session.new.core) }
+    ensures goes_on { IfOk result (λ outcome. (said : List (List ℕ)) → ends (outcome_with outcome said) ≡ false → (number ≤ most_lines) × (found ≡ Found.Whole)) }
+    ensures marks { MatchResult result (λ _. W.failed writer.new ≡ false) (λ _. W.failed writer.new ≡ true) }
+    ensures seated { IsSeated (seen (λ p. (⟦<dyn Peer as Peer>⟧ p.peer.vtable).state p.peer.value) (entries session.new.pool)) session.new.core }
+    ensures same { SameRelations (relations (λ p. (⟦<dyn Peer as Peer>⟧ p.peer.vtable).moves p.peer.value) (entries session.old.pool)) (relations (λ p. (⟦<dyn Peer as Peer>⟧ p.peer.vtable).moves p.peer.value) (entries session.new.pool)) }
+{
+    let before = session.transcript().len();
+    let outcome = handle_line(alloc, session, number, found, buffer);
+    let said = &session.transcript()[before..];
+    let put = put_outcome(gather, writer, number, outcome, said);
+    session.forget();
+    let Ok(()) = put else {
+        return Err(DeviceFault);
+    };
+    Ok(outcome)
+}
+
+/// Hands the lines of a reader to a session, says what comes of them, and answers the status: 0; 5 where a line was refused; 3 where
 /// the run stopped within one; 4 where a device failed. Before each read, and at the end, all that was said is written. After a fault
 /// nothing is read or written.
-pub fn handle_lines<L: LineHandler, R: Reader, W: Writer>(
+pub fn handle_lines<R: Reader, W: Writer>(
     alloc: Global,
-    handler: &mut L,
+    session: &mut Session,
     reader: &mut R,
     gather: &mut Gather,
     writer: &mut W,
 ) -> u8
     requires reader { R.failed reader.old ≡ false }
     requires writer { W.failed writer.old ≡ false }
+    requires seated { IsSeated (seen (λ p. (⟦<dyn Peer as Peer>⟧ p.peer.vtable).state p.peer.value) (entries session.now.pool)) session.now.core }
     ensures file_run { (input : List ℕ) × IfSome (R.left reader.old) (λ known. known ≡ input) × (text : List ℕ) ×
-        EventFileRun L.replies L.forgotten handler.old gather.old (lines_of input) result (W.failed writer.new)
-        (reader.new ≡ reader.old) (R.left reader.old) (R.left reader.new) text handler.new
+        EventFileRun (event_replies (relations (λ p. (⟦<dyn Peer as Peer>⟧ p.peer.vtable).moves p.peer.value) (entries session.old.pool))) without_lines (state_at (seen (λ p. (⟦<dyn Peer as Peer>⟧ p.peer.vtable).state p.peer.value) (entries session.old.pool)) session.old.core)
+        gather.old (lines_of input) result (W.failed writer.new)
+        (reader.new ≡ reader.old) (R.left reader.old) (R.left reader.new) text (state_at (seen (λ p. (⟦<dyn Peer as Peer>⟧ p.peer.vtable).state p.peer.value) (entries session.new.pool)) session.new.core)
         × Sends (R.reads reader.old) (R.reads reader.new) (W.sent writer.old) (W.sent writer.new) text }
     ensures failed { result ≡ 4 → (R.failed reader.new || W.failed writer.new) ≡ true }
     ensures works { result ≢ 4 → (R.failed reader.new ≡ false) × (W.failed writer.new ≡ false) }
+    ensures seated { IsSeated (seen (λ p. (⟦<dyn Peer as Peer>⟧ p.peer.vtable).state p.peer.value) (entries session.new.pool)) session.new.core }
+    ensures same { SameRelations (relations (λ p. (⟦<dyn Peer as Peer>⟧ p.peer.vtable).moves p.peer.value) (entries session.old.pool)) (relations (λ p. (⟦<dyn Peer as Peer>⟧ p.peer.vtable).moves p.peer.value) (entries session.new.pool)) }
 {
     let mut lines = LineReader {
         chunk: Chunk::new(),
@@ -46,12 +89,8 @@ pub fn handle_lines<L: LineHandler, R: Reader, W: Writer>(
         let Some(found) = next else {
             return gather.finish(writer, status);
         };
-        let before = handler.transcript().len();
-        let outcome = handle_line(alloc, handler, number, found, lines.line.as_slice());
-        let said = &handler.transcript()[before..];
-        let put = put_outcome(gather, writer, number, outcome, said);
-        handler.forget();
-        let Ok(()) = put else {
+        let line = lines.line.as_slice();
+        let Ok(outcome) = tell(alloc, session, number, found, line, gather, writer) else {
             return 4;
         };
         status = outcome.status_after(status);

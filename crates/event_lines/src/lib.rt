@@ -1,4 +1,5 @@
-//! Runs a definition over event lines, from the bytes of a reader to those of a writer, and checks one before anything runs.
+//! Runs a definition with a pool of peers over event lines, from the bytes of a reader to those of a writer, and checks one before anything
+//! runs.
 //!
 //! [`run`] is the whole of a run, and [`check`] that of a check. What they are made of: the bytes of a reader in chunks, the lines in
 //! them, what each line comes to, and text that is gathered and written in large pieces. A program that embeds the runtime without files

@@ -1,11 +1,15 @@
-//! What handles the lines of a run: a session, which carries out the events that they denote.
+//! The lines of a run in its session, which carries out the events that they denote.
 
-ghost use Rattle.std.specs.Prelude.{◌≡◌, ◌≤◌, ℕ, List, map, length, drop, string_bytes};
-ghost use Rattle.event_lines.specs.EventFileRun.{Replies};
+ghost use Rattle.std.specs.Prelude.{◌≤◌, length, drop};
+ghost use Rattle.native_peers.specs.Pool.{entries, relations, seen};
+ghost use Rattle.native_peers.specs.Seen.{SameRelations};
+ghost use Rattle.ui_engine.specs.SessionView.{IsSeated, state_at};
+ghost use Rattle.event_lines.specs.Events.{event_replies};
 ghost use Rattle.event_lines.specs.LineOutcome.{outcome_of};
 
 use crate::refusal::LineRefusal;
 use builder_defs::{EventError, read_event};
+use native_peers::Peer;
 use std::alloc::Global;
 use ui_engine::{Session, SessionFault};
 
@@ -48,53 +52,19 @@ impl From<SessionFault> for LineFault {
     }
 }
 
-/// Carries out event lines, and keeps a transcript.
-pub trait LineHandler {
-    /// What it may answer to a line, and how it stands then.
-    ghost replies: { Replies Self };
-
-    /// The lines said since the last were forgotten.
-    ghost lines: { Self → List (List ℕ) };
-
-    /// The same without the lines.
-    ghost forgotten: { Self → Self };
-
-    /// The lines said since the last were forgotten, without their LF.
-    fn transcript(&self) -> &[String]
-        ensures { map string_bytes result.now ≡ lines self.now };
-
-    /// Gives up the lines. They make no difference to what is said later.
-    fn forget(&mut self)
-        ensures { self.new ≡ forgotten self.old };
-
-    /// Carries out one line, neither blank nor past the limit.
-    fn handle(&mut self, alloc: Global, line: &[u8]) -> Result<(), LineFault>
-        ensures grows { length (lines self.old) ≤ length (lines self.new) }
-        ensures replies { replies self.old line.now (outcome_of result (drop (length (lines self.old)) (lines self.new))) self.new };
-}
-
-impl LineHandler for Session {
-    ghost use Rattle.ui_engine.specs.SessionView.{without_lines};
-    ghost use Rattle.event_lines.specs.Events.{event_replies};
-
-    ghost replies = { event_replies };
-
-    ghost lines = { λ s. s.world.transcript };
-
-    ghost forgotten = { without_lines };
-
-    fn transcript(&self) -> &[String] {
-        Session::transcript(self)
-    }
-
-    fn forget(&mut self) {
-        Session::forget(self);
-    }
-
-    fn handle(&mut self, alloc: Global, line: &[u8]) -> Result<(), LineFault> {
-        let definition = self.definition();
-        let event = read_event(alloc, definition, line)?;
-        self.dispatch(event)?;
-        Ok(())
-    }
+/// Carries out one line, neither blank nor past the limit. Each peer that it calls replies as it may.
+pub fn handle(alloc: Global, session: &mut Session, line: &[u8]) -> Result<(), LineFault>
+    requires seated { IsSeated (seen (λ p. (⟦<dyn Peer as Peer>⟧ p.peer.vtable).state p.peer.value) (entries session.now.pool)) session.now.core }
+    ensures grows { length session.old.core.world.transcript ≤ length session.new.core.world.transcript }
+    ensures replies { event_replies (relations (λ p. (⟦<dyn Peer as Peer>⟧ p.peer.vtable).moves p.peer.value) (entries session.old.pool))
+        (state_at (seen (λ p. (⟦<dyn Peer as Peer>⟧ p.peer.vtable).state p.peer.value) (entries session.old.pool)) session.old.core) line.now
+        (outcome_of result (drop (length session.old.core.world.transcript) session.new.core.world.transcript))
+        (state_at (seen (λ p. (⟦<dyn Peer as Peer>⟧ p.peer.vtable).state p.peer.value) (entries session.new.pool)) session.new.core) }
+    ensures seated { IsSeated (seen (λ p. (⟦<dyn Peer as Peer>⟧ p.peer.vtable).state p.peer.value) (entries session.new.pool)) session.new.core }
+    ensures same { SameRelations (relations (λ p. (⟦<dyn Peer as Peer>⟧ p.peer.vtable).moves p.peer.value) (entries session.old.pool)) (relations (λ p. (⟦<dyn Peer as Peer>⟧ p.peer.vtable).moves p.peer.value) (entries session.new.pool)) }
+{
+    let definition = session.definition();
+    let event = read_event(alloc, definition, line)?;
+    session.dispatch(event)?;
+    Ok(())
 }

@@ -1,16 +1,22 @@
-//! One line of the event file, handed to its handler.
+//! One line of the event file, handed to the session.
 
 ghost use Rattle.std.specs.Prelude.{◌≡◌, ◌≤◌, ℕ, List, false, length, drop};
+ghost use Rattle.native_peers.specs.Pool.{entries, relations, seen};
+ghost use Rattle.native_peers.specs.Seen.{SameRelations};
+ghost use Rattle.ui_engine.specs.SessionView.{IsSeated, state_at};
+ghost use Rattle.event_lines.specs.Events.{event_replies};
 ghost use Rattle.event_lines.specs.EventFileRun.{LineComesTo, ends, status_after, is_blank};
 ghost use Rattle.event_lines.specs.LineOutcome.{outcome_with};
 ghost use Rattle.event_lines.specs.Reading.{IsOf};
 ghost use Rattle.ui_machine.specs.Limits.{most_lines};
 
 use crate::MAX_LINES;
-use crate::line_handler::{LineFault, LineHandler};
+use crate::line_handler::{LineFault, handle};
 use crate::line_reader::Found;
 use crate::refusal::LineRefusal;
+use native_peers::Peer;
 use std::alloc::Global;
+use ui_engine::Session;
 
 /// What a line came to, beside the lines that were said.
 #[derive(Clone, Copy, Debug, PartialEq, Eq)]
@@ -53,18 +59,23 @@ fn is_blank(line: &[u8]) -> bool
         .all(|b| *b == b' ' || *b == b'\t' || *b == b'\r')
 }
 
-/// Hands the handler the line that was found, unless the run refuses it or passes over it.
-pub fn handle_line<L: LineHandler>(
+/// Hands the session the line that was found, unless the run refuses it or passes over it.
+pub fn handle_line(
     alloc: Global,
-    handler: &mut L,
+    session: &mut Session,
     number: u64,
     found: Found,
     buffer: &[u8],
 ) -> LineOutcome
+    requires seated { IsSeated (seen (λ p. (⟦<dyn Peer as Peer>⟧ p.peer.vtable).state p.peer.value) (entries session.now.pool)) session.now.core }
     ensures comes { (line : List ℕ) → IsOf found buffer.now line →
-        LineComesTo L.replies handler.old number line (outcome_with result (drop (length (L.lines handler.old)) (L.lines handler.new))) handler.new }
-    ensures grows { length (L.lines handler.old) ≤ length (L.lines handler.new) }
+        LineComesTo (event_replies (relations (λ p. (⟦<dyn Peer as Peer>⟧ p.peer.vtable).moves p.peer.value) (entries session.old.pool))) (state_at (seen (λ p. (⟦<dyn Peer as Peer>⟧ p.peer.vtable).state p.peer.value) (entries session.old.pool)) session.old.core) number line
+        (outcome_with result (drop (length session.old.core.world.transcript) session.new.core.world.transcript))
+        (state_at (seen (λ p. (⟦<dyn Peer as Peer>⟧ p.peer.vtable).state p.peer.value) (entries session.new.pool)) session.new.core) }
+    ensures grows { length session.old.core.world.transcript ≤ length session.new.core.world.transcript }
     ensures goes_on { (said : List (List ℕ)) → ends (outcome_with result said) ≡ false → (number ≤ most_lines) × (found ≡ Found.Whole) }
+    ensures seated { IsSeated (seen (λ p. (⟦<dyn Peer as Peer>⟧ p.peer.vtable).state p.peer.value) (entries session.new.pool)) session.new.core }
+    ensures same { SameRelations (relations (λ p. (⟦<dyn Peer as Peer>⟧ p.peer.vtable).moves p.peer.value) (entries session.old.pool)) (relations (λ p. (⟦<dyn Peer as Peer>⟧ p.peer.vtable).moves p.peer.value) (entries session.new.pool)) }
 {
     if found == Found::NoMemory {
         return LineOutcome::Stopped;
@@ -78,7 +89,7 @@ pub fn handle_line<L: LineHandler>(
     if is_blank(buffer) {
         return LineOutcome::Said;
     }
-    match handler.handle(alloc, buffer) {
+    match handle(alloc, session, buffer) {
         Ok(()) => return LineOutcome::Said,
         Err(LineFault::Refused(refusal)) => return LineOutcome::Refused(refusal),
         Err(LineFault::Stopped) => return LineOutcome::Stopped,

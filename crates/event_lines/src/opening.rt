@@ -1,72 +1,93 @@
-//! How a run opens: the definition is read, verified and built.
+//! How a run opens: the definition is read, verified and built, with the peers of a pool.
 
-ghost use Rattle.std.specs.Prelude.{◌≡◌, ℕ, List, [], None, Ok, string_bytes, IfOk};
+ghost use Rattle.std.specs.Prelude.{◌≡◌, ◌++◌, codes, ℕ, List, None, Ok, Option, Some, string_bytes, IfSome};
 ghost use Rattle.ui_machine.specs.Definition.{Definition};
-ghost use Rattle.law_pools.specs.Needs.{mismatch, missing};
+ghost use Rattle.law_pools.specs.Needs.{Mismatch, mismatch};
 ghost use Rattle.law_typing.specs.Verdict.Judges.{Judges};
 ghost use Rattle.builder_defs.specs.Denoted.{denoted};
+ghost use Rattle.native_peers.specs.Matching.{as_peers};
+ghost use Rattle.native_peers.specs.Pool.{entries, relations, seen};
+ghost use Rattle.native_peers.specs.Seen.{SameRelations};
 ghost use Rattle.ui_engine.specs.SessionView.{IsWhy};
-ghost use Rattle.event_lines.specs.OpeningView.{Opened};
+ghost use Rattle.event_lines.specs.OpeningView.{Opened, pool_in};
 ghost use Rattle.event_lines.specs.Texts.{mismatch_text};
 
 use crate::definition_checks::{Judgement, judge};
+use native_peers::{Peer, PeerPool};
 use std::alloc::{AllocError, Global};
-use ui_engine::{Session, StartFault, Started};
+use ui_engine::{Refused, Session, StartFault, Started};
 use verified::Verified;
 
-/// What the bytes of a definition came to.
+/// What the bytes of a definition came to, with the pool.
 #[derive(Drop)]
 pub enum Opening {
-    /// Reading or the verdict refuses them, or they need a peer: the name of the fault and its fields.
-    Refused(String),
-    /// No memory was found before the build.
-    Unbegun,
+    /// Reading or the verdict refuses them, or the pool does not match them: the name of the fault and its fields; the pool is as it was.
+    Refused { text: String, pool: PeerPool },
+    /// No memory was found before the build; the pool is as it was.
+    Unbegun(PeerPool),
     /// No memory was found in the build.
     Stopped(Session),
     /// The definition is built.
     Built(Session),
 }
 
-/// Reads a definition, verifies it and builds it.
-pub fn open(alloc: Global, bytes: &[u8]) -> Opening
-    ensures { Opened bytes.now result }
+/// Reads a definition, verifies it and builds it with the peers of a pool.
+pub fn open(alloc: Global, bytes: &[u8], pool: PeerPool) -> Opening
+    ensures opened { Opened (λ p. (⟦<dyn Peer as Peer>⟧ p.peer.vtable).state p.peer.value) (relations (λ p. (⟦<dyn Peer as Peer>⟧ p.peer.vtable).moves p.peer.value) (entries pool)) (as_peers (seen (λ p. (⟦<dyn Peer as Peer>⟧ p.peer.vtable).state p.peer.value) (entries pool))) pool bytes.now result }
+    ensures same { SameRelations (relations (λ p. (⟦<dyn Peer as Peer>⟧ p.peer.vtable).moves p.peer.value) (entries pool)) (relations (λ p. (⟦<dyn Peer as Peer>⟧ p.peer.vtable).moves p.peer.value) (entries (pool_in result))) }
 {
     match judge(alloc, bytes) {
-        Judgement::Refused(text) => return Opening::Refused(text),
-        Judgement::Unjudged => return Opening::Unbegun,
-        Judgement::Accepted(verified) => return build(alloc, verified),
+        Judgement::Refused(text) => return Opening::Refused { text, pool },
+        Judgement::Unjudged => return Opening::Unbegun(pool),
+        Judgement::Accepted(verified) => return build(alloc, verified, pool),
     }
 }
 
-// The fault of a peer that is missing, as it is printed.
-fn missing_text(alloc: Global, name: &str) -> Result<String, AllocError>
-    ensures { IfOk result (λ s. string_bytes s ≡ mismatch_text (missing name.now)) }
+// The name of a fault and that of its peer, as they are printed, if there is memory for them.
+fn words(alloc: Global, fault: &str, name: &str) -> Option<String>
+    ensures { IfSome result (λ s. string_bytes s ≡ fault.now ++ codes " " ++ name.now) }
 {
-    Ok(format!(in alloc; "PeerMissing {name}")?)
+    format!(in alloc; "{fault} {name}").ok()
+}
+
+// The fault by which no session began, as it is printed; none for want of memory.
+fn fault_text(alloc: Global, fault: &StartFault) -> Option<String>
+    ensures { IfSome result (λ s. (lack : Option Mismatch) → IsWhy fault.now lack → (m : Mismatch) × (lack ≡ Some m) × (string_bytes s ≡ mismatch_text m)) }
+{
+    match fault {
+        StartFault::OutOfMemory => None,
+        StartFault::PeerMissing(name) => words(alloc, "PeerMissing", name.as_str()),
+        StartFault::PeerClosed(name) => words(alloc, "PeerClosed", name.as_str()),
+        StartFault::PeerShape(name) => words(alloc, "PeerShape", name.as_str()),
+        StartFault::PeerUnused(name) => words(alloc, "PeerUnused", name.as_str()),
+    }
 }
 
 // The opening of a verified definition that no session began with.
-fn unstarted(alloc: Global, fault: &StartFault) -> Opening
-    ensures { (bytes : List ℕ) (d : Definition) → denoted bytes ≡ Ok d → Judges d None → IsWhy fault.now (mismatch d []) → Opened bytes result }
+fn unstarted(alloc: Global, refused: Refused) -> Opening
+    ensures opened { (bytes : List ℕ) (d : Definition) → denoted bytes ≡ Ok d → Judges d None → IsWhy refused.fault (mismatch d (as_peers (seen (λ p. (⟦<dyn Peer as Peer>⟧ p.peer.vtable).state p.peer.value) (entries refused.pool)))) →
+        Opened (λ p. (⟦<dyn Peer as Peer>⟧ p.peer.vtable).state p.peer.value) (relations (λ p. (⟦<dyn Peer as Peer>⟧ p.peer.vtable).moves p.peer.value) (entries refused.pool)) (as_peers (seen (λ p. (⟦<dyn Peer as Peer>⟧ p.peer.vtable).state p.peer.value) (entries refused.pool))) refused.pool bytes result }
+    ensures same { pool_in result ≡ refused.pool }
 {
-    let StartFault::PeerMissing(name) = fault else {
-        return Opening::Unbegun;
-    };
-    match missing_text(alloc, name.as_str()) {
-        Ok(text) => Opening::Refused(text),
-        Err(_) => Opening::Unbegun,
+    let text = fault_text(alloc, &refused.fault);
+    let pool = refused.pool;
+    match text {
+        Some(text) => Opening::Refused { text, pool },
+        None => Opening::Unbegun(pool),
     }
 }
 
 // Builds a verified definition.
-fn build(alloc: Global, verified: Verified) -> Opening
-    ensures { (bytes : List ℕ) → denoted bytes ≡ Ok verified → Judges verified None → Opened bytes result }
+fn build(alloc: Global, verified: Verified, pool: PeerPool) -> Opening
+    ensures opened { (bytes : List ℕ) → denoted bytes ≡ Ok verified → Judges verified None →
+        Opened (λ p. (⟦<dyn Peer as Peer>⟧ p.peer.vtable).state p.peer.value) (relations (λ p. (⟦<dyn Peer as Peer>⟧ p.peer.vtable).moves p.peer.value) (entries pool)) (as_peers (seen (λ p. (⟦<dyn Peer as Peer>⟧ p.peer.vtable).state p.peer.value) (entries pool))) pool bytes result }
+    ensures same { SameRelations (relations (λ p. (⟦<dyn Peer as Peer>⟧ p.peer.vtable).moves p.peer.value) (entries pool)) (relations (λ p. (⟦<dyn Peer as Peer>⟧ p.peer.vtable).moves p.peer.value) (entries (pool_in result))) }
 {
     // For the proof: a verified definition is accepted.
     let _ = verified.definition();
-    let started = match Session::start(alloc, verified) {
+    let started = match Session::start(alloc, verified, pool) {
         Ok(started) => started,
-        Err(refused) => return unstarted(alloc, &refused.fault),
+        Err(refused) => return unstarted(alloc, refused),
     };
     let Started { session, build } = started;
     match build {

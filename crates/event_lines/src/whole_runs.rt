@@ -1,27 +1,38 @@
-//! A whole run: a definition and its events in, a transcript and a status out.
+//! A whole run: a definition, a pool of peers and events in, a transcript and a status out.
 
-ghost use Rattle.std.specs.Prelude.{◌≡◌, ◌≢◌, codes, ℕ, List, [], ◌∷◌, ◌++◌, true, ◌||◌, IfSome, OnErr, MatchResult, false};
+ghost use Rattle.std.specs.Prelude.{◌≡◌, ◌≢◌, codes, ℕ, List, map, string_bytes, [], ◌∷◌, ◌++◌, true, ◌||◌, IfSome, OnErr, MatchResult, false};
 ghost use Rattle.builder_defs.specs.Denoted.{denoted};
+ghost use Rattle.native_peers.specs.Matching.{as_peers};
+ghost use Rattle.native_peers.specs.Pool.{entries, relations, seen};
+ghost use Rattle.native_peers.specs.Seen.{SameRelations};
+ghost use Rattle.ui_engine.specs.SessionView.{IsSeated, state_at, without_lines};
+ghost use Rattle.event_lines.specs.EventFileRun.{EventFileRun};
+ghost use Rattle.event_lines.specs.Events.{event_replies};
 ghost use Rattle.event_lines.specs.Lines.{lines_of};
 ghost use Rattle.event_lines.specs.Texts.{joined, lines_text, nothing_begun, build_stopped};
 ghost use Rattle.event_lines.specs.Writing.{Sends, Puts, IsMarked};
-ghost use Rattle.event_lines.specs.Opening.{built, Concludes, Proceeds, Ran};
+ghost use Rattle.event_lines.specs.Opening.{Concludes, Ran};
 
 use crate::devices::{Reader, Writer};
 use crate::event_file::handle_lines;
 use crate::gather::Gather;
 use crate::opening::{Opening, open};
 use crate::writing::{put_lines, put_parts};
+use native_peers::{Peer, PeerPool};
 use std::alloc::Global;
+use std::mem;
 use ui_engine::Session;
 use ui_machine::DeviceFault;
 
-/// Verifies a definition and runs it over the event lines of a reader, writes the transcript as it grows, and answers the status: 0; 1 where
-/// the definition is refused; 3 where memory was wanted; 4 where a device failed; 5 where a line was refused. The first of 1, 3 and 4 ends
-/// the run. All that was said is written before anything is read. Nothing is read where the definition is refused or not built.
+/// Verifies a definition and runs it with the peers of a pool over the event lines of a reader, writes the transcript as it grows, and answers
+/// the status: 0; 1 where the definition is refused or the pool does not match it; 3 where memory was wanted; 4 where a device failed; 5 where
+/// a line was refused. The first of 1, 3 and 4 ends the run. All that was said is written before anything is read. Nothing is read where the
+/// definition is refused or not built. At the end each peer is closed that an object has got; where nothing was begun the pool is left as it
+/// was.
 pub fn run<R: Reader, W: Writer>(
     alloc: Global,
     definition: &[u8],
+    pool: &mut PeerPool,
     reader: &mut R,
     writer: &mut W,
 ) -> u8
@@ -29,18 +40,67 @@ pub fn run<R: Reader, W: Writer>(
     requires writer { W.failed writer.old ≡ false }
     // Where the reader's bytes are not known, there are bytes for which it holds.
     ensures ran { (input : List ℕ) × IfSome (R.left reader.old) (λ known. known ≡ input) × (text : List ℕ) ×
-        Ran definition.now (lines_of input) result (W.failed writer.new)
+        Ran (relations (λ p. (⟦<dyn Peer as Peer>⟧ p.peer.vtable).moves p.peer.value) (entries pool.old)) (as_peers (seen (λ p. (⟦<dyn Peer as Peer>⟧ p.peer.vtable).state p.peer.value) (entries pool.old))) (seen (λ p. (⟦<dyn Peer as Peer>⟧ p.peer.vtable).state p.peer.value) (entries pool.new))
+        definition.now (lines_of input) result (W.failed writer.new)
         (reader.new ≡ reader.old) (R.left reader.old) (R.left reader.new) text
         × Sends (R.reads reader.old) (R.reads reader.new) (W.sent writer.old) (W.sent writer.new) text }
     ensures unread { OnErr (denoted definition.now) (reader.new ≡ reader.old) }
     ensures failed { result ≡ 4 → (R.failed reader.new || W.failed writer.new) ≡ true }
     ensures works { result ≢ 4 → (R.failed reader.new ≡ false) × (W.failed writer.new ≡ false) }
+    ensures same { SameRelations (relations (λ p. (⟦<dyn Peer as Peer>⟧ p.peer.vtable).moves p.peer.value) (entries pool.old)) (relations (λ p. (⟦<dyn Peer as Peer>⟧ p.peer.vtable).moves p.peer.value) (entries pool.new)) }
 {
-    match open(alloc, definition) {
-        Opening::Refused(text) => refuse(writer, &text),
-        Opening::Unbegun => refuse_for_memory(writer),
-        Opening::Stopped(session) => stop(writer, &session),
-        Opening::Built(session) => play(alloc, session, reader, writer),
+    let taken = mem::replace(pool, PeerPool::new(alloc));
+    let Over { status, pool: left } = run_with(alloc, definition, taken, reader, writer);
+    *pool = left;
+    status
+}
+
+// A status, and the pool that is left.
+#[derive(Drop)]
+struct Over {
+    status: u8,
+    pool: PeerPool,
+}
+
+// Runs a definition with a pool.
+fn run_with<R: Reader, W: Writer>(
+    alloc: Global,
+    definition: &[u8],
+    pool: PeerPool,
+    reader: &mut R,
+    writer: &mut W,
+) -> Over
+    requires reader { R.failed reader.old ≡ false }
+    requires writer { W.failed writer.old ≡ false }
+    ensures ran { (input : List ℕ) × IfSome (R.left reader.old) (λ known. known ≡ input) × (text : List ℕ) ×
+        Ran (relations (λ p. (⟦<dyn Peer as Peer>⟧ p.peer.vtable).moves p.peer.value) (entries pool)) (as_peers (seen (λ p. (⟦<dyn Peer as Peer>⟧ p.peer.vtable).state p.peer.value) (entries pool))) (seen (λ p. (⟦<dyn Peer as Peer>⟧ p.peer.vtable).state p.peer.value) (entries result.pool))
+        definition.now (lines_of input) result.status (W.failed writer.new)
+        (reader.new ≡ reader.old) (R.left reader.old) (R.left reader.new) text
+        × Sends (R.reads reader.old) (R.reads reader.new) (W.sent writer.old) (W.sent writer.new) text }
+    ensures unread { OnErr (denoted definition.now) (reader.new ≡ reader.old) }
+    ensures failed { result.status ≡ 4 → (R.failed reader.new || W.failed writer.new) ≡ true }
+    ensures works { result.status ≢ 4 → (R.failed reader.new ≡ false) × (W.failed writer.new ≡ false) }
+    ensures same { SameRelations (relations (λ p. (⟦<dyn Peer as Peer>⟧ p.peer.vtable).moves p.peer.value) (entries pool)) (relations (λ p. (⟦<dyn Peer as Peer>⟧ p.peer.vtable).moves p.peer.value) (entries result.pool)) }
+{
+    match open(alloc, definition, pool) {
+        Opening::Refused { text, pool } => {
+            let status = refuse(writer, &text);
+            Over { status, pool }
+        }
+        Opening::Unbegun(pool) => {
+            let status = refuse_for_memory(writer);
+            Over { status, pool }
+        }
+        Opening::Stopped(session) => {
+            let status = stop(writer, session.transcript());
+            let pool = session.finish().pool;
+            Over { status, pool }
+        }
+        Opening::Built(mut session) => {
+            let status = play(alloc, &mut session, reader, writer);
+            let pool = session.finish().pool;
+            Over { status, pool }
+        }
     }
 }
 
@@ -72,13 +132,13 @@ pub(crate) fn refuse_for_memory<W: Writer>(writer: &mut W) -> u8
 }
 
 // The lines of a build that stopped.
-fn stop<W: Writer>(writer: &mut W, session: &Session) -> u8
+fn stop<W: Writer>(writer: &mut W, lines: &[String]) -> u8
     requires works { W.failed writer.old ≡ false }
-    ensures concludes { (out : List ℕ) × Concludes (lines_text session.now.world.transcript ++ build_stopped) 3 result (W.failed writer.new) out × Sends 0 0 (W.sent writer.old) (W.sent writer.new) out }
+    ensures concludes { (out : List ℕ) × Concludes (lines_text (map string_bytes lines.now) ++ build_stopped) 3 result (W.failed writer.new) out × Sends 0 0 (W.sent writer.old) (W.sent writer.new) out }
     ensures marks { IsMarked result (W.failed writer.new) }
 {
     let mut gather = Gather::new();
-    let Ok(()) = put_build(&mut gather, writer, session) else {
+    let Ok(()) = put_build(&mut gather, writer, lines) else {
         return 4;
     };
     gather.finish(writer, 3)
@@ -87,13 +147,13 @@ fn stop<W: Writer>(writer: &mut W, session: &Session) -> u8
 fn put_build<W: Writer>(
     gather: &mut Gather,
     writer: &mut W,
-    session: &Session,
+    lines: &[String],
 ) -> Result<(), DeviceFault>
     requires works { W.failed writer.old ≡ false }
-    ensures puts { Puts result (W.sent writer.old) gather.old (W.sent writer.new) gather.new (lines_text session.now.world.transcript ++ build_stopped) }
+    ensures puts { Puts result (W.sent writer.old) gather.old (W.sent writer.new) gather.new (lines_text (map string_bytes lines.now) ++ build_stopped) }
     ensures marks { MatchResult result (λ _. W.failed writer.new ≡ false) (λ _. W.failed writer.new ≡ true) }
 {
-    let Ok(()) = put_lines(gather, writer, session.transcript()) else {
+    let Ok(()) = put_lines(gather, writer, lines) else {
         return Err(DeviceFault);
     };
     gather.put(writer, b"build stopped: OutOfMemory\n")
@@ -102,23 +162,28 @@ fn put_build<W: Writer>(
 // The lines of the build, and those of the events.
 fn play<R: Reader, W: Writer>(
     alloc: Global,
-    mut session: Session,
+    session: &mut Session,
     reader: &mut R,
     writer: &mut W,
 ) -> u8
     requires reader { R.failed reader.old ≡ false }
     requires writer { W.failed writer.old ≡ false }
+    requires seated { IsSeated (seen (λ p. (⟦<dyn Peer as Peer>⟧ p.peer.vtable).state p.peer.value) (entries session.now.pool)) session.now.core }
     ensures plays { (input : List ℕ) × IfSome (R.left reader.old) (λ known. known ≡ input) × (text : List ℕ) ×
-        Proceeds (built session) (lines_of input) result (W.failed writer.new)
-        (reader.new ≡ reader.old) (R.left reader.old) (R.left reader.new) text
+        EventFileRun (event_replies (relations (λ p. (⟦<dyn Peer as Peer>⟧ p.peer.vtable).moves p.peer.value) (entries session.old.pool))) without_lines (without_lines (state_at (seen (λ p. (⟦<dyn Peer as Peer>⟧ p.peer.vtable).state p.peer.value) (entries session.old.pool)) session.old.core))
+        (lines_text session.old.core.world.transcript) (lines_of input) result (W.failed writer.new)
+        (reader.new ≡ reader.old) (R.left reader.old) (R.left reader.new) text (state_at (seen (λ p. (⟦<dyn Peer as Peer>⟧ p.peer.vtable).state p.peer.value) (entries session.new.pool)) session.new.core)
         × Sends (R.reads reader.old) (R.reads reader.new) (W.sent writer.old) (W.sent writer.new) text }
     ensures failed { result ≡ 4 → (R.failed reader.new || W.failed writer.new) ≡ true }
     ensures works { result ≢ 4 → (R.failed reader.new ≡ false) × (W.failed writer.new ≡ false) }
+    ensures seated { IsSeated (seen (λ p. (⟦<dyn Peer as Peer>⟧ p.peer.vtable).state p.peer.value) (entries session.new.pool)) session.new.core }
+    ensures same { SameRelations (relations (λ p. (⟦<dyn Peer as Peer>⟧ p.peer.vtable).moves p.peer.value) (entries session.old.pool)) (relations (λ p. (⟦<dyn Peer as Peer>⟧ p.peer.vtable).moves p.peer.value) (entries session.new.pool)) }
 {
     let mut gather = Gather::new();
-    let Ok(()) = put_lines(&mut gather, writer, session.transcript()) else {
+    let put = put_lines(&mut gather, writer, session.transcript());
+    session.forget();
+    let Ok(()) = put else {
         return 4;
     };
-    session.forget();
-    handle_lines(alloc, &mut session, reader, &mut gather, writer)
+    handle_lines(alloc, session, reader, &mut gather, writer)
 }

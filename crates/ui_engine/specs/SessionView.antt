@@ -1,18 +1,21 @@
 -- What a session stands at, and what it answers.
-use Rattle.std.specs.Prelude.{◌≡◌, ℕ, Bool, true, false, List, [], Option, Some, None, option_map, string_bytes, ⊤, Result, Ok, Err}
-use Rattle.ui_machine.specs.declared.arm.Halt.TheVariants as halts
+use Rattle.std.specs.Prelude.{◌≡◌, Bool, true, false, List, [], map, option_map, string_bytes, ⊤, Option, Some, None, Result, Ok, Err}
 use Rattle.ui_machine.specs.Definition.{Definition}
-use Rattle.ui_machine.specs.State.Tasks.{Event}
-use Rattle.ui_machine.specs.State.Config.{World, Config}
 use Rattle.ui_machine.specs.Rules.Events.{Refusal, gone, clock_back, refusal}
-use Rattle.ui_machine.specs.Runs.{Tally, Carries, Halts, Serves, HaltsIn, of_build}
+use Rattle.ui_machine.specs.Runs.{of_build}
+use Rattle.ui_machine.specs.State.Config.{World}
+use Rattle.ui_machine.specs.State.Peers.{Peer}
+use Rattle.ui_machine.specs.State.Tasks.{Event}
 use Rattle.g_values.specs.View.{value_view}
-use Rattle.ui_engine.specs.declared.dispatch.Reply.{Reply}
-use Rattle.law_pools.specs.Needs.{Mismatch, missing}
-use Rattle.ui_engine.specs.declared.session.SessionFault.{SessionFault}
-use Rattle.ui_engine.specs.declared.session.SessionFault.TheVariants as faults
-use Rattle.ui_engine.specs.declared.session.StartFault.{StartFault}
-use Rattle.ui_engine.specs.declared.session.StartFault.TheVariants as starts
+use Rattle.law_pools.specs.Needs.{Mismatch, closed, misshapen, missing, unused}
+use Rattle.native_peers.specs.Seen.{Relations, Seen}
+use Rattle.engine_pools.specs.declared.dispatches.Reply.{Reply}
+use Rattle.engine_pools.specs.PoolView.{Knows, seen_of, world_at}
+use Rattle.engine_pools.specs.Ways.{Ways, carrying_out, serving, tally_of}
+use Rattle.ui_engine.specs.declared.faults.SessionFault.{SessionFault}
+use Rattle.ui_engine.specs.declared.faults.SessionFault.TheVariants as faults
+use Rattle.ui_engine.specs.declared.faults.StartFault.{StartFault}
+use Rattle.ui_engine.specs.declared.faults.StartFault.TheVariants as starts
 
 -- a definition, the world that stands, and whether the session has stopped
 pub record SessionState : Type 0 where
@@ -20,31 +23,23 @@ pub record SessionState : Type 0 where
   pub world : World
   pub stopped : Bool
 
+-- the same session with its peers as they are seen in its pool
+abbrev pub state_at : List Seen → SessionState → SessionState
+state_at pool s = record s { world = world_at pool s.world }
+
 -- the same session without the lines that it has said
 abbrev pub without_lines : SessionState → SessionState
 without_lines s = record s { world = record s.world { transcript = [] } }
 
--- what a reply counts
-abbrev pub tally_of : Reply → Tally
-tally_of reply = record { dispatches = reply.dispatches; steps = reply.steps }
+-- unless it has stopped, a session knows of each peer of its pool its name, its methods, and whether it is open
+abbrev pub IsSeated : List Seen → SessionState → Type 0
+IsSeated pool s = s.stopped ≡ false → Knows s.world pool
 
--- What a call may come to: a part of a run with these counts that leads to a world; or a part of one that has shown these lines, and then
--- no memory is found.
-pub record Ways : Type 1 where
-  pub to : Tally → World → Type 0
-  pub breaks_off : List (List ℕ) → Type 0
+-- ** what a call answers
 
--- one dispatch from a configuration
-abbrev pub carrying_out : Definition → Config → Ways
-carrying_out d c = record { to = Carries d c []; breaks_off = Halts d [] c halts.OutOfMemory }
-
--- the build of a definition
-abbrev pub building : Definition → Ways
-building d = carrying_out d (of_build d [])
-
--- an event, from a world
-abbrev pub serving : Definition → World → Event → Ways
-serving d w event = record { to = Serves d event [] w; breaks_off = HaltsIn d event [] w halts.OutOfMemory }
+-- the build of a definition with these peers
+abbrev pub building : Relations → Definition → List Peer → Ways
+building may d peers = carrying_out may d (of_build d peers)
 
 -- the part of the run came to its end, with the value that it told
 pub record Ends (reply : Reply) (ways : Ways) (d : Definition) (new : SessionState) : Type 0 where
@@ -55,7 +50,7 @@ pub record Ends (reply : Reply) (ways : Ways) (d : Definition) (new : SessionSta
 
 -- it broke off, and the session stopped with it
 pub record BreaksOff (ways : Ways) (d : Definition) (new : SessionState) : Type 0 where
-  pub breaks_off : ways.breaks_off new.world.transcript
+  pub breaks_off : ways.breaks_off (map seen_of new.world.peers) new.world.transcript
   pub definition : new.definition ≡ d
   pub stops : new.stopped ≡ true
 
@@ -69,17 +64,20 @@ Comes (Err faults.Released) ways d new = ⊥
 
 -- What comes of an event by why it is refused, if it is: one that names what was released, and a turn of a moment before the latest one. It
 -- changes nothing.
-abbrev pub AnswersBy : Option Refusal → Result Reply SessionFault → SessionState → Event → SessionState → Type 0
-AnswersBy (Some gone) result old event new = (result ≡ Err faults.Released) × (new ≡ old)
-AnswersBy (Some clock_back) result old event new = (result ≡ Err faults.ClockBack) × (new ≡ old)
-AnswersBy None result old event new = Comes result (serving old.definition old.world event) old.definition new
+abbrev pub AnswersBy : Relations → Option Refusal → Result Reply SessionFault → SessionState → Event → SessionState → Type 0
+AnswersBy may (Some gone) result old event new = (result ≡ Err faults.Released) × (new ≡ old)
+AnswersBy may (Some clock_back) result old event new = (result ≡ Err faults.ClockBack) × (new ≡ old)
+AnswersBy may None result old event new = Comes result (serving may old.definition old.world event) old.definition new
 
 -- an event: a session that has stopped answers that, and changes nothing
-abbrev pub AnswersEvent : Bool → Result Reply SessionFault → SessionState → Event → SessionState → Type 0
-AnswersEvent true result old event new = (result ≡ Err faults.Stopped) × (new ≡ old)
-AnswersEvent false result old event new = AnswersBy (refusal old.world event) result old event new
+abbrev pub AnswersEvent : Relations → Bool → Result Reply SessionFault → SessionState → Event → SessionState → Type 0
+AnswersEvent may true result old event new = (result ≡ Err faults.Stopped) × (new ≡ old)
+AnswersEvent may false result old event new = AnswersBy may (refusal old.world event) result old event new
 
--- why no session began, where a pool without peers lacks this peer first, if it lacks one
+-- why no session began: how the pool failed to match, if it did
 abbrev pub IsWhy : StartFault → Option Mismatch → Type 0
 IsWhy starts.OutOfMemory lack = ⊤
 IsWhy (starts.PeerMissing name) lack = lack ≡ Some (missing (string_bytes name))
+IsWhy (starts.PeerClosed name) lack = lack ≡ Some (closed (string_bytes name))
+IsWhy (starts.PeerShape name) lack = lack ≡ Some (misshapen (string_bytes name))
+IsWhy (starts.PeerUnused name) lack = lack ≡ Some (unused (string_bytes name))

@@ -1,15 +1,16 @@
-//! Sessions: a definition that runs.
+//! Sessions: a definition that runs, with the peers that it calls.
 //!
-//! A [`Session`] follows the abstract machine: each step of its engine is the machine's, and the transcript of a dispatch is that of a
-//! run of it.
+//! A [`Session`] follows the abstract machine: each step of its engine is the machine's, the replies of its peers are the only choice, and the
+//! transcript of a dispatch is that of a run of it.
 #![tactic(auto)]
 
-mod dispatch;
-mod needs;
-mod program_steps;
+mod cores;
+mod endings;
+mod faults;
 mod session;
-mod tasks;
-mod turns;
+mod starts;
 
-pub use dispatch::Reply;
-pub use session::{Finished, Refused, Session, SessionFault, StartFault, Started};
+pub use cores::Core;
+pub use engine_pools::Reply;
+pub use faults::{SessionFault, StartFault};
+pub use session::{Finished, Refused, Session, Started};

@@ -1,85 +1,40 @@
-//! A session: a verified definition, and what stands while its events come.
+//! A session: a verified definition, its pool of peers, and what stands while its events come.
 
-ghost use Rattle.std.specs.Prelude.{◌≡◌, ◌≤◌, [], None, Some, length, map, string_bytes, IfOk, IfErr, false};
-ghost use Rattle.ui_machine.specs.Output.Lines as lines;
-ghost use Rattle.ui_machine.specs.Runs.{beginning, first_world};
-ghost use Rattle.ui_machine.specs.State.Config.{said};
-ghost use Rattle.definition_format.specs.Meaning.{event_of, request_of};
+ghost use Rattle.std.specs.Prelude.{◌≡◌, None, map, string_bytes, IfOk, IfErr, false, true};
+ghost use Rattle.law_typing.specs.Laws.WellRead.{no_two};
+ghost use Rattle.ui_machine.specs.Definition.Names.{same_name};
 ghost use Rattle.ui_machine.specs.Prefix.{IsPrefix};
-ghost use Rattle.ui_machine.specs.Rules.Build.{forward_items};
 ghost use Rattle.ui_machine.specs.Rules.Events.{refusal};
-ghost use Rattle.ui_machine.specs.State.Tasks as config;
-ghost use Rattle.law_typing.specs.Good.Requests.{RequestRead};
+ghost use Rattle.law_pools.specs.Needs.{mismatch};
 ghost use Rattle.law_sessions.specs.Sessions.{EventRead};
-ghost use Rattle.law_pools.specs.Needs.{mismatch, missing};
-ghost use Rattle.engine_world.specs.TaskView.{item_of};
-ghost use Rattle.engine_world.specs.View.{world_of};
-ghost use Rattle.ui_engine.specs.Promises.{BuildKeeps, EventKeeps};
-ghost use Rattle.ui_engine.specs.SessionView.{AnswersBy, AnswersEvent, Comes, IsWhy, building, without_lines};
-ghost use Rattle.ui_engine.specs.Stepping.{IsAtRest};
-ghost use Rattle.ui_engine.specs.TurnView.{running_sources};
+ghost use Rattle.definition_format.specs.Meaning.{event_of};
+ghost use Rattle.native_peers.specs.Matching.{as_peers};
+ghost use Rattle.native_peers.specs.Pool.{entries, names, relations, seen};
+ghost use Rattle.native_peers.specs.Seen.{SameRelations};
+ghost use Rattle.ui_engine.specs.Endings.{taken_closed};
+ghost use Rattle.engine_pools.specs.PoolView.{world_at};
+ghost use Rattle.engine_pools.specs.Promises.{BuildKeeps, EventKeeps};
+ghost use Rattle.ui_engine.specs.BuildBegins.{IsBegun};
+ghost use Rattle.ui_engine.specs.SessionView.{AnswersEvent, Comes, IsSeated, IsWhy, building, state_at, without_lines};
 
-use crate::dispatch::{Reply, announce, dispatch};
-use crate::needs::missing_peer;
-use crate::turns::{begin_turn, run_sources};
-use definition_format::{Event, Request};
+use crate::cores::Core;
+use crate::endings::close_taken;
+use crate::faults::{SessionFault, StartFault};
+use crate::starts::{Beginning, begin};
+use definition_format::Event;
 use definitions::Definition;
-use engine_tasks::forward_references::forward_references;
-use engine_world::engine::Engine;
+use engine_pools::{Reply, dispatch};
 use engine_world::places::FIRST_PLACE;
-use engine_world::seats::Seats;
-use engine_world::task::{ForwardReferences, Task};
-use engine_world::weak_slots::weak_slots;
-use main_context::{Batch, TurnError};
-use std::alloc::{AllocError, Global};
-use std::marker::Model;
+use engine_world::task::Task;
+use native_peers::{Peer, PeerPool};
+use std::alloc::Global;
 use verified::Verified;
 
-/// Why an event was not carried out to its end.
-#[derive(Clone, Copy, Debug, PartialEq, Eq)]
-pub enum SessionFault {
-    /// Memory was refused. The session has stopped.
-    OutOfMemory,
-    /// The session stopped before, in its build or in an event.
-    Stopped,
-    /// A turn of a moment before the latest one. Nothing has changed.
-    ClockBack,
-    /// The event names an object that was released. Nothing has changed.
-    Released,
-}
-
-impl From<AllocError> for SessionFault {
-    ghost use Rattle.std.specs.Prelude.{◌≡◌};
-    ghost use Rattle.ui_engine.specs.declared.session.SessionFault.TheVariants as faults;
-
-    ghost from_gives = { λ _ fault. fault ≡ faults.OutOfMemory };
-
-    fn from(_error: AllocError) -> SessionFault {
-        SessionFault::OutOfMemory
-    }
-}
-
-/// What runs a verified definition. Where it has not stopped, each object is counted as often as it is mentioned, and nothing is left to do;
-/// and no event that is read against the definition can leave the machine stuck.
+/// What runs a verified definition, with the pool of its peers.
 #[derive(Drop)]
 pub struct Session {
-    verified: Verified,
-    engine: Engine,
-    stopped: bool,
-}
-
-impl Model for Session {
-    ghost use Rattle.std.specs.Prelude.{◌≡◌, false};
-    ghost use Rattle.ui_engine.specs.SessionView.{SessionState};
-    ghost use Rattle.engine_world.specs.View.{world_of};
-    ghost use Rattle.ui_engine.specs.Promises.{Rests};
-    ghost use Rattle.ui_engine.specs.Stepping.{IsAtRest};
-
-    ghost Value = { SessionState };
-
-    ghost view = { λ s. record { definition = s.verified; world = world_of s.engine.world; stopped = s.stopped } };
-
-    ghost invariant = { λ s. s.stopped ≡ false → IsAtRest s.verified s.engine × Rests s.verified (world_of s.engine.world) };
+    pub(crate) core: Core,
+    pub(crate) pool: PeerPool,
 }
 
 /// A session whose definition was built, or whose build stopped it.
@@ -89,78 +44,59 @@ pub struct Started {
     pub build: Result<Reply, SessionFault>,
 }
 
-/// Why no session began.
-#[derive(Debug, Drop)]
-pub enum StartFault {
-    /// Memory was refused before the build.
-    OutOfMemory,
-    /// The definition needs this peer first, and no peer of the name is there.
-    PeerMissing(String),
-}
-
-/// The definition that no session began with.
+/// What no session began with, handed back: the definition, and the pool, of which no peer was called or closed.
 #[derive(Drop)]
 pub struct Refused {
     pub fault: StartFault,
     pub verified: Verified,
+    pub pool: PeerPool,
 }
 
-/// What is left of a session.
+/// What is left of a session: its lines, and its pool, in which each peer is closed that an object has got.
 #[derive(Drop)]
 pub struct Finished {
     pub transcript: Vec<String>,
+    pub pool: PeerPool,
 }
 
-// An engine that has built nothing, and has said the line with which the build begins.
-fn first_engine(alloc: Global, definition: &Definition) -> Result<Engine, AllocError>
-    ensures rests { IfOk result (IsAtRest definition.now) }
-    ensures world { IfOk result (λ engine. world_of engine.world ≡ said definition.now (first_world definition.now []) lines.build) }
-{
-    let weak = weak_slots(alloc, definition)?;
-    let mut engine = Engine::new(alloc, weak, definition.limits(), Seats::new(alloc));
-    announce(&mut engine)?;
-    Ok(engine)
-}
-
-// The fault where this peer is missing.
-fn peer_missing(alloc: Global, name: &str) -> StartFault
-    ensures { IsWhy result (Some (missing name.now)) }
-{
-    match String::from_str(alloc, name) {
-        Ok(name) => StartFault::PeerMissing(name),
-        Err(_) => StartFault::OutOfMemory,
-    }
-}
-
-// Builds the objects of a verified definition, by an engine that has built nothing.
-fn build(verified: Verified, mut engine: Engine, forwards: ForwardReferences) -> Started
-    requires matches { mismatch verified [] ≡ None }
-    requires rests { IsAtRest verified engine }
-    requires world { world_of engine.world ≡ said verified (first_world verified []) lines.build }
-    requires forwards { map item_of forwards ≡ forward_items 0 verified.places }
-    ensures built { Comes result.build (building verified) verified result.session }
+// Builds the objects of a verified definition, from what a build begins with.
+fn build(verified: Verified, mut pool: PeerPool, beginning: Beginning) -> Started
+    requires begun { IsBegun verified (seen (λ p. (⟦<dyn Peer as Peer>⟧ p.peer.vtable).state p.peer.value) (entries pool)) beginning }
+    ensures built { Comes result.build (building (relations (λ p. (⟦<dyn Peer as Peer>⟧ p.peer.vtable).moves p.peer.value) (entries pool)) verified (as_peers (seen (λ p. (⟦<dyn Peer as Peer>⟧ p.peer.vtable).state p.peer.value) (entries pool)))) verified (state_at (seen (λ p. (⟦<dyn Peer as Peer>⟧ p.peer.vtable).state p.peer.value) (entries result.session.pool)) result.session.core) }
+    ensures seated { IsSeated (seen (λ p. (⟦<dyn Peer as Peer>⟧ p.peer.vtable).state p.peer.value) (entries result.session.pool)) result.session.core }
+    ensures same { SameRelations (relations (λ p. (⟦<dyn Peer as Peer>⟧ p.peer.vtable).moves p.peer.value) (entries pool)) (relations (λ p. (⟦<dyn Peer as Peer>⟧ p.peer.vtable).moves p.peer.value) (entries result.session.pool)) }
 {
     let definition = verified.definition();
     // For the proof: some bytes denote the definition.
     let _types = definition.types();
+    let Beginning {
+        mut engine,
+        forwards,
+    } = beginning;
     let task = Task::Building {
         place: FIRST_PLACE,
         forwards,
     };
-    match dispatch(&mut engine, definition, task) {
+    match dispatch(&mut engine, definition, &mut pool, task) {
         Ok(reply) => Started {
             session: Session {
-                verified,
-                engine,
-                stopped: false,
+                core: Core {
+                    verified,
+                    engine,
+                    stopped: false,
+                },
+                pool,
             },
             build: Ok(reply),
         },
         Err(error) => Started {
             session: Session {
-                verified,
-                engine,
-                stopped: true,
+                core: Core {
+                    verified,
+                    engine,
+                    stopped: true,
+                },
+                pool,
             },
             build: Err(SessionFault::from(error)),
         },
@@ -168,156 +104,97 @@ fn build(verified: Verified, mut engine: Engine, forwards: ForwardReferences) ->
 }
 
 impl Session {
-    /// Builds the objects of a verified definition that needs no peer. The build never leaves the machine stuck, and counts no more steps than
-    /// the report says.
+    /// Builds the objects of a verified definition, with a pool that has just the peers that it needs, open and of the right shapes. The build
+    /// never leaves the machine stuck, and counts no more steps than the report says.
     ///
     /// # Errors
     ///
-    /// `Refused`, with the definition: `PeerMissing` for the first peer that it needs, if it needs one, and `OutOfMemory` if no memory is found
+    /// `Refused`, with the definition and the pool as it was: `PeerMissing`, `PeerClosed` or `PeerShape` for the first peer that the definition
+    /// needs and the pool does not have so, then `PeerUnused` for the first that it does not need; and `OutOfMemory` if no memory is found
     /// before the build.
-    pub fn start(alloc: Global, verified: Verified) -> Result<Started, Refused>
-        ensures matches { IfOk result (λ started. mismatch verified [] ≡ None) }
-        ensures built { IfOk result (λ started. Comes started.build (building verified) verified started.session) }
-        ensures keeps { mismatch verified [] ≡ None → BuildKeeps verified }
-        ensures refused { IfErr result (λ refused. (refused.verified ≡ verified) × IsWhy refused.fault (mismatch verified [])) }
+    pub fn start(alloc: Global, verified: Verified, pool: PeerPool) -> Result<Started, Refused>
+        // Each pool has this.
+        requires apart { no_two same_name (names (entries pool)) ≡ true }
+        ensures matches { IfOk result (λ started. mismatch verified (as_peers (seen (λ p. (⟦<dyn Peer as Peer>⟧ p.peer.vtable).state p.peer.value) (entries pool))) ≡ None) }
+        ensures built { IfOk result (λ started. Comes started.build (building (relations (λ p. (⟦<dyn Peer as Peer>⟧ p.peer.vtable).moves p.peer.value) (entries pool)) verified (as_peers (seen (λ p. (⟦<dyn Peer as Peer>⟧ p.peer.vtable).state p.peer.value) (entries pool)))) verified
+            (state_at (seen (λ p. (⟦<dyn Peer as Peer>⟧ p.peer.vtable).state p.peer.value) (entries started.session.pool)) started.session.core)) }
+        ensures seated { IfOk result (λ started. IsSeated (seen (λ p. (⟦<dyn Peer as Peer>⟧ p.peer.vtable).state p.peer.value) (entries started.session.pool)) started.session.core) }
+        ensures same { IfOk result (λ started. SameRelations (relations (λ p. (⟦<dyn Peer as Peer>⟧ p.peer.vtable).moves p.peer.value) (entries pool)) (relations (λ p. (⟦<dyn Peer as Peer>⟧ p.peer.vtable).moves p.peer.value) (entries started.session.pool))) }
+        ensures keeps { mismatch verified (as_peers (seen (λ p. (⟦<dyn Peer as Peer>⟧ p.peer.vtable).state p.peer.value) (entries pool))) ≡ None → BuildKeeps verified (as_peers (seen (λ p. (⟦<dyn Peer as Peer>⟧ p.peer.vtable).state p.peer.value) (entries pool))) }
+        ensures refused { IfErr result (λ refused. (refused.verified ≡ verified) × (refused.pool ≡ pool) × IsWhy refused.fault (mismatch verified (as_peers (seen (λ p. (⟦<dyn Peer as Peer>⟧ p.peer.vtable).state p.peer.value) (entries pool))))) }
     {
-        let definition = verified.definition();
         // For the proof: some bytes denote the definition.
-        let _types = definition.types();
-        if let Some(name) = missing_peer(definition) {
-            let fault = peer_missing(alloc, name);
-            return Err(Refused { fault, verified });
+        let _types = verified.definition().types();
+        match begin(alloc, verified.definition(), &pool) {
+            Ok(beginning) => Ok(build(verified, pool, beginning)),
+            Err(fault) => Err(Refused {
+                fault,
+                verified,
+                pool,
+            }),
         }
-        let Ok(engine) = first_engine(alloc, definition) else {
-            return Err(Refused {
-                fault: StartFault::OutOfMemory,
-                verified,
-            });
-        };
-        let Ok(forwards) = forward_references(alloc, definition) else {
-            return Err(Refused {
-                fault: StartFault::OutOfMemory,
-                verified,
-            });
-        };
-        Ok(build(verified, engine, forwards))
     }
 
     /// Carries out an event with all that it leads to. The event has to be one that was read against the session's definition. It never leaves
-    /// the machine stuck, and each of its dispatches counts no more steps than the report says of what it begins with.
+    /// the machine stuck, and each of its dispatches counts no more steps than the report says of what it begins with. Each peer that it calls
+    /// replies as it may.
     ///
     /// # Errors
     ///
     /// `Stopped` if the session has stopped. Then `Released` if the event names an object that was released, and `ClockBack` if it is a turn of
-    /// a moment before the latest one: the session stays as it was. Else `OutOfMemory` if no memory is found, which stops the session.
+    /// a moment before the latest one: the session stays as it was. Else `OutOfMemory` if no memory is found, which stops the session; the peer
+    /// that was called last may have replied without a line that tells of it.
     pub fn dispatch(&mut self, event: Event) -> Result<Reply, SessionFault>
-        requires read { EventRead self.now.definition (event_of event) }
-        ensures answers { AnswersEvent self.old.stopped result self.old (event_of event) self.new }
-        ensures keeps { self.old.stopped ≡ false → refusal self.old.world (event_of event) ≡ None → EventKeeps self.old.definition self.old.world (event_of event) }
+        requires read { EventRead self.now.core.definition (event_of event) }
+        requires seated { IsSeated (seen (λ p. (⟦<dyn Peer as Peer>⟧ p.peer.vtable).state p.peer.value) (entries self.now.pool)) self.now.core }
+        ensures answers { AnswersEvent (relations (λ p. (⟦<dyn Peer as Peer>⟧ p.peer.vtable).moves p.peer.value) (entries self.old.pool)) self.old.core.stopped result (state_at (seen (λ p. (⟦<dyn Peer as Peer>⟧ p.peer.vtable).state p.peer.value) (entries self.old.pool)) self.old.core) (event_of event) (state_at (seen (λ p. (⟦<dyn Peer as Peer>⟧ p.peer.vtable).state p.peer.value) (entries self.new.pool)) self.new.core) }
+        ensures keeps { self.old.core.stopped ≡ false → refusal self.old.core.world (event_of event) ≡ None →
+            EventKeeps self.old.core.definition (world_at (seen (λ p. (⟦<dyn Peer as Peer>⟧ p.peer.vtable).state p.peer.value) (entries self.old.pool)) self.old.core.world) (event_of event) }
+        ensures seated { IsSeated (seen (λ p. (⟦<dyn Peer as Peer>⟧ p.peer.vtable).state p.peer.value) (entries self.new.pool)) self.new.core }
+        ensures same { SameRelations (relations (λ p. (⟦<dyn Peer as Peer>⟧ p.peer.vtable).moves p.peer.value) (entries self.old.pool)) (relations (λ p. (⟦<dyn Peer as Peer>⟧ p.peer.vtable).moves p.peer.value) (entries self.new.pool)) }
         // It only adds lines.
-        ensures grows { IsPrefix self.old.world.transcript self.new.world.transcript }
+        ensures grows { IsPrefix self.old.core.world.transcript self.new.core.world.transcript }
     {
-        if self.stopped {
-            return Err(SessionFault::Stopped);
-        }
-        match event {
-            Event::Request(request) => self.serve(request),
-            Event::Turn(moment) => self.turn(moment),
-        }
-    }
-
-    // Carries out a request, unless it names an object that was released.
-    fn serve(&mut self, request: Request) -> Result<Reply, SessionFault>
-        requires goes_on { self.now.stopped ≡ false }
-        requires read { RequestRead self.now.definition (request_of request) }
-        ensures answers { AnswersBy (refusal self.old.world (config.request (request_of request))) result self.old (config.request (request_of request)) self.new }
-        ensures keeps { refusal self.old.world (config.request (request_of request)) ≡ None → EventKeeps self.old.definition self.old.world (config.request (request_of request)) }
-        ensures grows { IsPrefix self.old.world.transcript self.new.world.transcript }
-    {
-        if self.engine.world.names_released(&request) {
-            return Err(SessionFault::Released);
-        }
-        let definition = self.verified.definition();
-        // For the proof: some bytes denote the definition.
-        let _types = definition.types();
-        let task = Task::Handling(request);
-        match dispatch(&mut self.engine, definition, task) {
-            Ok(reply) => return Ok(reply),
-            Err(error) => {
-                self.stopped = true;
-                return Err(SessionFault::from(error));
-            }
-        }
-    }
-
-    // A turn of the main loop: the sources that are ready and have the least priority number run, each in a dispatch of its own. Where no
-    // memory is found the session stops.
-    fn turn(&mut self, moment: u64) -> Result<Reply, SessionFault>
-        requires goes_on { self.now.stopped ≡ false }
-        ensures answers { AnswersBy (refusal self.old.world (config.turn moment)) result self.old (config.turn moment) self.new }
-        ensures keeps { refusal self.old.world (config.turn moment) ≡ None → EventKeeps self.old.definition self.old.world (config.turn moment) }
-        ensures grows { IsPrefix self.old.world.transcript self.new.world.transcript }
-    {
-        let definition = self.verified.definition();
-        // For the proof: some bytes denote the definition.
-        let _types = definition.types();
-        match begin_turn(&mut self.engine, definition, moment) {
-            Ok(batch) => self.run_batch(batch),
-            Err(TurnError::ClockBack) => Err(SessionFault::ClockBack),
-            Err(TurnError::OutOfMemory) => {
-                self.stopped = true;
-                Err(SessionFault::OutOfMemory)
-            }
-        }
-    }
-
-    // Runs the sources of a turn that has begun.
-    fn run_batch(&mut self, batch: Batch) -> Result<Reply, SessionFault>
-        requires goes_on { self.now.stopped ≡ false }
-        requires fresh { self.now.world.result ≡ None }
-        requires few { length batch ≤ 256 }
-        ensures comes { Comes result (running_sources self.old.definition batch self.old.world) self.old.definition self.new }
-        ensures grows { IsPrefix self.old.world.transcript self.new.world.transcript }
-    {
-        match run_sources(&mut self.engine, self.verified.definition(), batch) {
-            Ok(reply) => return Ok(reply),
-            Err(error) => {
-                self.stopped = true;
-                return Err(SessionFault::from(error));
-            }
-        }
+        self.core.dispatch(&mut self.pool, event)
     }
 
     /// The definition that it runs.
     pub fn definition(&self) -> &Definition
-        ensures { result.now ≡ self.now.definition }
+        ensures { result.now ≡ self.now.core.definition }
     {
-        self.verified.definition()
+        self.core.definition()
     }
 
     /// The lines that were said since the last call of `forget`, without their LF.
     pub fn transcript(&self) -> &[String]
-        ensures { map string_bytes result.now ≡ self.now.world.transcript }
+        ensures { map string_bytes result.now ≡ self.now.core.world.transcript }
     {
-        self.engine.world.transcript.as_slice()
+        self.core.transcript()
     }
 
     /// Gives up the lines so far, once they are written elsewhere, so that a session takes no more memory the longer it runs. They make
     /// no difference to what is said later.
     pub fn forget(&mut self)
-        ensures { self.new ≡ without_lines self.old }
+        ensures lines { self.new.core ≡ without_lines self.old.core }
+        ensures pool { self.new.pool ≡ self.old.pool }
     {
-        self.engine.world.transcript.clear();
+        self.core.forget();
     }
 
-    /// Ends the session, also where it has stopped, and hands out its lines.
+    /// Ends the session, also where it has stopped, closes each open peer that an object has got, and hands out the lines and the pool.
     pub fn finish(self) -> Finished
-        ensures { map string_bytes result.transcript.items ≡ self.world.transcript }
+        requires seated { IsSeated (seen (λ p. (⟦<dyn Peer as Peer>⟧ p.peer.vtable).state p.peer.value) (entries self.pool)) self.core }
+        ensures lines { map string_bytes result.transcript.items ≡ self.core.world.transcript }
+        ensures closed { (seen (λ p. (⟦<dyn Peer as Peer>⟧ p.peer.vtable).state p.peer.value) (entries result.pool)) ≡ taken_closed self.core.world.peers (seen (λ p. (⟦<dyn Peer as Peer>⟧ p.peer.vtable).state p.peer.value) (entries self.pool)) }
+        ensures same { SameRelations (relations (λ p. (⟦<dyn Peer as Peer>⟧ p.peer.vtable).moves p.peer.value) (entries self.pool)) (relations (λ p. (⟦<dyn Peer as Peer>⟧ p.peer.vtable).moves p.peer.value) (entries result.pool)) }
     {
-        let engine = self.engine;
+        let Session { core, mut pool } = self;
+        let engine = core.engine;
         let world = engine.world;
+        close_taken(&world.seats, &mut pool);
         Finished {
             transcript: world.transcript,
+            pool,
         }
     }
 }

@@ -1,10 +1,10 @@
 -- The first value of a name, as the rows of what was used have it, and what a refusal says of words.
-use Rattle.std.proofs.Common.{◌≡◌, ℕ, List, [], ◌∷◌, Option, None, Some, option_map, option_and_then, Bool, true, false, map, slice_get, refl, sym, ap, subst, ◌∙◌, if◌then◌else◌, MatchResult, Result, Ok, Err, IfErr, IfOk, inl, inr}
+use Rattle.std.proofs.Common.{◌≡◌, List, [], ◌∷◌, Some, option_map, option_and_then, Bool, true, false, map, slice_get, refl, sym, subst, if◌then◌else◌, Result, Ok, Err, IfOk, inl, inr}
 use Rattle.std.proofs.lemmas.Option.{slice_get-map}
 use Rattle.std.specs.List.{find}
 use Rattle.std.specs.Str.{bytes_eq}
 use Rattle.clap.specs.Facts.{Entry}
-use Rattle.clap.specs.Matches.{first_value, matched_of}
+use Rattle.clap.specs.Matches.{first_value}
 use Rattle.clap.specs.Walk.{row_of, rows_of}
 use Rattle.clap.specs.Words.{Row, Text, FailsBy, HasKind, Kinds, first_of, is_simple_and_free, kind_of}
 use Rattle.clap.specs.declared.error.Error.{Error}

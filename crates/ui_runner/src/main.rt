@@ -1,13 +1,21 @@
 //! The program: `ui verify DEF` and `ui run DEF EVENTS`.
 #![tactic(auto)]
 
-ghost use Rattle.std.specs.Prelude.{◌≡◌, false};
+ghost use Rattle.std.specs.Prelude.{◌≡◌, ◌≢◌, ⊤, IfOk, IfSome, None, Ok, false};
+ghost use Rattle.ui_machine.specs.Definition.{Definition};
+ghost use Rattle.builder_defs.specs.Denoted.{denoted};
 
 mod command_line;
 
+use builder_defs::{ReadError, read_definition};
 use command_line::{Request, RunFiles, WordsFault, read_words};
+use definitions::Definition;
 pub use event_lines::{check, run};
 use event_lines::{Counted, Ending, FileFault, definition_bytes};
+pub use host_peers::{Screen, Tally};
+use host_peers::{PoolProgram, run_with_stock};
+use native_peers::PeerPool;
+use std::alloc::{AllocError, Global};
 use std::env;
 use std::fs::File;
 use std::process::ExitCode;
@@ -67,6 +75,30 @@ fn check_file(rt: &HostRuntime, definition: &str) -> u8 {
     check(rt.alloc(), bytes.as_slice(), &mut writer)
 }
 
+// The run of a definition over a file of events.
+#[derive(Drop)]
+struct EventsRun<'a> {
+    rt: &'a HostRuntime,
+    definition: &'a [u8],
+    events: File,
+}
+
+impl PoolProgram for EventsRun<'_> {
+    ghost answers = { λ _ _. ⊤ };
+
+    fn run(self, mut pool: PeerPool) -> u8 {
+        let mut reader = device(self.events);
+        let mut writer = device(self.rt.stdout());
+        run(
+            self.rt.alloc(),
+            self.definition,
+            &mut pool,
+            &mut reader,
+            &mut writer,
+        )
+    }
+}
+
 // Reads the definition, opens the events, and runs.
 fn run_files(rt: &HostRuntime, files: RunFiles<'_>) -> u8 {
     let bytes = match definition_at(rt, files.definition) {
@@ -76,9 +108,35 @@ fn run_files(rt: &HostRuntime, files: RunFiles<'_>) -> u8 {
     let Ok(events) = File::open(rt, files.events) else {
         return unreadable(rt, files.events);
     };
-    let mut reader = device(events);
-    let mut writer = device(rt.stdout());
-    run(rt.alloc(), bytes.as_slice(), &mut reader, &mut writer)
+    let program = EventsRun {
+        rt,
+        definition: bytes.as_slice(),
+        events,
+    };
+    match run_with_peers(rt.alloc(), bytes.as_slice(), program) {
+        Ok(status) => status,
+        Err(AllocError) => out_of_memory(rt),
+    }
+}
+
+// Runs a definition with the peers that the host makes for it, and with none where it is refused.
+fn run_with_peers(alloc: Global, bytes: &[u8], program: EventsRun<'_>) -> Result<u8, AllocError> {
+    match definition_of(alloc, bytes)? {
+        Some(definition) => run_with_stock(alloc, &definition, program),
+        None => Ok(program.run(PeerPool::new(alloc))),
+    }
+}
+
+// The definition that some bytes denote; none where they denote none.
+fn definition_of(alloc: Global, bytes: &[u8]) -> Result<Option<Definition>, AllocError>
+    ensures some { IfOk result (λ found. IfSome found (λ d. denoted bytes.now ≡ Ok d)) }
+    ensures none { IfOk result (λ found. found ≡ None → (d : Definition) → denoted bytes.now ≢ Ok d) }
+{
+    match read_definition(alloc, bytes) {
+        Ok(definition) => Ok(Some(definition)),
+        Err(ReadError::Refused(_)) => Ok(None),
+        Err(ReadError::OutOfMemory) => Err(AllocError),
+    }
 }
 
 fn definition_at(rt: &HostRuntime, name: &str) -> Result<Vec<u8>, FileFault> {

@@ -1,4 +1,4 @@
-use Rattle.std.proofs.Common.{Some, None, string_bytes, sym, ap, subst}
+use Rattle.std.proofs.Common.{string_bytes}
 use Rattle.engine_pools.proofs.BoxByBox.{takes_args_by}
 use Rattle.engine_pools.proofs.boxes.ask.Goals as goal
 

@@ -1,5 +1,4 @@
 use Rattle.std.proofs.Common.{not, string_bytes, sym, ◌∙◌}
-use Rattle.ui_machine.specs.Seq.{read}
 use Rattle.ui_machine.specs.State.Config.{is_asked}
 use Rattle.engine_world.specs.View.{world_of}
 use Rattle.engine_pools.proofs.Apt.{and_parts}

@@ -1,5 +1,4 @@
-use Rattle.std.proofs.Common.{◌∙◌, sym, ap}
-use Rattle.std.specs.Option.{option_map}
+use Rattle.std.proofs.Common.{sym, ap}
 use Rattle.ui_machine.specs.State.Peers.{Peer, no_peer}
 use Rattle.engine_world.specs.SeatView.{lent_view}
 use Rattle.engine_world.proofs.MakingSteps.{read_nothing, read_there}

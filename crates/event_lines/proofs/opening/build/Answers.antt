@@ -1,34 +1,50 @@
-use Rattle.std.proofs.Common.{[], Ok, Err, Result, refl, subst}
+use Rattle.std.proofs.Common.{Result, subst}
 use Rattle.law_pools.proofs.PoolProofs.{matched_is_ready}
-use Rattle.ui_engine.specs.declared.dispatch.Reply.{Reply}
-use Rattle.ui_engine.specs.declared.session.SessionFault.{SessionFault}
-use Rattle.ui_engine.specs.SessionView.{Comes, building}
-use Rattle.event_lines.specs.Opening as openings
+use Rattle.native_peers.specs.Matching.{as_peers}
+use Rattle.native_peers.specs.Pool.{entries, relations, seen}
+use Rattle.engine_pools.proofs.Points.{same_here}
+use Rattle.engine_pools.specs.declared.dispatches.Reply.{Reply}
+use Rattle.ui_engine.specs.declared.faults.SessionFault.{SessionFault}
+use Rattle.ui_engine.specs.SessionView.{Comes, building, state_at}
 use Rattle.event_lines.specs.Opening.{IsTaken}
-use Rattle.event_lines.proofs.Openings.{opens_built, opens_stopped}
+use Rattle.event_lines.proofs.Openings.{all_free, opens_built, opens_stopped}
 use Rattle.event_lines.proofs.opening.build.Goals as goal
 
-pub returns-in-Ok-build : goal.returns-in-Ok-build
-returns-in-Ok-build c bytes denotes judged =
+pub returns-in-Ok-build-clause-opened : goal.returns-in-Ok-build-clause-opened
+returns-in-Ok-build-clause-opened g c bytes denotes judged =
     let d = c.args.verified in
-    let taken : IsTaken bytes d = record { denoted = denotes; judged = judged; accepted = c.definition.ensures.accepted; ready = matched_is_ready d [] c.in-Ok.ensures.matches tt } in
-    let s = c.in-Ok.started.session in
-    record {
-      opening = openings.built s;
-      is = refl;
-      opens = opens_built bytes d s taken c.in-Ok-build.field-0 (subst (λ (b : Result Reply SessionFault). Comes b (building d) d s) c.in-Ok-build.is c.in-Ok.ensures.built);
-    }
+    let pool = (seen (λ p. (g.dyn-1.0.entry p.peer.vtable).1.state p.peer.value) (entries c.args.pool)) in
+    let peers = as_peers pool in
+    let taken : IsTaken bytes d peers = record {
+      denoted = denotes;
+      judged = judged;
+      accepted = c.definition.ensures.accepted;
+      matches = c.in-Ok.ensures.matches;
+      ready = matched_is_ready d peers c.in-Ok.ensures.matches (all_free pool);
+    } in
+    let session = c.in-Ok.started.session in
+    opens_built (λ p. (g.dyn-1.0.entry p.peer.vtable).1.state p.peer.value) (relations (λ p. (g.dyn-1.0.entry p.peer.vtable).1.moves p.peer.value) (entries c.args.pool)) peers c.args.pool bytes d denotes judged session taken c.in-Ok-build.field-0 c.in-Ok.ensures.seated
+    (subst (λ (b : Result Reply SessionFault). Comes b (building (relations (λ p. (g.dyn-1.0.entry p.peer.vtable).1.moves p.peer.value) (entries c.args.pool)) d peers) d (state_at (seen (λ p. (g.dyn-1.0.entry p.peer.vtable).1.state p.peer.value) (entries session.pool)) session.core)) c.in-Ok-build.is c.in-Ok.ensures.built)
 
-pub returns-in-Err-build : goal.returns-in-Err-build
-returns-in-Err-build c bytes denotes judged =
+pub returns-in-Err-clause-opened : goal.returns-in-Err-clause-opened
+returns-in-Err-clause-opened g c bytes denotes judged =
+    (rw c.in-Err.ensures.refused.1 at c.unstarted.ensures.opened) bytes c.args.verified denotes judged c.in-Err.ensures.refused.2
+
+pub returns-in-Err-clause-same : goal.returns-in-Err-clause-same
+returns-in-Err-clause-same g c = rw (c.unstarted.ensures.same, c.in-Err.ensures.refused.1) (same_here (relations (λ p. (g.dyn-1.0.entry p.peer.vtable).1.moves p.peer.value) (entries c.args.pool)))
+
+pub returns-in-Err-build-clause-opened : goal.returns-in-Err-build-clause-opened
+returns-in-Err-build-clause-opened g c bytes denotes judged =
     let d = c.args.verified in
-    let taken : IsTaken bytes d = record { denoted = denotes; judged = judged; accepted = c.definition.ensures.accepted; ready = matched_is_ready d [] c.in-Ok.ensures.matches tt } in
-    let s = c.in-Ok.started.session in
-    record {
-      opening = openings.stopped s;
-      is = refl;
-      opens = opens_stopped bytes d s taken c.in-Err-build.field-0 (subst (λ (b : Result Reply SessionFault). Comes b (building d) d s) c.in-Err-build.is c.in-Ok.ensures.built);
-    }
-
-pub returns-in-Err : goal.returns-in-Err
-returns-in-Err c bytes denotes judged = c.unstarted.ensures bytes c.args.verified denotes judged c.in-Err.ensures.refused.1
+    let pool = (seen (λ p. (g.dyn-1.0.entry p.peer.vtable).1.state p.peer.value) (entries c.args.pool)) in
+    let peers = as_peers pool in
+    let taken : IsTaken bytes d peers = record {
+      denoted = denotes;
+      judged = judged;
+      accepted = c.definition.ensures.accepted;
+      matches = c.in-Ok.ensures.matches;
+      ready = matched_is_ready d peers c.in-Ok.ensures.matches (all_free pool);
+    } in
+    let session = c.in-Ok.started.session in
+    opens_stopped (λ p. (g.dyn-1.0.entry p.peer.vtable).1.state p.peer.value) (relations (λ p. (g.dyn-1.0.entry p.peer.vtable).1.moves p.peer.value) (entries c.args.pool)) peers c.args.pool bytes d denotes judged session taken c.in-Err-build.field-0 c.in-Ok.ensures.seated
+    (subst (λ (b : Result Reply SessionFault). Comes b (building (relations (λ p. (g.dyn-1.0.entry p.peer.vtable).1.moves p.peer.value) (entries c.args.pool)) d peers) d (state_at (seen (λ p. (g.dyn-1.0.entry p.peer.vtable).1.state p.peer.value) (entries session.pool)) session.core)) c.in-Err-build.is c.in-Ok.ensures.built)

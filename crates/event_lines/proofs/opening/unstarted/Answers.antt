@@ -1,12 +1,14 @@
-use Rattle.std.proofs.Common.{◌∙◌, ℕ, List, [], ap, string_bytes, subst}
-use Rattle.law_pools.specs.Needs.{mismatch, missing}
-use Rattle.ui_engine.specs.declared.session.StartFault.{StartFault}
-use Rattle.ui_engine.specs.SessionView.{IsWhy}
-use Rattle.event_lines.specs.Texts.{mismatch_text}
-use Rattle.event_lines.proofs.Openings.{opens_mismatched}
+use Rattle.std.proofs.Common.{refl}
+use Rattle.law_pools.specs.Needs.{mismatch}
+use Rattle.native_peers.specs.Matching.{as_peers}
+use Rattle.native_peers.specs.Pool.{entries, relations, seen}
+use Rattle.event_lines.proofs.Openings.{opens_mismatched, opens_unbegun}
 use Rattle.event_lines.proofs.opening.unstarted.Goals as goal
 
-pub returns-in-Ok : goal.returns-in-Ok
-returns-in-Ok c bytes d denotes judged why =
-    let lacks = subst (λ (fault : StartFault). IsWhy fault (mismatch d [])) c.in-PeerMissing.is why in
-    opens_mismatched bytes d (string_bytes c.in-PeerMissing.name) c.in-Ok.text denotes judged lacks (c.in-Ok.ensures ∙ ap (λ (n : List ℕ). mismatch_text (missing n)) c.as_str.ensures.value)
+pub returns-in-Some-clause-opened : goal.returns-in-Some-clause-opened
+returns-in-Some-clause-opened g c bytes d denotes judged why =
+    let peers = as_peers (seen (λ p. (g.dyn-1.0.entry p.peer.vtable).1.state p.peer.value) (entries c.args.refused.pool)) in
+    opens_mismatched (λ p. (g.dyn-1.0.entry p.peer.vtable).1.state p.peer.value) (relations (λ p. (g.dyn-1.0.entry p.peer.vtable).1.moves p.peer.value) (entries c.args.refused.pool)) peers c.args.refused.pool bytes d denotes judged c.in-Some.text c.args.refused.pool refl (c.in-Some.ensures (mismatch d peers) why)
+
+pub returns-clause-opened : goal.returns-clause-opened
+returns-clause-opened g c bytes d denotes judged why = opens_unbegun (λ p. (g.dyn-1.0.entry p.peer.vtable).1.state p.peer.value) (relations (λ p. (g.dyn-1.0.entry p.peer.vtable).1.moves p.peer.value) (entries c.args.refused.pool)) (as_peers (seen (λ p. (g.dyn-1.0.entry p.peer.vtable).1.state p.peer.value) (entries c.args.refused.pool))) c.args.refused.pool bytes c.args.refused.pool refl

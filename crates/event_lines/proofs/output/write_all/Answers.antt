@@ -1,5 +1,4 @@
-use Rattle.std.proofs.Common.{arith, length-take, length-drop, ◌+◌, ◌-◌, ◌≡◌, length, ◌∙◌}
-use Rattle.std.specs.Prelude.{◌==◌, if◌then◌else◌}
+use Rattle.std.proofs.Common.{arith, length-take, length-drop}
 use Rattle.event_lines.proofs.Pieces.{stops_before, goes_on, writes_once, writes_not}
 use Rattle.event_lines.proofs.output.write_all.Goals as goal
 

@@ -1,60 +1,75 @@
-use Rattle.std.proofs.Common.{◌≡◌, true, false, Ok, Err, [], refl, subst, sym}
-use Rattle.ui_machine.specs.declared.arm.Halt.TheVariants as halts
+use Rattle.std.proofs.Common.{true, false, Err, refl, subst, sym}
 use Rattle.ui_machine.specs.Definition.{Definition}
-use Rattle.ui_machine.specs.Runs.{Dispatches, Halts, beginning, of_build}
+use Rattle.ui_machine.specs.Runs.{beginning, of_build}
 use Rattle.ui_machine.specs.State.Config.{Config}
 use Rattle.ui_machine.specs.State.Tasks.{Building}
-use Rattle.definition_format.specs.Origin.{IsDenoted}
+use Rattle.native_peers.specs.Matching.{as_peers}
+use Rattle.native_peers.specs.Pool.{entries, relations, seen}
 use Rattle.engine_world.specs.View.{world_of}
 use Rattle.engine_world.specs.TaskView.{build_from}
-use Rattle.ui_engine.specs.declared.session.SessionFault.{SessionFault}
-use Rattle.ui_engine.specs.SessionView.{Comes, building}
-use Rattle.ui_engine.specs.Stepping.{Carried, IsAtRest, IsSafe}
+use Rattle.engine_pools.specs.Dispatched.{IsAtRest}
+use Rattle.engine_pools.specs.PoolView.{world_at}
+use Rattle.engine_pools.specs.Safety.{IsSafe}
+use Rattle.ui_engine.specs.declared.faults.SessionFault.{SessionFault}
+use Rattle.ui_engine.specs.SessionView.{Comes, building, state_at}
 use Rattle.ui_engine.proofs.Beginning.{begins_at}
-use Rattle.ui_engine.proofs.Ending.{broke_off, ended, session_at}
-use Rattle.ui_engine.proofs.Keeping.{build_rests, build_safe}
+use Rattle.ui_engine.proofs.Ending.{broke_off, build_broken_as, built_as, ended, session_at}
+use Rattle.ui_engine.proofs.Served.{builds_safely, built_rests}
 use Rattle.ui_engine.proofs.session.build.Goals as goal
 
 pub dispatch-requires-clause-safe : goal.dispatch-requires-clause-safe
-dispatch-requires-clause-safe c =
+dispatch-requires-clause-safe g c =
+    let pool = seen (λ p. (g.dyn-1.0.entry p.peer.vtable).1.state p.peer.value) (entries c.args.pool) in
     let same = c.definition-definition.ensures.same in
     let d = c.args.verified in
-    let w = world_of c.args.engine.world in
-    let fs = c.args.forwards in
-    let from = subst (λ (e : Definition). IsDenoted e) same c.types-types.ensures.denoted in
-    let safe = subst (λ (x : Config). IsSafe d x) (sym (begins_at d w fs c.requires.world c.requires.forwards)) (build_safe d from c.requires.matches c.definition-definition.ensures.accepted) in
-    subst (λ (e : Definition). IsSafe e (beginning w (Building (build_from e 0 fs)))) (sym same) safe
+    let e = c.definition-definition.result.now in
+    let w = world_at pool (world_of c.args.beginning.engine.world) in
+    let fs = c.args.beginning.forwards in
+    let begins = begins_at d (as_peers pool) w fs c.requires.begun.world c.requires.begun.forwards in
+    let safe = builds_safely d e same c.types-types.ensures.denoted pool c.requires.begun.matches c.definition-definition.ensures.accepted in
+    subst (λ (x : Definition). IsSafe e (beginning w (Building (build_from x 0 fs)))) (sym same) (subst (λ (x : Config). IsSafe e x) (sym begins) safe)
 
 pub invariant_of-result : goal.invariant_of-result
-invariant_of-result c _ =
+invariant_of-result g c _ =
+    let pool = seen (λ p. (g.dyn-1.0.entry p.peer.vtable).1.state p.peer.value) (entries c.args.pool) in
+    let may = relations (λ p. (g.dyn-1.0.entry p.peer.vtable).1.moves p.peer.value) (entries c.args.pool) in
+    let left = seen (λ p. (g.dyn-1.0.entry p.peer.vtable).1.state p.peer.value) (entries c.dispatch.new.pool) in
     let same = c.definition-definition.ensures.same in
     let d = c.args.verified in
-    let w = world_of c.args.engine.world in
-    let fs = c.args.forwards in
+    let w = world_at pool (world_of c.args.beginning.engine.world) in
+    let fs = c.args.beginning.forwards in
     let new = world_of c.dispatch.new.engine.world in
-    let from = subst (λ (e : Definition). IsDenoted e) same c.types-types.ensures.denoted in
-    let carried = subst (λ (e : Definition). Carried (Ok c.in-Ok.reply) e (beginning w (Building (build_from e 0 fs))) new) same c.in-Ok.ensures.carried in
-    let done = subst (λ (x : Config). Dispatches d [] x c.in-Ok.reply.steps new) (begins_at d w fs c.requires.world c.requires.forwards) carried.0 in (
-      subst (λ (e : Definition). IsAtRest e c.dispatch.new.engine) same c.in-Ok.ensures.rests,
-      build_rests d from c.requires.matches c.in-Ok.reply.steps new done,
+    let begins = begins_at d (as_peers pool) w fs c.requires.begun.world c.requires.begun.forwards in
+    let carried = built_as (as_peers pool) w fs c.in-Ok.reply same begins c.in-Ok.ensures.carried in (
+      subst (λ (x : Definition). IsAtRest x c.dispatch.new.engine) same c.in-Ok.ensures.rests,
+      built_rests d c.definition-definition.result.now same c.types-types.ensures.denoted pool c.requires.begun.matches may c.in-Ok.reply left new carried c.in-Ok.ensures.knows,
     )
 
-pub returns-in-Ok : goal.returns-in-Ok
-returns-in-Ok c =
+pub returns-in-Ok-clause-built : goal.returns-in-Ok-clause-built
+returns-in-Ok-clause-built g c =
+    let pool = seen (λ p. (g.dyn-1.0.entry p.peer.vtable).1.state p.peer.value) (entries c.args.pool) in
+    let may = relations (λ p. (g.dyn-1.0.entry p.peer.vtable).1.moves p.peer.value) (entries c.args.pool) in
+    let left = seen (λ p. (g.dyn-1.0.entry p.peer.vtable).1.state p.peer.value) (entries c.dispatch.new.pool) in
+    let same = c.definition-definition.ensures.same in
     let d = c.args.verified in
-    let w = world_of c.args.engine.world in
-    let fs = c.args.forwards in
+    let w = world_at pool (world_of c.args.beginning.engine.world) in
+    let fs = c.args.beginning.forwards in
     let new = world_of c.dispatch.new.engine.world in
-    let carried = subst (λ (e : Definition). Carried (Ok c.in-Ok.reply) e (beginning w (Building (build_from e 0 fs))) new) c.definition-definition.ensures.same c.in-Ok.ensures.carried in
-    let there = subst (λ (x : Config). Carried (Ok c.in-Ok.reply) d x new) (begins_at d w fs c.requires.world c.requires.forwards) carried in
-    record { built = ended d (of_build d []) c.in-Ok.reply new false refl there }
+    let begins = begins_at d (as_peers pool) w fs c.requires.begun.world c.requires.begun.forwards in
+    let carried = built_as (as_peers pool) w fs c.in-Ok.reply same begins c.in-Ok.ensures.carried in
+    ended d may left (of_build d (as_peers pool)) c.in-Ok.reply new false refl carried
 
-pub returns-in-Err : goal.returns-in-Err
-returns-in-Err c =
+pub returns-in-Err-clause-built : goal.returns-in-Err-clause-built
+returns-in-Err-clause-built g c =
+    let pool = seen (λ p. (g.dyn-1.0.entry p.peer.vtable).1.state p.peer.value) (entries c.args.pool) in
+    let may = relations (λ p. (g.dyn-1.0.entry p.peer.vtable).1.moves p.peer.value) (entries c.args.pool) in
+    let left = seen (λ p. (g.dyn-1.0.entry p.peer.vtable).1.state p.peer.value) (entries c.dispatch.new.pool) in
+    let same = c.definition-definition.ensures.same in
     let d = c.args.verified in
-    let w = world_of c.args.engine.world in
-    let fs = c.args.forwards in
+    let w = world_at pool (world_of c.args.beginning.engine.world) in
+    let fs = c.args.beginning.forwards in
     let new = world_of c.dispatch.new.engine.world in
-    let halted = subst (λ (e : Definition). Halts e [] (beginning w (Building (build_from e 0 fs))) halts.OutOfMemory new.transcript) c.definition-definition.ensures.same c.in-Err.ensures.carried in
-    let there = subst (λ (x : Config). Halts d [] x halts.OutOfMemory new.transcript) (begins_at d w fs c.requires.world c.requires.forwards) halted in
-    record { built = subst (λ (f : SessionFault). Comes (Err f) (building d) d (session_at d new true)) (sym c.from.ensures) (broke_off d (of_build d []) new there) }
+    let begins = begins_at d (as_peers pool) w fs c.requires.begun.world c.requires.begun.forwards in
+    let there = build_broken_as (as_peers pool) w fs same begins c.in-Err.ensures.carried in
+    subst (λ (f : SessionFault). Comes (Err f) (building may d (as_peers pool)) d (state_at left (session_at d new true))) (sym c.from.ensures)
+    (broke_off d may left (of_build d (as_peers pool)) new there)

@@ -1,5 +1,5 @@
-use Rattle.std.proofs.Common.{◌≡◌, [], map, string_bytes, sym, ap, subst, ◌∙◌, true}
-use Rattle.clap.specs.Words.{App, Text, app_of, fault_of, is_simple_and_free}
+use Rattle.std.proofs.Common.{◌≡◌, [], map, string_bytes, sym, ap, ◌∙◌, true}
+use Rattle.clap.specs.Words.{App, app_of, fault_of, is_simple_and_free}
 use Rattle.ui_runner.specs.CommandLine.{ui_command}
 use Rattle.ui_runner.proofs.CommandLine.{is_known, whatever_it_is}
 use Rattle.ui_runner.proofs.command_line.read_words.Goals as goal

@@ -1,0 +1,64 @@
+use Rattle.std.proofs.Common.{◌≡◌, List, Some, None, ap, sym, ◌∙◌}
+use Rattle.ui_machine.specs.State.References.{mentions, next_unheld}
+use Rattle.ui_machine.specs.State.Tasks.{Task}
+use Rattle.instances.specs.Store.{id_of, count_of}
+use Rattle.engine_world.specs.Counting.{nothing}
+use Rattle.engine_world.specs.EngineView.{config_of}
+use Rattle.engine_world.specs.TaskView.{agenda_of}
+use Rattle.engine_world.specs.View.{world_of}
+use Rattle.engine_world.proofs.Counts.{finds_mentioned}
+use Rattle.ui_machine.specs.Steps.{asked_after}
+use Rattle.engine_pools.proofs.LeftClosings.{finalised_known}
+use Rattle.engine_pools.proofs.Stepping.{finalise_can, finalise_stepped}
+use Rattle.engine_pools.proofs.quiet_steps.step_quietly.Goals as goal
+
+pub first_task-requires-clause-none : goal.first_task-requires-clause-none
+first_task-requires-clause-none c =
+    let d = c.args.definition.now in
+    let e = c.args.engine.now in
+    let none : next_unheld (count_of e.world.table.counts) e.world.table.objects ≡ None = sym c.next_unheld.ensures.found ∙ ap id_of c.in_default.is in
+    sym (finds_mentioned d e c.requires.counted) ∙ none
+
+pub returns-in-Ok-clause-counted : goal.returns-in-Ok-clause-counted
+returns-in-Ok-clause-counted c = c.in-Ok.ensures.counted.at nothing c.requires.counted
+
+pub returns-in-Ok-clause-stepped : goal.returns-in-Ok-clause-stepped
+returns-in-Ok-clause-stepped c =
+    let d = c.args.definition.now in
+    let e = c.args.engine.now in
+    let new = c.finalise.new.engine in
+    let id = c.in-Some.object.0 in
+    let one : next_unheld (count_of e.world.table.counts) e.world.table.objects ≡ Some id = sym c.next_unheld.ensures.found ∙ ap id_of c.in-Some.is in
+    let unheld : next_unheld (mentions d (config_of d e)) e.world.table.objects ≡ Some id = sym (finds_mentioned d e c.requires.counted) ∙ one in
+    let rest = agenda_of d e in
+    finalise_stepped d (config_of d e) id unheld (config_of d new) (record { world = world_of new.world; agenda = rest; counted = new.counted }) (c.in-Ok.ensures.step rest)
+    (ap (λ (ts : List Task). record (config_of d new) { agenda = ts }) (sym c.in-Ok.ensures.agenda)) c.in-Ok.ensures.counts
+
+pub returns-in-Err-OutOfMemory-clause-stepped : goal.returns-in-Err-OutOfMemory-clause-stepped
+returns-in-Err-OutOfMemory-clause-stepped c = c.in-Err-OutOfMemory.ensures.quiet
+
+pub unreachable-requires : goal.unreachable-requires
+unreachable-requires c =
+    let d = c.args.definition.now in
+    let e = c.args.engine.now in
+    let id = c.in-Some.object.0 in
+    let one : next_unheld (count_of e.world.table.counts) e.world.table.objects ≡ Some id = sym c.next_unheld.ensures.found ∙ ap id_of c.in-Some.is in
+    let unheld : next_unheld (mentions d (config_of d e)) e.world.table.objects ≡ Some id = sym (finds_mentioned d e c.requires.counted) ∙ one in
+    let stuck = rw c.in-Err-Stuck.field-0-is at (c.in-Err-Stuck.ensures.step (agenda_of d e)) in
+    finalise_can d (config_of d e) id unheld c.requires.safe c.in-Err-Stuck.field-0-0 stuck
+
+pub returns-in-Ok-clause-known : goal.returns-in-Ok-clause-known
+returns-in-Ok-clause-known c =
+    let d = c.args.definition.now in
+    let w = world_of c.args.engine.now.world in
+    let new = c.finalise.new.engine in
+    let rest = agenda_of d c.args.engine.now in
+    finalised_known d w c.in-Some.object.0 rest c.args.engine.now.counted (record { world = world_of new.world; agenda = rest; counted = new.counted }) c.args.engine.now.closing new.closing
+    (c.in-Ok.ensures.step rest) c.in-Ok.ensures.closing
+
+pub first_task-requires-clause-quiet : goal.first_task-requires-clause-quiet
+first_task-requires-clause-quiet c =
+    let d = c.args.definition.now in
+    let e = c.args.engine.now in
+    let none : next_unheld (count_of e.world.table.counts) e.world.table.objects ≡ None = sym c.next_unheld.ensures.found ∙ ap id_of c.in_default.is in
+    ap (asked_after (config_of d e)) (sym (sym (finds_mentioned d e c.requires.counted) ∙ none)) ∙ c.requires.quiet

@@ -1,0 +1,116 @@
+//! Dispatches: one task, and all that it leads to.
+
+ghost use Rattle.std.specs.Prelude.{◌≡◌, ◌≤◌, [], ◌∷◌, ◌++◌, codes, option_map, OnOk, OnErr, IfOk};
+ghost use Rattle.g_values.specs.View.{value_view};
+ghost use Rattle.ui_machine.specs.Runs.{beginning};
+ghost use Rattle.ui_machine.specs.Steps.{most_steps};
+ghost use Rattle.engine_world.specs.KnownHandlers.{TakesKnownHandlers};
+ghost use Rattle.engine_world.specs.View.{world_of};
+ghost use Rattle.engine_world.specs.TaskView.{task_in, agenda_of};
+ghost use Rattle.engine_world.specs.EngineView.{config_of};
+ghost use Rattle.ui_machine.specs.Prefix.{IsPrefix};
+ghost use Rattle.native_peers.specs.Pool.{entries, relations, seen};
+ghost use Rattle.native_peers.specs.Seen.{SameRelations};
+ghost use Rattle.engine_world.specs.Counting.{KeepsCounts};
+ghost use Rattle.engine_pools.specs.Dispatched.{Carried, EndsBy, IsAtRest};
+ghost use Rattle.engine_pools.specs.PoolView.{Knows, world_at};
+ghost use Rattle.engine_pools.specs.Safety.{IsSafe};
+
+use crate::runs::run;
+use definitions::Definition;
+use engine_world::engine::Engine;
+use engine_world::lines::Line;
+use engine_world::references::push_task;
+use engine_world::task::Task;
+use g_values::Value;
+use native_peers::{Peer, PeerPool};
+use std::alloc::AllocError;
+
+/// What a dispatch led to.
+#[derive(Drop)]
+pub struct Reply {
+    /// The value that the event told, where it told one.
+    pub result: Option<Value>,
+    /// How many lines `end` were said.
+    pub dispatches: u32,
+    /// The counted steps.
+    pub steps: u64,
+}
+
+// The task is all there is to do, and nothing of its dispatch is counted yet.
+fn begin_dispatch(
+    engine: &mut Engine,
+    definition: &Definition,
+    task: Task,
+) -> Result<(), AllocError>
+    requires idle { agenda_of definition.now engine.now ≡ [] }
+    requires begun { TakesKnownHandlers engine.now.world.handlers.last task }
+    ensures counted { OnOk result (KeepsCounts definition.now engine.old engine.new) }
+    ensures ok { OnOk result (config_of definition.now engine.new ≡ beginning (world_of engine.old.world) (task_in definition.now engine.old task)) }
+    ensures err { OnErr result ((world_of engine.new.world).transcript ≡ (world_of engine.old.world).transcript) }
+{
+    // For the proof: the clauses speak of the definition.
+    let _ = definition;
+    engine.world.result = None;
+    engine.counted = 0;
+    engine.stack.clear();
+    push_task(engine, task)?;
+    Ok(())
+}
+
+/// Carries out a task with all that it leads to, and says the line of its end. No run of the machine from there may be stuck.
+///
+/// # Errors
+///
+/// `AllocError` if no memory is found: the transcript is as far as the dispatch came.
+pub fn dispatch(
+    engine: &mut Engine,
+    definition: &Definition,
+    pool: &mut PeerPool,
+    task: Task,
+) -> Result<Reply, AllocError>
+    requires rests { IsAtRest definition.now engine.now }
+    requires begun { TakesKnownHandlers engine.now.world.handlers.last task }
+    requires knows { Knows (world_of engine.now.world) (seen (λ p. (⟦<dyn Peer as Peer>⟧ p.peer.vtable).state p.peer.value) (entries pool.now)) }
+    requires safe { IsSafe definition.now (beginning (world_at (seen (λ p. (⟦<dyn Peer as Peer>⟧ p.peer.vtable).state p.peer.value) (entries pool.now)) (world_of engine.now.world)) (task_in definition.now engine.now task)) }
+    ensures rests { OnOk result (IsAtRest definition.now engine.new) }
+    ensures knows { OnOk result (Knows (world_of engine.new.world) (seen (λ p. (⟦<dyn Peer as Peer>⟧ p.peer.vtable).state p.peer.value) (entries pool.new))) }
+    ensures carried { Carried result definition.now (relations (λ p. (⟦<dyn Peer as Peer>⟧ p.peer.vtable).moves p.peer.value) (entries pool.old))
+        (beginning (world_at (seen (λ p. (⟦<dyn Peer as Peer>⟧ p.peer.vtable).state p.peer.value) (entries pool.old)) (world_of engine.old.world)) (task_in definition.now engine.old task))
+        (seen (λ p. (⟦<dyn Peer as Peer>⟧ p.peer.vtable).state p.peer.value) (entries pool.new)) (world_at (seen (λ p. (⟦<dyn Peer as Peer>⟧ p.peer.vtable).state p.peer.value) (entries pool.new)) (world_of engine.new.world)) }
+    ensures few { IfOk result (λ reply. reply.steps ≤ most_steps) }
+    ensures same { SameRelations (relations (λ p. (⟦<dyn Peer as Peer>⟧ p.peer.vtable).moves p.peer.value) (entries pool.old)) (relations (λ p. (⟦<dyn Peer as Peer>⟧ p.peer.vtable).moves p.peer.value) (entries pool.new)) }
+    ensures grows { IsPrefix (world_of engine.old.world).transcript (world_of engine.new.world).transcript }
+{
+    begin_dispatch(engine, definition, task)?;
+    run(engine, definition, pool)?;
+    end_dispatch(engine, definition)
+}
+
+// Says the line of a dispatch's end, and answers what it led to.
+fn end_dispatch(engine: &mut Engine, definition: &Definition) -> Result<Reply, AllocError>
+    requires rests { IsAtRest definition.now engine.now }
+    ensures rests { OnOk result (IsAtRest definition.now engine.new) }
+    ensures says { IfOk result (λ reply. EndsBy reply definition.now (config_of definition.now engine.old) (world_of engine.new.world)) }
+    ensures quiet { OnErr result ((world_of engine.new.world).transcript ≡ (world_of engine.old.world).transcript) }
+{
+    let result = copied(&engine.world.result)?;
+    let steps = engine.counted;
+    let line = Line::End { steps }.text(engine.alloc, definition.types())?;
+    engine.world.say(line)?;
+    Ok(Reply {
+        result,
+        dispatches: 1,
+        steps,
+    })
+}
+
+// The same value once more, if there is one.
+fn copied(value: &Option<Value>) -> Result<Option<Value>, AllocError>
+    ensures { IfOk result (λ copy. option_map value_view copy ≡ option_map value_view value.now) }
+{
+    match value {
+        Some(value) => Ok(Some(value.copied()?)),
+        None => Ok(None),
+    }
+}

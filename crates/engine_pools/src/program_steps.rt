@@ -1,0 +1,44 @@
+//! Programs: how one takes its next instruction.
+
+ghost use Rattle.std.specs.Prelude.{◌≡◌, OnOk, OnErr};
+ghost use Rattle.ui_machine.specs.Definition.Lookups.{program_at};
+ghost use Rattle.ui_machine.specs.Instructions.{running};
+ghost use Rattle.ui_machine.specs.Steps.{counted_left};
+ghost use Rattle.frames.specs.FrameView.{frame_view};
+ghost use Rattle.engine_world.specs.View.{world_of};
+ghost use Rattle.engine_world.specs.TaskView.{agenda_of};
+ghost use Rattle.engine_world.specs.Counting.{Counts, in_frame, nothing};
+ghost use Rattle.engine_world.specs.EngineView.{config_of};
+ghost use Rattle.engine_world.specs.Standing.{GoesWithoutGone};
+ghost use Rattle.engine_pools.specs.TaskClosings.{ProgramLeaves};
+
+use definitions::Definition;
+use engine_instructions::execution::execute;
+use engine_world::counted_steps::count;
+use engine_world::engine::Engine;
+use frames::Frame;
+use ui_machine::{Arm, Halt};
+
+/// A program takes its next instruction. It is a counted step.
+pub(crate) fn run_program(
+    engine: &mut Engine,
+    definition: &Definition,
+    mut frame: Frame,
+) -> Result<(), Halt>
+    requires counted { Counts definition.now (λ o. in_frame o (frame_view frame)) engine.now }
+    ensures step { GoesWithoutGone result
+        (counted_left engine.old.counted (running definition.now (world_of engine.old.world) (agenda_of definition.now engine.old) (frame_view frame)))
+        (config_of definition.now engine.new) }
+    ensures quiet { OnErr result ((world_of engine.new.world).transcript ≡ (world_of engine.old.world).transcript) }
+    ensures closing { OnOk result (ProgramLeaves (world_of engine.old.world) (frame_view frame) (program_at definition.now (frame_view frame).program) engine.old.closing engine.new.closing) }
+    ensures counted { OnOk result (Counts definition.now nothing engine.new) }
+{
+    count(engine)?;
+    let Some(program) = definition.program(frame.program) else {
+        return Err(Halt::Stuck(Arm::Code));
+    };
+    let Some(instruction) = frame.take(program) else {
+        return Err(Halt::Stuck(Arm::Code));
+    };
+    execute(engine, definition, program, frame, instruction)
+}

@@ -1,0 +1,92 @@
+//! Steps in which no peer is asked.
+
+ghost use Rattle.std.specs.Prelude.{◌≡◌, [], None, Ok, OnOk};
+ghost use Rattle.ui_machine.specs.Prefix.{IsPrefix};
+ghost use Rattle.ui_machine.specs.Steps.{asked_first, question};
+ghost use Rattle.engine_world.specs.Counting.{Counts, nothing};
+ghost use Rattle.engine_world.specs.EngineView.{config_of};
+ghost use Rattle.engine_world.specs.TaskView.{agenda_of};
+ghost use Rattle.engine_world.specs.View.{world_of};
+ghost use Rattle.engine_pools.specs.QuietSteps.{IsSafeView, LeavesKnown, QuietlyStepped};
+ghost use Rattle.engine_pools.specs.Safety.{NoneUnheld};
+
+use crate::tasks::act;
+use definitions::Definition;
+use engine_tasks::finalisation::finalise;
+use engine_world::engine::{Engine, StepKind};
+use engine_world::references::let_go_any;
+use std::alloc::AllocError;
+use ui_machine::Halt;
+
+// What has floated longest, if something floats, floats no longer, where nothing else is left to do.
+fn sink_first_floating(engine: &mut Engine, definition: &Definition) -> StepKind
+    requires none { NoneUnheld definition.now (config_of definition.now engine.now) }
+    requires idle { agenda_of definition.now engine.now ≡ [] }
+    requires counted { Counts definition.now nothing engine.now }
+    ensures counted { Counts definition.now nothing engine.new }
+    ensures stepped { QuietlyStepped (Ok result) definition.now (config_of definition.now engine.old) (config_of definition.now engine.new) }
+    ensures same { (world_of engine.new.world).transcript ≡ (world_of engine.old.world).transcript }
+    ensures known { LeavesKnown (world_of engine.old.world) (world_of engine.new.world) engine.new.closing }
+{
+    // For the proof: the clauses speak of the definition.
+    let _ = definition;
+    let Some(object) = engine.world.table.first_floating() else {
+        return StepKind::Nothing;
+    };
+    engine.world.table.sink(object);
+    StepKind::Uncounted
+}
+
+// Makes the step of the first task, which asks no peer, or else of what floats, where nothing is to be finalised.
+fn first_task(engine: &mut Engine, definition: &Definition) -> Result<StepKind, AllocError>
+    requires safe { IsSafeView definition.now (config_of definition.now engine.now) }
+    requires none { NoneUnheld definition.now (config_of definition.now engine.now) }
+    requires quiet { asked_first (world_of engine.now.world) (agenda_of definition.now engine.now) ≡ None }
+    requires counted { Counts definition.now nothing engine.now }
+    ensures counted { OnOk result (Counts definition.now nothing engine.new) }
+    ensures stepped { QuietlyStepped result definition.now (config_of definition.now engine.old) (config_of definition.now engine.new) }
+    ensures known { OnOk result (LeavesKnown (world_of engine.old.world) (world_of engine.new.world) engine.new.closing) }
+    ensures grows { IsPrefix (world_of engine.old.world).transcript (world_of engine.new.world).transcript }
+{
+    // For the proof: what is known of a definition's types.
+    let _types = definition.types();
+    let Some(task) = engine.stack.pop() else {
+        return Ok(sink_first_floating(engine, definition));
+    };
+    let held = task.object();
+    let made = match act(engine, definition, task) {
+        Ok(made) => made,
+        Err(Halt::OutOfMemory) => return Err(AllocError),
+        Err(Halt::Stuck(_)) => unreachable!(),
+    };
+    let_go_any(&mut engine.world.table, held);
+    Ok(made)
+}
+
+/// Makes a step in which no peer is asked, if there is one to make: what nothing holds is finalised first, then comes the first task, and at
+/// last what floats. No run of the machine from there may be stuck.
+///
+/// # Errors
+///
+/// `AllocError` if no memory is found: nothing was said.
+pub(crate) fn step_quietly(
+    engine: &mut Engine,
+    definition: &Definition,
+) -> Result<StepKind, AllocError>
+    requires safe { IsSafeView definition.now (config_of definition.now engine.now) }
+    requires quiet { question definition.now (config_of definition.now engine.now) ≡ None }
+    requires counted { Counts definition.now nothing engine.now }
+    ensures counted { OnOk result (Counts definition.now nothing engine.new) }
+    ensures stepped { QuietlyStepped result definition.now (config_of definition.now engine.old) (config_of definition.now engine.new) }
+    ensures known { OnOk result (LeavesKnown (world_of engine.old.world) (world_of engine.new.world) engine.new.closing) }
+    ensures grows { IsPrefix (world_of engine.old.world).transcript (world_of engine.new.world).transcript }
+{
+    let Some(object) = engine.world.table.next_unheld() else {
+        return first_task(engine, definition);
+    };
+    match finalise(engine, definition, object) {
+        Ok(()) => Ok(StepKind::Counted),
+        Err(Halt::OutOfMemory) => Err(AllocError),
+        Err(Halt::Stuck(_)) => unreachable!(),
+    }
+}

@@ -1,0 +1,95 @@
+//! Runs: steps until nothing is left to do.
+
+ghost use Rattle.std.specs.Prelude.{◌≡◌, ◌≤◌, OnOk};
+ghost use Rattle.ui_machine.specs.Prefix.{IsPrefix};
+ghost use Rattle.ui_machine.specs.Steps.{most_steps};
+ghost use Rattle.native_peers.specs.Pool.{entries, relations, seen};
+ghost use Rattle.native_peers.specs.Seen.{SameRelations};
+ghost use Rattle.engine_world.specs.Counting.{Counts, nothing};
+ghost use Rattle.engine_world.specs.View.{world_of};
+ghost use Rattle.engine_pools.specs.CallPoints.{point_of};
+ghost use Rattle.engine_pools.specs.Safety.{ComesOfSafe};
+ghost use Rattle.engine_pools.specs.Stepped.{Advanced, Ran, Stepped};
+
+use crate::boxes::close_due;
+use crate::calls::{answer_call, take_call};
+use crate::quiet_steps::step_quietly;
+use definitions::Definition;
+use engine_world::engine::{Engine, StepKind};
+use native_peers::{Peer, PeerPool};
+use std::alloc::AllocError;
+
+// Makes a step, if there is one to make. A call of an open peer asks it; the box of a peer that a step has closed is closed with it.
+fn step(
+    engine: &mut Engine,
+    definition: &Definition,
+    pool: &mut PeerPool,
+) -> Result<StepKind, AllocError>
+    requires safe { ComesOfSafe definition.now (point_of definition.now (seen (λ p. (⟦<dyn Peer as Peer>⟧ p.peer.vtable).state p.peer.value) (entries pool.now)) engine.now) }
+    requires counted { Counts definition.now nothing engine.now }
+    ensures counted { OnOk result (Counts definition.now nothing engine.new) }
+    ensures stepped { Stepped result definition.now (relations (λ p. (⟦<dyn Peer as Peer>⟧ p.peer.vtable).moves p.peer.value) (entries pool.old))
+        (point_of definition.now (seen (λ p. (⟦<dyn Peer as Peer>⟧ p.peer.vtable).state p.peer.value) (entries pool.old)) engine.old) (point_of definition.now (seen (λ p. (⟦<dyn Peer as Peer>⟧ p.peer.vtable).state p.peer.value) (entries pool.new)) engine.new) }
+    ensures same { SameRelations (relations (λ p. (⟦<dyn Peer as Peer>⟧ p.peer.vtable).moves p.peer.value) (entries pool.old)) (relations (λ p. (⟦<dyn Peer as Peer>⟧ p.peer.vtable).moves p.peer.value) (entries pool.new)) }
+    ensures grows { IsPrefix (world_of engine.old.world).transcript (world_of engine.new.world).transcript }
+{
+    if let Some(call) = take_call(engine, definition) {
+        let Ok(()) = answer_call(engine, definition, pool, call) else {
+            return Err(AllocError);
+        };
+        return Ok(StepKind::Uncounted);
+    }
+    let made = step_quietly(engine, definition)?;
+    close_due(engine, pool);
+    Ok(made)
+}
+
+// Makes steps until a counted one is made or none is left, and answers whether one was made.
+fn advance(
+    engine: &mut Engine,
+    definition: &Definition,
+    pool: &mut PeerPool,
+) -> Result<bool, AllocError>
+    requires safe { ComesOfSafe definition.now (point_of definition.now (seen (λ p. (⟦<dyn Peer as Peer>⟧ p.peer.vtable).state p.peer.value) (entries pool.now)) engine.now) }
+    requires counted { Counts definition.now nothing engine.now }
+    ensures counted { OnOk result (Counts definition.now nothing engine.new) }
+    ensures advanced { Advanced result definition.now (relations (λ p. (⟦<dyn Peer as Peer>⟧ p.peer.vtable).moves p.peer.value) (entries pool.old))
+        (point_of definition.now (seen (λ p. (⟦<dyn Peer as Peer>⟧ p.peer.vtable).state p.peer.value) (entries pool.old)) engine.old) (point_of definition.now (seen (λ p. (⟦<dyn Peer as Peer>⟧ p.peer.vtable).state p.peer.value) (entries pool.new)) engine.new) }
+    ensures few { OnOk result (engine.old.counted ≤ most_steps → engine.new.counted ≤ most_steps) }
+    ensures same { SameRelations (relations (λ p. (⟦<dyn Peer as Peer>⟧ p.peer.vtable).moves p.peer.value) (entries pool.old)) (relations (λ p. (⟦<dyn Peer as Peer>⟧ p.peer.vtable).moves p.peer.value) (entries pool.new)) }
+    ensures grows { IsPrefix (world_of engine.old.world).transcript (world_of engine.new.world).transcript }
+{
+    loop {
+        match step(engine, definition, pool)? {
+            StepKind::Nothing => return Ok(false),
+            StepKind::Uncounted => {}
+            StepKind::Counted => return Ok(true),
+        }
+    }
+}
+
+/// Makes steps until none is left. No run of the machine from there may be stuck.
+///
+/// # Errors
+///
+/// `AllocError` if no memory is found.
+pub(crate) fn run(
+    engine: &mut Engine,
+    definition: &Definition,
+    pool: &mut PeerPool,
+) -> Result<(), AllocError>
+    requires safe { ComesOfSafe definition.now (point_of definition.now (seen (λ p. (⟦<dyn Peer as Peer>⟧ p.peer.vtable).state p.peer.value) (entries pool.now)) engine.now) }
+    requires counted { Counts definition.now nothing engine.now }
+    ensures counted { OnOk result (Counts definition.now nothing engine.new) }
+    ensures ran { Ran result definition.now (relations (λ p. (⟦<dyn Peer as Peer>⟧ p.peer.vtable).moves p.peer.value) (entries pool.old))
+        (point_of definition.now (seen (λ p. (⟦<dyn Peer as Peer>⟧ p.peer.vtable).state p.peer.value) (entries pool.old)) engine.old) (point_of definition.now (seen (λ p. (⟦<dyn Peer as Peer>⟧ p.peer.vtable).state p.peer.value) (entries pool.new)) engine.new) }
+    ensures few { OnOk result (engine.old.counted ≤ most_steps → engine.new.counted ≤ most_steps) }
+    ensures same { SameRelations (relations (λ p. (⟦<dyn Peer as Peer>⟧ p.peer.vtable).moves p.peer.value) (entries pool.old)) (relations (λ p. (⟦<dyn Peer as Peer>⟧ p.peer.vtable).moves p.peer.value) (entries pool.new)) }
+    ensures grows { IsPrefix (world_of engine.old.world).transcript (world_of engine.new.world).transcript }
+{
+    loop {
+        if !advance(engine, definition, pool)? {
+            return Ok(());
+        }
+    }
+}

@@ -1,0 +1,129 @@
+//! What each task does, as the machine's.
+
+ghost use Rattle.std.specs.Prelude.{◌≡◌, ◌∷◌, OnOk, OnErr, IfOk};
+ghost use Rattle.ui_machine.specs.State.References.{in_task};
+ghost use Rattle.ui_machine.specs.Steps.{act};
+ghost use Rattle.engine_world.specs.KnownHandlers.{TakesKnownHandlers};
+ghost use Rattle.engine_world.specs.View.{world_of};
+ghost use Rattle.engine_world.specs.TaskView.{task_in, agenda_of};
+ghost use Rattle.engine_world.specs.Counting.{Counts, in_subject};
+ghost use Rattle.engine_world.specs.EngineView.{config_of, IsOfKind};
+ghost use Rattle.engine_world.specs.Standing.{GoesWithoutGone, past_turns};
+ghost use Rattle.engine_pools.specs.TaskClosings.{TaskLeaves};
+
+use crate::program_steps::run_program;
+use definitions::Definition;
+use engine_tasks::binds::bind_from_build;
+use engine_tasks::builds::{build, construct};
+use engine_tasks::calls::pass_over;
+use engine_tasks::children::adopt_from_build;
+use engine_tasks::emission::{begin_emission, emit};
+use engine_tasks::events::handle_event;
+use engine_tasks::notifications::{notify, notify_thawed};
+use engine_tasks::sets::validate_and_set;
+use engine_tasks::signals::connect_from_build;
+use engine_tasks::sources::run_source;
+use engine_tasks::transfers::{transfer, unset};
+use engine_world::engine::{Engine, StepKind};
+use engine_world::task::Task;
+use ui_machine::{Arm, Halt};
+
+/// Does what a task says, and answers whether that was counted. An emission passes over handlers that are blocked, and bindings that set or
+/// have ended. A call is of a peer that has not been asked: one that is open leaves it stuck, as it does the machine without a reply.
+pub(crate) fn act(
+    engine: &mut Engine,
+    definition: &Definition,
+    task: Task,
+) -> Result<StepKind, Halt>
+    requires begun { TakesKnownHandlers engine.now.world.handlers.last task }
+    requires counted { Counts definition.now (λ o. in_task o (task_in definition.now engine.now task)) engine.now }
+    ensures step { GoesWithoutGone result
+        (act definition.now (world_of engine.old.world) None
+        (past_turns (world_of engine.old.world) (task_in definition.now engine.old task) ∷ agenda_of definition.now engine.old) engine.old.counted)
+        (config_of definition.now engine.new) }
+    ensures quiet { OnErr result ((world_of engine.new.world).transcript ≡ (world_of engine.old.world).transcript) }
+    ensures counted { OnOk result (Counts definition.now (λ o. in_subject o (task_in definition.now engine.old task)) engine.new) }
+    ensures closing { OnOk result (TaskLeaves definition.now (world_of engine.old.world) (task_in definition.now engine.old task) engine.old.closing engine.new.closing) }
+    ensures made { IfOk result (λ made. IsOfKind made (task_in definition.now engine.old task)) }
+{
+    match task {
+        Task::Setting {
+            object,
+            slot,
+            value,
+        } => {
+            validate_and_set(engine, definition, object, slot, value)?;
+            return Ok(StepKind::Uncounted);
+        }
+        Task::Notifying { object, slot } => {
+            notify(engine, definition, object, slot)?;
+            return Ok(StepKind::Counted);
+        }
+        Task::Beginning(emission) => {
+            begin_emission(engine, definition, emission)?;
+            return Ok(StepKind::Counted);
+        }
+        Task::Emitting {
+            cursor,
+            args,
+            by_event,
+            transfers,
+        } => {
+            emit(engine, definition, cursor, args, by_event, transfers)?;
+            return Ok(StepKind::Uncounted);
+        }
+        Task::Transferring { number, back } => {
+            transfer(engine, definition, number, back)?;
+            return Ok(StepKind::Counted);
+        }
+        Task::Unsetting { number } => {
+            unset(engine, definition, number);
+            return Ok(StepKind::Uncounted);
+        }
+        Task::Running(frame) => {
+            run_program(engine, definition, frame)?;
+            return Ok(StepKind::Counted);
+        }
+        Task::Thawing { object, slots } => {
+            notify_thawed(engine, definition, object, slots)?;
+            return Ok(StepKind::Uncounted);
+        }
+        Task::Constructing {
+            object,
+            steps,
+            held,
+        } => {
+            construct(engine, definition, object, steps, held)?;
+            return Ok(StepKind::Uncounted);
+        }
+        Task::Building { place, forwards } => {
+            build(engine, definition, place, forwards)?;
+            return Ok(StepKind::Uncounted);
+        }
+        Task::Adopting { place, forwards } => {
+            adopt_from_build(engine, definition, place, forwards)?;
+            return Ok(StepKind::Uncounted);
+        }
+        Task::Binding { number } => {
+            bind_from_build(engine, definition, number)?;
+            return Ok(StepKind::Uncounted);
+        }
+        Task::Connecting { place, number } => {
+            connect_from_build(engine, definition, place, number)?;
+            return Ok(StepKind::Uncounted);
+        }
+        Task::Answering { .. } => return Err(Halt::Stuck(Arm::Code)),
+        Task::Calling(call) => {
+            pass_over(engine, definition, call)?;
+            return Ok(StepKind::Uncounted);
+        }
+        Task::Due { source } => {
+            run_source(engine, definition, source)?;
+            return Ok(StepKind::Uncounted);
+        }
+        Task::Handling(event) => {
+            handle_event(engine, definition, event)?;
+            return Ok(StepKind::Uncounted);
+        }
+    }
+}

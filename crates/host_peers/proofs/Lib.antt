@@ -1,0 +1,4 @@
+mod Lines
+mod NoKind
+mod Places
+mod Taken

@@ -1,0 +1,8 @@
+use Rattle.std.specs.Prelude.{IsTrue}
+use Rattle.std.specs.List.{All}
+use Rattle.native_peers.specs.Pool.{entries}
+use Rattle.host_peers.proofs.stocked_runs.run_with_stock.OwnLists.{own-1}
+use Rattle.host_peers.proofs.stocked_runs.run_with_stock.Given as goal
+
+abbrev pub invariant-peers : goal.invariant-peers
+invariant-peers g l = All (λ p. IsTrue ((own-1.entry p.peer.vtable).1.state p.peer.value).is_open) (entries l.pool)

@@ -1,0 +1,46 @@
+-- Which peers the host makes for a definition.
+use Rattle.std.specs.Prelude.{ℕ, Bool, cond, List, [], ◌++◌, map, codes, Option, None, Some, option_and_then, slice_get}
+use Rattle.std.specs.List.{filter, flat_map}
+use Rattle.ui_machine.specs.Definition.{Definition}
+use Rattle.ui_machine.specs.Definition.Names.{same_name}
+use Rattle.ui_machine.specs.Definition.Places.{Place}
+use Rattle.ui_machine.specs.Definition.Signals.{Shape}
+use Rattle.ui_machine.specs.Rules.Construction.{nearest_shape}
+use Rattle.ui_machine.specs.Rules.Transform.{same_bool}
+use Rattle.law_pools.specs.Needs.{objects, prototypes}
+use Rattle.host_peers.specs.declared.stock_lists.StockKind.{StockKind}
+use Rattle.host_peers.specs.declared.stock_lists.StockKind.TheVariants as kinds
+use Rattle.host_peers.specs.declared.stock_lists.StockPeer.{StockPeer}
+
+-- a peer to be made: its name and its kind
+pub record Stocked : Type 0 where
+  pub name : List ℕ
+  pub kind : StockKind
+
+abbrev pub stock_view : StockPeer → Stocked
+stock_view p = record { name = p.name.now; kind = p.kind }
+
+-- the kind that the name of a shape says, if it says one
+abbrev pub kind_named : List ℕ → Option StockKind
+kind_named name = cond (same_name name (codes "Screen")) (Some kinds.Screen) (cond (same_name name (codes "Tally")) (Some kinds.Tally) None)
+
+-- the kind that the name of the shape of a class says
+abbrev pub kind_of : Definition → ℕ → Option StockKind
+kind_of d class = option_and_then (λ (s : Shape). kind_named s.name) (option_and_then (slice_get d.shapes) (nearest_shape d class))
+
+-- one of a kind for each name, and none where there is no kind
+abbrev pub all_of : Option StockKind → List (List ℕ) → List Stocked
+all_of None names = []
+all_of (Some kind) names = map (λ name. record { name = name; kind = kind }) names
+
+-- the peers of a place
+abbrev pub stock_at : Definition → Place → List Stocked
+stock_at d p = all_of (kind_of d p.class) p.peers
+
+-- the peers of a definition: those of prototypes first, then those of objects
+abbrev pub stock_of : Definition → List Stocked
+stock_of d = flat_map (stock_at d) (prototypes d) ++ flat_map (stock_at d) (objects d)
+
+-- the peers of those of some places that are prototypes, or that are objects
+abbrev pub stock_of_kind : Definition → Bool → List Place → List Stocked
+stock_of_kind d is_prototype places = flat_map (stock_at d) (filter (λ (p : Place). same_bool p.is_prototype is_prototype) places)

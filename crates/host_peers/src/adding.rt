@@ -1,0 +1,38 @@
+//! How peers of the host come into a pool.
+
+ghost use Rattle.std.specs.Prelude.{◌≡◌, IsSome, IsTrue, None, OnErr, OnOk, string_bytes};
+ghost use Rattle.std.specs.List.{All};
+ghost use Rattle.native_peers.specs.Pool.{AppendsOne, entries, number_of};
+
+use native_peers::{AddFault, NotAdded, Peer, PeerPool};
+use std::alloc::AllocError;
+
+/// Adds an open peer at the end of a pool whose peers are all open. Where a peer of the name is there, the new one is passed over.
+///
+/// # Errors
+///
+/// `AllocError` if memory is refused.
+pub fn put(pool: &mut PeerPool, name: &str, peer: Box<dyn Peer>) -> Result<(), AllocError>
+    requires open { IsTrue ((⟦<dyn Peer as Peer>⟧ peer.vtable).state peer.value).is_open }
+    requires all { All (λ p. IsTrue ((⟦<dyn Peer as Peer>⟧ p.peer.vtable).state p.peer.value).is_open) (entries pool.old) }
+    ensures added { OnOk result (number_of (entries pool.old) name.now ≡ None → AppendsOne (λ p. (string_bytes p.name ≡ name.now) × (p.peer ≡ peer)) (entries pool.old) (entries pool.new)) }
+    ensures passed_over { IsSome (number_of (entries pool.old) name.now) → entries pool.new ≡ entries pool.old }
+    ensures err { OnErr result (entries pool.new ≡ entries pool.old) }
+    ensures open { All (λ p. IsTrue ((⟦<dyn Peer as Peer>⟧ p.peer.vtable).state p.peer.value).is_open) (entries pool.new) }
+{
+    match pool.add(name, peer) {
+        Ok(()) => Ok(()),
+        Err(
+            NotAdded {
+                fault: AddFault::DuplicatePeer,
+                peer: _,
+            },
+        ) => Ok(()),
+        Err(
+            NotAdded {
+                fault: AddFault::OutOfMemory,
+                peer: _,
+            },
+        ) => Err(AllocError),
+    }
+}

@@ -1,0 +1,191 @@
+//! A screen, which keeps lines of text.
+
+ghost use Rattle.std.specs.Prelude.{◌≡◌, ◌≤◌, IfOk, OnErr, length, map, slice_get, vec_len};
+ghost use Rattle.std.specs.List.{All};
+ghost use Rattle.std.specs.Rc.{rc_str_bytes};
+ghost use Rattle.ui_machine.specs.Instructions.Arithmetic.{most_bytes};
+ghost use Rattle.ui_machine.specs.State.Peers.{PeerState};
+ghost use Rattle.g_values.specs.View.{value_view};
+ghost use Rattle.peer_shapes.specs.MethodViews.{method_view};
+ghost use Rattle.native_peers.specs.Moves.{Answers, MethodTakes, answer_of};
+ghost use Rattle.host_peers.specs.Screens.{Answered, Reads, Screens, Shows, first_place, first_text, most_lines, new_screen, place_in, screen_shape, text_in, texts};
+
+use g_values::{Kind, Value};
+use native_peers::{Method, Peer, PeerFault};
+use std::alloc::{AllocError, Global};
+use std::rc::RcStr;
+
+/// How many lines a screen keeps.
+pub const MOST_LINES: usize = 1000;
+
+/// How many bytes a line has at most.
+pub const MOST_LINE_BYTES: usize = 4096;
+
+/// Lines of text. `show` adds one, and answers how many there are then; it faults where there is no room for one more, or the text is too long.
+/// `line` answers one by its number, the first of which is 0, and null past the end. Both fault where memory is refused. A fault leaves the lines.
+#[derive(Drop)]
+pub struct Screen {
+    methods: Vec<Method>,
+    lines: Vec<RcStr>,
+    is_callable: bool,
+    calls: u64,
+    faults: u64,
+    ghost shaped: { map method_view methods.items ≡ screen_shape },
+    ghost few: { vec_len lines ≤ most_lines },
+    ghost short: { All (λ line. length (rc_str_bytes line) ≤ most_bytes) lines.items },
+}
+
+// The text of a value, and the empty one for null.
+fn text_in(alloc: Global, value: &Value) -> Result<RcStr, AllocError>
+    ensures { IfOk result (λ text. rc_str_bytes text ≡ text_in (value_view value.now)) }
+{
+    match value {
+        Value::Text(Some(text)) => text.clone(),
+        _ => RcStr::from_str(alloc, ""),
+    }
+}
+
+// The text of the first argument.
+fn first_text(alloc: Global, args: &[Value]) -> Result<RcStr, AllocError>
+    ensures { IfOk result (λ text. rc_str_bytes text ≡ first_text (map value_view args.now)) }
+{
+    match args {
+        [] => RcStr::from_str(alloc, ""),
+        [value, ..] => text_in(alloc, value),
+    }
+}
+
+// The number of a value of 32 bits without a sign.
+fn place_in(value: &Value) -> u32
+    ensures { result ≡ place_in (value_view value.now) }
+{
+    match value {
+        Value::UInt(n) => *n,
+        _ => 0,
+    }
+}
+
+// The number of the first argument.
+fn first_place(args: &[Value]) -> u32
+    ensures { result ≡ first_place (map value_view args.now) }
+{
+    match args {
+        [] => 0,
+        [value, ..] => place_in(value),
+    }
+}
+
+impl Screen {
+    /// An open screen without lines.
+    ///
+    /// # Errors
+    ///
+    /// `AllocError` if memory is refused.
+    pub fn new(alloc: Global) -> Result<Self, AllocError>
+        ensures { IfOk result (λ s. ⟦<Screen as Peer>⟧.state s ≡ new_screen) }
+    {
+        let show = Method {
+            name: String::from_str(alloc, "show")?,
+            params: vec![in alloc; Kind::Text]?,
+            result: Kind::UInt,
+        };
+        let line = Method {
+            name: String::from_str(alloc, "line")?,
+            params: vec![in alloc; Kind::UInt]?,
+            result: Kind::Text,
+        };
+        Ok(Screen {
+            methods: vec![in alloc; show, line]?,
+            lines: Vec::new(alloc),
+            is_callable: true,
+            calls: 0,
+            faults: 0,
+        })
+    }
+
+    // Adds a line, if there is room for it and it is short enough.
+    fn show(&mut self, args: &[Value]) -> Result<Value, PeerFault>
+        ensures shows { IfOk result (λ v. Shows (map rc_str_bytes self.old.lines.items) (first_text (map value_view args.now)) (value_view v) (map rc_str_bytes self.new.lines.items)) }
+        ensures kept { OnErr result (self.new.lines.items ≡ self.old.lines.items) }
+        ensures calls { self.new.calls ≡ self.old.calls }
+        ensures faults { self.new.faults ≡ self.old.faults }
+        ensures openness { self.new.is_callable ≡ self.old.is_callable }
+    {
+        if self.lines.len() >= MOST_LINES {
+            return Err(PeerFault);
+        }
+        let Ok(text) = first_text(*self.lines.allocator(), args) else {
+            return Err(PeerFault);
+        };
+        if text.len() > MOST_LINE_BYTES {
+            return Err(PeerFault);
+        }
+        if self.lines.push(text).is_err() {
+            return Err(PeerFault);
+        }
+        Ok(Value::UInt(self.lines.len() as u32))
+    }
+
+    // The line of a number, and null past the end.
+    fn line(&self, args: &[Value]) -> Result<Value, PeerFault>
+        ensures { IfOk result (λ v. Reads (map rc_str_bytes self.now.lines.items) (first_place (map value_view args.now)) (value_view v) (map rc_str_bytes self.now.lines.items)) }
+    {
+        let Some(line) = self.lines.get(first_place(args) as usize) else {
+            return Ok(Value::Text(None));
+        };
+        let Ok(text) = line.clone() else {
+            return Err(PeerFault);
+        };
+        Ok(Value::Text(Some(text)))
+    }
+
+    // What a method answers.
+    fn answer(&mut self, method: usize, args: &[Value]) -> Result<Value, PeerFault>
+        requires { MethodTakes (slice_get screen_shape method) (map value_view args.now) }
+        ensures answered { IfOk result (λ v. Answered (map rc_str_bytes self.old.lines.items) method (map value_view args.now) (value_view v) (map rc_str_bytes self.new.lines.items)) }
+        ensures fits { Answers (slice_get screen_shape method) (answer_of result) }
+        ensures kept { OnErr result (self.new.lines.items ≡ self.old.lines.items) }
+        ensures calls { self.new.calls ≡ self.old.calls }
+        ensures faults { self.new.faults ≡ self.old.faults }
+        ensures openness { self.new.is_callable ≡ self.old.is_callable }
+    {
+        if method == 0 {
+            self.show(args)
+        } else {
+            self.line(args)
+        }
+    }
+}
+
+impl Peer for Screen {
+    ghost state = { λ s. record { shape = screen_shape; is_open = s.is_callable; calls = s.calls; faults = s.faults; values = texts (map rc_str_bytes s.lines.items) } };
+
+    ghost moves = { λ s. Screens };
+
+    fn shape(&self) -> &[Method] {
+        &self.methods
+    }
+
+    fn is_open(&self) -> bool {
+        self.is_callable
+    }
+
+    fn invoke(&mut self, method: usize, args: &[Value]) -> Result<Value, PeerFault> {
+        self.calls = self.calls.wrapping_add(1);
+        match self.answer(method, args) {
+            Ok(value) => Ok(value),
+            Err(fault) => {
+                self.faults = self.faults.wrapping_add(1);
+                Err(fault)
+            }
+        }
+    }
+
+    fn close(&mut self) {
+        self.is_callable = false;
+    }
+
+    fn counts(&self) -> (u64, u64) {
+        (self.calls, self.faults)
+    }
+}

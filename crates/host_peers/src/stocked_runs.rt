@@ -1,0 +1,52 @@
+//! Programs that run with the peers which the host makes for a definition.
+
+ghost use Rattle.std.specs.Prelude.{IfOk, IsTrue, ℕ};
+ghost use Rattle.std.specs.List.{All};
+ghost use Rattle.native_peers.specs.Pool.{entries};
+
+use crate::adding::put;
+use crate::screens::Screen;
+use crate::stock_lists::{StockKind, stock};
+use crate::tallies::Tally;
+use definitions::Definition;
+use native_peers::{Peer, PeerPool};
+use std::alloc::{AllocError, Global};
+
+/// A program that runs with a pool of peers.
+pub trait PoolProgram: Drop {
+    /// The statuses that it may answer, whatever open peers it has.
+    ghost answers: { Self → ℕ → Type 0 };
+
+    /// Runs with a pool of open peers, and answers a status.
+    fn run(self, pool: PeerPool) -> u8
+        requires { All (λ p. IsTrue ((⟦<dyn Peer as Peer>⟧ p.peer.vtable).state p.peer.value).is_open) (entries pool) }
+        ensures { answers self result };
+}
+
+/// Makes the peers of a definition (`stock`), of each name the first, and runs a program with them.
+///
+/// # Errors
+///
+/// `AllocError` if memory is refused before the program runs.
+pub fn run_with_stock<P: PoolProgram>(
+    alloc: Global,
+    definition: &Definition,
+    program: P,
+) -> Result<u8, AllocError>
+    ensures { IfOk result (λ status. P.answers program status) }
+{
+    let mut pool = PeerPool::new(alloc);
+    'peers: for peer in stock(alloc, definition)? {
+        match peer.kind {
+            StockKind::Screen => {
+                let screen = Box::new(alloc, Screen::new(alloc)?)?;
+                put(&mut pool, peer.name, screen)?;
+            }
+            StockKind::Tally => {
+                let tally = Box::new(alloc, Tally::new(alloc)?)?;
+                put(&mut pool, peer.name, tally)?;
+            }
+        }
+    }
+    Ok(program.run(pool))
+}

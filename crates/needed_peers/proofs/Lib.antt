@@ -1,0 +1,7 @@
+mod SameShapes
+mod Alone
+mod Taken
+mod Matched
+mod FirstNeeds
+mod Places
+mod Seating

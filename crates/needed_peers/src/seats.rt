@@ -1,0 +1,48 @@
+//! The peers of a pool, as the engine knows them.
+
+ghost use Rattle.std.specs.Prelude.{◌≡◌, IfOk, None, map, option_map};
+ghost use Rattle.law_peers.specs.Forgetting.{forgotten};
+ghost use Rattle.law_pools.specs.Needs.{mismatch_with};
+ghost use Rattle.native_peers.specs.Matching.{as_peers, need_view};
+ghost use Rattle.native_peers.specs.Pool.{entries, seen};
+ghost use Rattle.needed_peers.specs.Needing.{shape_needed};
+
+use engine_world::seats::Seats;
+use native_peers::{Need, Peer, PeerPool};
+use peer_shapes::Shape;
+use std::alloc::{AllocError, Global};
+
+// The shape of the first need of a name.
+fn shape_for<'a>(needs: &[Need<'a>], name: &str) -> Option<&'a Shape>
+    ensures { option_map (λ s. s.now) result ≡ shape_needed (map need_view needs.now) name.now }
+{
+    'needs: for need in needs {
+        if need.name == name {
+            return need.shape;
+        }
+    }
+    None
+}
+
+/// The peers of a pool that matches what is needed, in the pool's order: each under its name and with its methods, no object's, and open as it is.
+///
+/// # Errors
+///
+/// `AllocError` if memory is refused.
+pub fn seats(alloc: Global, pool: &PeerPool, needs: &[Need<'_>]) -> Result<Seats, AllocError>
+    requires matches { mismatch_with (map need_view needs.now) (as_peers (seen (λ p. (⟦<dyn Peer as Peer>⟧ p.peer.vtable).state p.peer.value) (entries pool.now))) ≡ None }
+    ensures { IfOk result (λ seats. seats ≡ map forgotten (as_peers (seen (λ p. (⟦<dyn Peer as Peer>⟧ p.peer.vtable).state p.peer.value) (entries pool.now)))) }
+{
+    let mut seats = Seats::new(alloc);
+    'peers: for k in 0..pool.left() {
+        let name = String::from_str(alloc, pool.name(k))?;
+        let Some(shape) = shape_for(needs, name.as_str()) else {
+            unreachable!()
+        };
+        // For the proof: the kinds of the peer's methods are plain.
+        let _methods = pool.shape(k);
+        let shape = shape.copied()?;
+        seats.add(name, shape, pool.is_open(k))?;
+    }
+    Ok(seats)
+}

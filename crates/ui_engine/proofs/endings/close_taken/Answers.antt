@@ -1,0 +1,21 @@
+use Rattle.std.proofs.Common.{◌≤◌, ◌<◌, length, string_bytes, arith}
+use Rattle.engine_pools.proofs.Points.{same_on}
+use Rattle.ui_engine.proofs.TakenProofs.{inside_still, taken_end, taken_on}
+use Rattle.ui_engine.proofs.endings.close_taken.Goals as goal
+
+pub close_if_taken-requires : goal.close_if_taken-requires
+close_if_taken-requires g c = record {
+  inside = inside_still (λ p. record { name = string_bytes p.name; state = (g.dyn-1.0.entry p.peer.vtable).1.state p.peer.value }) c.peers.pool.peers.items c.args.pool.now.peers.items _ c.peers.number c.peers.invariant.closed
+      (let few : c.peers.number < length c.args.pool.now.peers.items = omega (arith, c.peers-test.true, c.left-number-end.ensures) in few);
+}
+
+pub peers-preserved : goal.peers-preserved
+peers-preserved g c = record {
+  closed = taken_on c.peers.number c.args.seats.now _ _ _ c.peers.invariant.closed c.close_if_taken.ensures.closed;
+  same = same_on c.peers.invariant.same c.close_if_taken.ensures.same;
+}
+
+pub returns-clause-closed : goal.returns-clause-closed
+returns-clause-closed g c =
+    let all : length c.args.pool.now.peers.items ≤ c.peers.number = omega (arith, c.peers-test.false, c.left-number-end.ensures) in
+    taken_end (λ p. record { name = string_bytes p.name; state = (g.dyn-1.0.entry p.peer.vtable).1.state p.peer.value }) c.peers.pool.peers.items c.args.pool.now.peers.items c.args.seats.now c.peers.number c.peers.invariant.closed all

@@ -1,0 +1,33 @@
+use Rattle.std.proofs.Common.{ap, subst, sym, ◌∙◌}
+use Rattle.ui_machine.specs.Output.Lines as lines
+use Rattle.ui_machine.specs.State.Config.{World, said}
+use Rattle.signal_core.specs.Connected.{Connected}
+use Rattle.engine_world.specs.declared.engine.Engine.{Engine}
+use Rattle.engine_world.specs.Counting.{Connects}
+use Rattle.engine_world.specs.KnownHandlers.{AllTakeKnownHandlers}
+use Rattle.engine_world.specs.TaskView.{agenda_of}
+use Rattle.ui_engine.proofs.Beginning.{none_counted_with}
+use Rattle.ui_engine.proofs.starts.first_engine.Goals as goal
+
+pub returns-clause-world : goal.returns-clause-world
+returns-clause-world c =
+    let d = c.args.definition.now in
+    c.in_ok-announce.ensures.line ∙ ap (λ (w : World). said d w lines.build) (c.new-engine.ensures.world d)
+
+pub returns-clause-rests : goal.returns-clause-rests
+returns-clause-rests c =
+    let d = c.args.definition.now in
+    let beside = c.announce.ensures.beside in
+    let world = c.in_ok-announce.ensures.line ∙ ap (λ (w : World). said d w lines.build) (c.new-engine.ensures.world d) in
+    let idle = ap (λ (e : Engine). agenda_of d e) beside ∙ c.new-engine.ensures.idle d in
+    let marks = ap (λ (e : Engine). e.world.weak) beside ∙ c.new-engine.ensures.marks in
+    let same = ap (λ (e : Engine). e.world.handlers) beside ∙ c.new-engine.ensures.handlers in
+    let connects : Connects d c.announce.new.engine = record {
+      most = ap (λ (h : Connected). h.most) same ∙ c.limits.ensures.handlers;
+      to_come = ap (λ (h : Connected). h.to_come) same;
+      begun =
+          subst (λ (h : Connected). AllTakeKnownHandlers h.last c.announce.new.engine.stack) (sym same)
+          (subst (λ (e : Engine). AllTakeKnownHandlers 0 e.stack) (sym beside) c.new-engine.ensures.begun);
+    } in
+    let counts = ap (λ (e : Engine). e.world.table.counts) beside ∙ c.new-engine.ensures.counts in
+    record { counts = none_counted_with d c.args.seats c.announce.new.engine c.in_ok-weak.weak c.in_ok-weak.ensures connects marks counts world idle; idle = idle }

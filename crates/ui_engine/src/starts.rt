@@ -1,0 +1,115 @@
+//! How sessions begin: the pool is matched, and an engine is made that knows it.
+
+ghost use Rattle.std.specs.Prelude.{◌≡◌, [], ◌∷◌, ◌++◌, codes, map, Some, IfErr, IfOk, OnOk};
+ghost use Rattle.ui_machine.specs.Output.Lines as lines;
+ghost use Rattle.ui_machine.specs.Runs.{first_world};
+ghost use Rattle.ui_machine.specs.State.Config.{said};
+ghost use Rattle.law_pools.specs.Needs.{mismatch};
+ghost use Rattle.native_peers.specs.Matching.{as_peers, mismatch_view};
+ghost use Rattle.native_peers.specs.Pool.{entries, seen};
+ghost use Rattle.ui_machine.specs.Rules.Build.{forward_items};
+ghost use Rattle.engine_world.specs.TaskView.{item_of};
+ghost use Rattle.engine_world.specs.View.{world_of};
+ghost use Rattle.engine_pools.specs.Dispatched.{IsAtRest};
+ghost use Rattle.ui_engine.specs.BuildBegins.{IsBegun};
+ghost use Rattle.ui_engine.specs.SessionView.{IsWhy};
+
+use crate::faults::StartFault;
+use definitions::Definition;
+use engine_tasks::forward_references::forward_references;
+use engine_world::engine::Engine;
+use engine_world::seats::Seats;
+use engine_world::task::ForwardReferences;
+use engine_world::weak_slots::weak_slots;
+use native_peers::{MatchFault, Peer, PeerPool};
+use needed_peers::needs::needs;
+use needed_peers::seats::seats;
+use std::alloc::{AllocError, Global};
+
+/// What a build begins with.
+#[derive(Drop)]
+pub(crate) struct Beginning {
+    pub(crate) engine: Engine,
+    pub(crate) forwards: ForwardReferences,
+}
+
+// The line with which the build begins.
+fn announce(engine: &mut Engine) -> Result<(), AllocError>
+    ensures line { OnOk result (world_of engine.new.world ≡ record (world_of engine.old.world) { transcript = (world_of engine.old.world).transcript ++ codes "build" ∷ [] }) }
+    ensures beside { engine.new ≡ record engine.old { world = record engine.old.world { transcript = engine.new.world.transcript } } }
+{
+    let line = String::from_str(engine.alloc, "build")?;
+    engine.world.say(line)
+}
+
+// An engine that has built nothing, knows these peers, and has said the line with which the build begins.
+fn first_engine(alloc: Global, definition: &Definition, seats: Seats) -> Result<Engine, AllocError>
+    ensures rests { IfOk result (IsAtRest definition.now) }
+    ensures world { IfOk result (λ engine. world_of engine.world ≡ said definition.now (first_world definition.now seats) lines.build) }
+{
+    let weak = weak_slots(alloc, definition)?;
+    let mut engine = Engine::new(alloc, weak, definition.limits(), seats);
+    announce(&mut engine)?;
+    Ok(engine)
+}
+
+// What a build begins with, with an engine that knows these peers.
+fn first_beginning(
+    alloc: Global,
+    definition: &Definition,
+    seats: Seats,
+) -> Result<Beginning, AllocError>
+    ensures rests { IfOk result (λ b. IsAtRest definition.now b.engine) }
+    ensures world { IfOk result (λ b. world_of b.engine.world ≡ said definition.now (first_world definition.now seats) lines.build) }
+    ensures forwards { IfOk result (λ b. map item_of b.forwards ≡ forward_items 0 definition.now.places) }
+{
+    let engine = first_engine(alloc, definition, seats)?;
+    let forwards = forward_references(alloc, definition)?;
+    Ok(Beginning { engine, forwards })
+}
+
+// How a pool failed to match, as the fault of a session.
+fn fault_of(alloc: Global, fault: MatchFault<'_>) -> Result<StartFault, AllocError>
+    ensures { IfOk result (λ why. IsWhy why (Some (mismatch_view fault.entry))) }
+{
+    match fault {
+        MatchFault::PeerMissing(name) => {
+            let name = String::from_str(alloc, name)?;
+            return Ok(StartFault::PeerMissing(name));
+        }
+        MatchFault::PeerClosed(name) => {
+            let name = String::from_str(alloc, name)?;
+            return Ok(StartFault::PeerClosed(name));
+        }
+        MatchFault::PeerShape(name) => {
+            let name = String::from_str(alloc, name)?;
+            return Ok(StartFault::PeerShape(name));
+        }
+        MatchFault::PeerUnused(name) => {
+            let name = String::from_str(alloc, name)?;
+            return Ok(StartFault::PeerUnused(name));
+        }
+    }
+}
+
+/// What the build of a definition begins with, whose pool matches.
+///
+/// # Errors
+///
+/// How the pool fails to match, and `OutOfMemory`.
+pub(crate) fn begin(
+    alloc: Global,
+    definition: &Definition,
+    pool: &PeerPool,
+) -> Result<Beginning, StartFault>
+    ensures begun { IfOk result (IsBegun definition.now (seen (λ p. (⟦<dyn Peer as Peer>⟧ p.peer.vtable).state p.peer.value) (entries pool.now))) }
+    ensures why { IfErr result (λ fault. IsWhy fault (mismatch definition.now (as_peers (seen (λ p. (⟦<dyn Peer as Peer>⟧ p.peer.vtable).state p.peer.value) (entries pool.now))))) }
+{
+    let needs = needs(alloc, definition)?;
+    if let Err(fault) = pool.matches(needs.as_slice()) {
+        return Err(fault_of(alloc, fault)?);
+    }
+    let seats = seats(alloc, pool, needs.as_slice())?;
+    let beginning = first_beginning(alloc, definition, seats)?;
+    Ok(beginning)
+}
