@@ -15,4 +15,5 @@ pub use definition_format::{
 pub use definition_parts::document::MAX_BYTES;
 pub use definitions::{Definition, ObjectEntry};
 pub use event_reading::{MAX_LINE_BYTES, read_event};
+pub use named_peers::peers;
 pub use reading::read_definition;

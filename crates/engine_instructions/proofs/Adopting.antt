@@ -14,8 +14,8 @@ use Rattle.ui_machine.specs.Rules.Children.{adopted, is_unadoptable, with_family
 use Rattle.ui_machine.specs.State.Config.{Started, World, said}
 use Rattle.ui_machine.specs.State.Objects.{Object, living}
 use Rattle.ui_machine.specs.State.Tasks.{Frame}
-use Rattle.instances.specs.Family.{refusal}
-use Rattle.instances.specs.declared.error.AdoptError.TheVariants.{ChildLimit, HasParent}
+use Rattle.instance_tables.specs.Family.{refusal}
+use Rattle.instance_tables.specs.declared.error.AdoptError.TheVariants.{ChildLimit, HasParent}
 use Rattle.engine_world.specs.KinView.{joined}
 use Rattle.engine_world.proofs.Emits.{stops_on}
 use Rattle.engine_instructions.proofs.ObjectSteps.{operand_lives}

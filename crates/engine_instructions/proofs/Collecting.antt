@@ -21,7 +21,7 @@ use Rattle.ui_machine.specs.State.Objects.{Object, asked, class_in, living}
 use Rattle.ui_machine.specs.State.References.{in_emission, in_object, in_register, in_task, in_value, same}
 use Rattle.ui_machine.specs.State.Tasks.{Answering, Emission, Emitting, PlanEntry, Task}
 use Rattle.g_values.specs.declared.value.Value as values
-use Rattle.instances.specs.Store.{Store, count_of}
+use Rattle.instance_tables.specs.Store.{Store, count_of}
 use Rattle.signal_core.specs.Emission.{Due, Walk, is_over, stopped}
 use Rattle.engine_world.specs.KnownHandlers.{AllTakeKnownHandlers, EndsWithoutTransfers}
 use Rattle.engine_instructions.specs.CollectView.{TestsNone, collects, gives_none, stops_at}

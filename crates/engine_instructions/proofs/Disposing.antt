@@ -17,10 +17,10 @@ use Rattle.ui_machine.specs.State.References.{in_task}
 use Rattle.ui_machine.specs.State.Tasks.{Frame, Running, Task}
 use Rattle.ui_machine.specs.Steps.{left}
 use Rattle.bindings.specs.Made.{Made}
-use Rattle.instances.specs.Release.{Disposes}
-use Rattle.instances.specs.Store.{Store}
-use Rattle.instances.specs.Weak.{Knows}
-use Rattle.instances.proofs.Disposed.{dispose_exact}
+use Rattle.instance_tables.specs.Release.{Disposes}
+use Rattle.instance_tables.specs.Store.{Store}
+use Rattle.instance_tables.specs.Weak.{Knows}
+use Rattle.instance_tables.proofs.Disposed.{dispose_exact}
 use Rattle.signal_core.specs.Connected.{Connected}
 use Rattle.machine_laws.specs.GoneLaws.{Gone, pruned}
 use Rattle.machine_laws.proofs.GoneProofs.{hold_as}

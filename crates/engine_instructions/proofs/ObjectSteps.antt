@@ -21,7 +21,7 @@ use Rattle.ui_machine.specs.State.Config.{BuilderEntry, Started, World, built, b
 use Rattle.ui_machine.specs.State.Objects.{Object, Objects, changed, living, object_at}
 use Rattle.ui_machine.specs.State.Tasks.{Frame, Thawing}
 use Rattle.frames.specs.Operand.{identity_in}
-use Rattle.instances.specs.Family.{parent_in}
+use Rattle.instance_tables.specs.Family.{parent_in}
 use Rattle.engine_world.proofs.Emits.{stops_on}
 
 -- ** operands

@@ -19,9 +19,9 @@ use Rattle.ui_machine.specs.State.Objects.{Object, Objects}
 use Rattle.ui_machine.specs.State.References.{in_object}
 use Rattle.ui_machine.specs.State.Tasks.{Frame, Running, Task}
 use Rattle.ui_machine.specs.Steps.{left, uncounted}
-use Rattle.instances.specs.Family.{Leaves, Sinks, refusal_in}
-use Rattle.instances.specs.Store.{Store, id_of, with_objects}
-use Rattle.instances.proofs.Exact.{leave_exact}
+use Rattle.instance_tables.specs.Family.{Leaves, Sinks, refusal_in}
+use Rattle.instance_tables.specs.Store.{Store, id_of, with_objects}
+use Rattle.instance_tables.proofs.Exact.{leave_exact}
 use Rattle.engine_world.specs.Counting.{Counts, KeepsCounts, in_frame, nothing}
 use Rattle.engine_world.specs.EngineView.{config_of}
 use Rattle.engine_world.specs.KinView.{joined}

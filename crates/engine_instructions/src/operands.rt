@@ -8,7 +8,7 @@ ghost use Rattle.ui_machine.specs.declared.arm.Arm.TheVariants as arms;
 ghost use Rattle.frames.specs.FrameView.{frame_view};
 ghost use Rattle.frames.specs.Operand.{number_of_object};
 ghost use Rattle.bytecode.specs.View.{number_of};
-ghost use Rattle.instances.specs.Store.{id_of};
+ghost use Rattle.instance_tables.specs.Store.{id_of};
 ghost use Rattle.engine_world.specs.View.{world_of};
 ghost use Rattle.engine_world.specs.GivenView.{Finds};
 

@@ -9,7 +9,7 @@ ghost use Rattle.ui_machine.specs.Rules.Sets.{raising};
 ghost use Rattle.ui_machine.specs.Steps.{left, uncounted};
 ghost use Rattle.g_values.specs.View.{value_view};
 ghost use Rattle.frames.specs.FrameView.{frame_view};
-ghost use Rattle.instances.specs.Store.{Shows};
+ghost use Rattle.instance_tables.specs.Store.{Shows};
 ghost use Rattle.engine_world.specs.View.{world_of};
 ghost use Rattle.engine_world.specs.GivenView.{Finds};
 ghost use Rattle.engine_instructions.specs.PropertyView.{settable_slot, readable_value};

@@ -4,7 +4,7 @@ ghost use Rattle.std.specs.Prelude.{◌≡◌, OnOk, OnErr};
 ghost use Rattle.ui_machine.specs.Instructions.{in_front};
 ghost use Rattle.ui_machine.specs.Instructions.Sources.{attaching, removing, with_source};
 ghost use Rattle.ui_machine.specs.State.Config.{World};
-ghost use Rattle.instances.specs.Store.{id_of};
+ghost use Rattle.instance_tables.specs.Store.{id_of};
 ghost use Rattle.engine_world.specs.SourceView.{with_new_source};
 ghost use Rattle.ui_machine.specs.Outcome.{Goes};
 ghost use Rattle.ui_machine.specs.Steps.{left};

@@ -10,7 +10,7 @@ use Rattle.ui_machine.specs.Seq.{read}
 use Rattle.ui_machine.specs.State.Config.{World, said}
 use Rattle.ui_machine.specs.State.Objects.{Object, Objects, object_at}
 use Rattle.ui_machine.proofs.Prefixes.{prefix_one}
-use Rattle.instances.proofs.Held.{total_put}
+use Rattle.instance_tables.proofs.Held.{total_put}
 use Rattle.engine_world.specs.Measure.{waiting, waiting_in}
 use Rattle.engine_world.proofs.Floats.{bind_ok, without_less}
 

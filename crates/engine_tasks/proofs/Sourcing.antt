@@ -8,7 +8,7 @@ use Rattle.ui_machine.specs.Rules.Programs.{program_before}
 use Rattle.ui_machine.specs.State.Config.{World}
 use Rattle.ui_machine.specs.State.Sources.{Source, source_of}
 use Rattle.ui_machine.specs.State.Tasks.{Answering}
-use Rattle.instances.specs.Store.{id_of}
+use Rattle.instance_tables.specs.Store.{id_of}
 use Rattle.main_context.specs.Dues.{due_of}
 use Rattle.main_context.specs.declared.source.Due.{Due}
 

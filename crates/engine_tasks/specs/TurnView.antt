@@ -4,7 +4,7 @@ use Rattle.ui_machine.specs.Definition.Values as values
 use Rattle.ui_machine.specs.Definition.Values.{Value}
 use Rattle.ui_machine.specs.Rules.Accumulation.{instance_of}
 use Rattle.ui_machine.specs.State.Tasks.{Emission}
-use Rattle.instances.specs.Store.{id_of}
+use Rattle.instance_tables.specs.Store.{id_of}
 use Rattle.signal_core.specs.declared.turn.Turn.{Turn}
 use Rattle.signal_core.specs.declared.turn.Turn.TheVariants as turns
 use Rattle.engine_tasks.specs.declared.turns.Invocation.{Invocation}

@@ -9,7 +9,7 @@ ghost use Rattle.ui_machine.specs.State.Objects.{living};
 ghost use Rattle.ui_machine.specs.Steps.{uncounted};
 ghost use Rattle.bindings.specs.Made.{binding_of};
 ghost use Rattle.definition_format.specs.Meaning.{bind_view};
-ghost use Rattle.instances.specs.Store.{Shows};
+ghost use Rattle.instance_tables.specs.Store.{Shows};
 ghost use Rattle.engine_world.specs.Counting.{Connects, KeepsCounts};
 ghost use Rattle.engine_world.specs.EngineView.{config_of};
 ghost use Rattle.engine_world.specs.TaskView.{agenda_of, binds_from};
@@ -26,7 +26,7 @@ use engine_world::given::held_object;
 use engine_world::places::FIRST_PLACE;
 use engine_world::references::push_task;
 use engine_world::task::Task;
-use instances::Table;
+use instance_tables::Table;
 use std::alloc::{AllocError, Global};
 use ui_machine::{Arm, Halt, ObjectId};
 

@@ -24,7 +24,7 @@ use engine_world::references::push_task;
 use engine_world::task::Task;
 use frames::Frame;
 use g_values::Value;
-use instances::Table;
+use instance_tables::Table;
 use type_tree::{TypeId, TypeTree};
 use ui_machine::{Arm, Halt, ObjectId, Place, ProgramId};
 

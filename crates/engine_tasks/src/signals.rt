@@ -6,7 +6,7 @@ ghost use Rattle.ui_machine.specs.Rules.Build.{building, held_data};
 ghost use Rattle.ui_machine.specs.State.Tasks.{connects};
 ghost use Rattle.ui_machine.specs.Steps.{uncounted};
 ghost use Rattle.definition_format.specs.Meaning.{place_number};
-ghost use Rattle.instances.specs.Store.{Shows, id_of};
+ghost use Rattle.instance_tables.specs.Store.{Shows, id_of};
 ghost use Rattle.signal_core.specs.Connected.{connection_of};
 ghost use Rattle.engine_world.specs.ConnectView.{attached_at};
 ghost use Rattle.engine_world.specs.Counting.{Connects, KeepsCounts};

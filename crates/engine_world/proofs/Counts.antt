@@ -13,18 +13,18 @@ use Rattle.ui_machine.specs.State.Objects.{Object, Objects, living, put, asked, 
 use Rattle.ui_machine.specs.State.References.{same, in_value, in_object, in_held, in_source, in_task, mentions, next_unheld}
 use Rattle.main_context.specs.Attached.{Attached}
 use Rattle.ui_machine.specs.State.Tasks.{Emission, Emitting, PlanEntry, Task}
-use Rattle.instances.specs.Family.{Sinks}
-use Rattle.instances.specs.Laws.{Counted}
-use Rattle.instances.specs.Store.{Store, count_of, counts_with, so_often, with_objects, with_object}
-use Rattle.instances.specs.Weak.{Marks, Knows, is_strong, strong_in}
-use Rattle.instances.proofs.Created.{create_exact}
-use Rattle.instances.proofs.Disposed.{finalise_exact}
-use Rattle.instances.proofs.Exact.{sink_exact}
-use Rattle.instances.proofs.Held.{counted_finds}
-use Rattle.instances.specs.Release.{Finalises}
-use Rattle.instances.proofs.Held.{total_put}
-use Rattle.instances.proofs.Moves.{less_at}
-use Rattle.instances.proofs.WriteExact.{write_exact}
+use Rattle.instance_tables.specs.Family.{Sinks}
+use Rattle.instance_tables.specs.Laws.{Counted}
+use Rattle.instance_tables.specs.Store.{Store, count_of, counts_with, so_often, with_objects, with_object}
+use Rattle.instance_tables.specs.Weak.{Marks, Knows, is_strong, strong_in}
+use Rattle.instance_tables.proofs.Created.{create_exact}
+use Rattle.instance_tables.proofs.Disposed.{finalise_exact}
+use Rattle.instance_tables.proofs.Exact.{sink_exact}
+use Rattle.instance_tables.proofs.Held.{counted_finds}
+use Rattle.instance_tables.specs.Release.{Finalises}
+use Rattle.instance_tables.proofs.Held.{total_put}
+use Rattle.instance_tables.proofs.Moves.{less_at}
+use Rattle.instance_tables.proofs.WriteExact.{write_exact}
 use Rattle.engine_world.specs.declared.engine.Engine.{Engine}
 use Rattle.engine_world.specs.declared.task.Stack.{Stack}
 use Rattle.engine_world.specs.declared.world.World.{World}

@@ -17,7 +17,7 @@ use Rattle.ui_machine.specs.State.Config.{World}
 use Rattle.ui_machine.specs.State.Objects.{Object, asked, living}
 use Rattle.engine_world.specs.GivenView.{detail_named, standing}
 
-same_names : (xs ys : List ℕ) → same_name xs ys ≡ true → xs ≡ ys
+pub same_names : (xs ys : List ℕ) → same_name xs ys ≡ true → xs ≡ ys
 same_names [] [] h = refl
 same_names [] (y ∷ ys) h = cc h
 same_names (x ∷ xs) [] h = cc h

@@ -15,8 +15,8 @@ use Rattle.ui_machine.specs.State.Tasks.{Task}
 use Rattle.ui_machine.specs.Steps.{counted, finalising, most_steps, uncounted}
 use Rattle.ui_machine.specs.State.Bindings.{bindings_without_end}
 use Rattle.bindings.specs.Made.{Made}
-use Rattle.instances.specs.Store.{Store}
-use Rattle.instances.specs.Release.{Disposes, Finalises}
+use Rattle.instance_tables.specs.Store.{Store}
+use Rattle.instance_tables.specs.Release.{Disposes, Finalises}
 use Rattle.signal_core.specs.Connected.{Connected, Numbered, without_object}
 use Rattle.machine_laws.specs.GoneLaws.{pruned}
 use Rattle.engine_world.specs.Standing.{gone_handlers}

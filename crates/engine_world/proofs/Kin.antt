@@ -16,9 +16,9 @@ use Rattle.ui_machine.specs.State.Config.{World, Started, said, starts}
 use Rattle.ui_machine.specs.State.Objects.{Object, living}
 use Rattle.ui_machine.specs.State.Tasks.{Building, Item, Task}
 use Rattle.ui_machine.specs.Steps.{uncounted}
-use Rattle.instances.specs.declared.error.AdoptError.{AdoptError}
-use Rattle.instances.specs.declared.error.AdoptError.TheVariants.{NotLiving, HasParent, ChildLimit}
-use Rattle.instances.specs.Family.{refusal}
+use Rattle.instance_tables.specs.declared.error.AdoptError.{AdoptError}
+use Rattle.instance_tables.specs.declared.error.AdoptError.TheVariants.{NotLiving, HasParent, ChildLimit}
+use Rattle.instance_tables.specs.Family.{refusal}
 use Rattle.definition_format.specs.Meaning.{IsBasic, object_count}
 use Rattle.engine_world.specs.KinView.{Kin, kin_at, joined}
 use Rattle.engine_world.proofs.Prototypes.{parentless}

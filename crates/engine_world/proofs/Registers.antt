@@ -18,7 +18,7 @@ use Rattle.ui_machine.specs.State.Handlers.{Handler}
 use Rattle.ui_machine.specs.State.References.{in_object, in_task, same}
 use Rattle.ui_machine.specs.State.Tasks.{Frame, Registers, Running, Task}
 use Rattle.ui_machine.specs.State.Objects.{Objects}
-use Rattle.instances.specs.Store.{Store, count_of}
+use Rattle.instance_tables.specs.Store.{Store, count_of}
 use Rattle.engine_world.specs.Counting.{Counts, KeepsCounts, OnlyCounts, OnlyTasks, in_frame}
 use Rattle.engine_world.proofs.Emits.{stops_on}
 use Rattle.ui_machine.specs.declared.arm.Halt.{Halt}

@@ -12,8 +12,8 @@ use Rattle.ui_machine.specs.State.Objects.{living}
 use Rattle.ui_machine.specs.State.References.{in_held, in_object, in_option, in_register, in_source, in_task, in_value, same}
 use Rattle.g_values.specs.View.{value_view}
 use Rattle.bytecode.specs.Computing.{registers_of}
-use Rattle.instances.proofs.Few.{same_most, value_most}
-use Rattle.instances.specs.Store.{count_of, may_hold}
+use Rattle.instance_tables.proofs.Few.{same_most, value_most}
+use Rattle.instance_tables.specs.Store.{count_of, may_hold}
 use Rattle.engine_world.proofs.Lists.{total-append}
 use Rattle.engine_world.specs.Counting.{Counts}
 use Rattle.engine_world.specs.TaskView.{agenda_of, task_of, tasks_of}

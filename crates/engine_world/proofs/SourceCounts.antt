@@ -6,7 +6,7 @@ use Rattle.ui_machine.specs.Seq.{total}
 use Rattle.ui_machine.specs.State.References.{in_object, in_option, in_source, same}
 use Rattle.ui_machine.specs.State.Sources.{Source, due_after, is_numbered, runs_program, source_of, without_first, without_program, without_source}
 use Rattle.ui_machine.specs.Rules.MainLoop.{answered, rescheduled}
-use Rattle.instances.specs.Store.{Store, count_of, id_of}
+use Rattle.instance_tables.specs.Store.{Store, count_of, id_of}
 use Rattle.main_context.specs.Attached.{Attached, is_attached}
 use Rattle.main_context.specs.Dues.{due_of, identity_of}
 use Rattle.main_context.specs.declared.source.Due.{Due}

@@ -3,9 +3,9 @@ use Rattle.std.specs.Prelude.{◌≡◌, ℕ, ◌+◌, ◌≤◌}
 use Rattle.ui_machine.specs.Definition.{Definition}
 use Rattle.ui_machine.specs.State.References.{same, in_value, in_register, in_held, in_task, mentions}
 use Rattle.ui_machine.specs.State.Tasks.{Emission, Frame, Task, Beginning, Calling, Emitting, Running}
-use Rattle.instances.specs.Store.{Store, count_of}
+use Rattle.instance_tables.specs.Store.{Store, count_of}
 use Rattle.engine_world.specs.declared.engine.Engine.{Engine}
-use Rattle.instances.specs.Weak.{Knows}
+use Rattle.instance_tables.specs.Weak.{Knows}
 use Rattle.ui_machine.specs.Seq.{total}
 use Rattle.engine_world.specs.View.{world_of}
 use Rattle.engine_world.specs.KnownHandlers.{AllTakeKnownHandlers}

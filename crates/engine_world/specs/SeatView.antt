@@ -1,14 +1,15 @@
 -- What the engine knows of the peers of a pool, as the machine's peers: which calls and faults one has had, and what it keeps, it does not know.
-use Rattle.std.specs.Prelude.{ℕ, Bool, IsTrue, List, [], None, String, map, string_bytes}
+use Rattle.std.specs.Prelude.{◌≡◌, ℕ, Bool, IsTrue, List, [], None, String, map, string_bytes}
 use Rattle.std.specs.Global.{Global}
+use Rattle.std.specs.BTreeMap.{BTreeMap, get_by_text}
 use Rattle.std.specs.List.{AllByRecursion}
 use Rattle.ui_machine.specs.Definition.Signals.{Method}
 use Rattle.ui_machine.specs.Definition.Types.{GType}
 use Rattle.ui_machine.specs.Seq.{read, write}
-use Rattle.ui_machine.specs.State.Peers.{Peer, PeerState, closed_peer, no_peer}
+use Rattle.ui_machine.specs.State.Peers.{Peer, PeerState, closed_peer, no_peer, peer_number}
 use Rattle.g_values.specs.View.{IsKnown, kind_view}
 use Rattle.definition_format.specs.Meaning.{IsKnownKind}
-use Rattle.instances.specs.Store.{id_of}
+use Rattle.instance_tables.specs.Store.{id_of}
 use Rattle.peer_shapes.specs.MethodViews.{is_plain_shape}
 use Rattle.peer_shapes.specs.declared.methods.MethodRef.{MethodRef}
 use Rattle.engine_world.specs.declared.seats.Seat.{Seat}
@@ -22,9 +23,13 @@ known_state shape is_open = record { shape = shape; is_open = is_open; calls = 0
 abbrev pub new_peer : List ℕ → List Method → Bool → Peer
 new_peer name shape is_open = record { name = name; state = known_state shape is_open; holder = None }
 
--- the seat under a name
-abbrev pub seated : String Global × Seat → Peer
-seated e = record { name = string_bytes e.0; state = known_state e.1.shape e.1.is_open; holder = id_of e.1.holder }
+-- a seat as a peer
+abbrev pub seated : Seat → Peer
+seated s = record { name = string_bytes s.name; state = known_state s.shape s.is_open; holder = id_of s.holder }
+
+-- what is kept gives each name the number of its peer
+abbrev pub AreNumbers : BTreeMap (String Global) ℕ → List Peer → Type 0
+AreNumbers numbers peers = (name : List ℕ) → get_by_text numbers name ≡ peer_number peers name
 
 -- a seat that is lent
 abbrev pub lent_view : SeatRef → Peer

@@ -4,7 +4,7 @@ use Rattle.ui_machine.specs.Seq.{total}
 use Rattle.ui_machine.specs.State.Config.{World}
 use Rattle.ui_machine.specs.State.References.{in_source}
 use Rattle.ui_machine.specs.State.Sources.{attached, new_source}
-use Rattle.instances.specs.Store.{count_of, id_of}
+use Rattle.instance_tables.specs.Store.{count_of, id_of}
 use Rattle.engine_world.specs.declared.engine.Engine.{Engine}
 use Rattle.engine_world.specs.declared.sources.NewSource.{NewSource}
 

@@ -20,7 +20,7 @@ use bitflags::Flags;
 use definition_format::Given;
 use definitions::Definition;
 use g_values::{Kind, Value, has_number};
-use instances::Table;
+use instance_tables::Table;
 use signal_core::SignalFlags;
 use type_tree::{TypeId, TypeTree};
 use ui_machine::{Arm, Halt, ObjectId, SignalId};

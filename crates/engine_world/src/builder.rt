@@ -5,7 +5,7 @@ ghost use Rattle.ui_machine.specs.Seq.{write};
 ghost use Rattle.ui_machine.specs.State.Config.{unbuilt, is_unbuilt};
 ghost use Rattle.ui_machine.specs.Rules.Build.{identity_held};
 ghost use Rattle.ui_machine.specs.Rules.Events.{is_released};
-ghost use Rattle.instances.specs.Store.{id_of};
+ghost use Rattle.instance_tables.specs.Store.{id_of};
 ghost use Rattle.engine_world.specs.View.{held_of};
 
 use std::alloc::AllocError;

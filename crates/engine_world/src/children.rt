@@ -5,7 +5,7 @@ ghost use Rattle.ui_machine.specs.Outcome.{Goes};
 ghost use Rattle.ui_machine.specs.Output.Lines as lines;
 ghost use Rattle.ui_machine.specs.Rules.Children.{with_family};
 ghost use Rattle.ui_machine.specs.State.Config.{said};
-ghost use Rattle.instances.specs.Family.{refusal_in};
+ghost use Rattle.instance_tables.specs.Family.{refusal_in};
 ghost use Rattle.engine_world.specs.View.{world_of};
 ghost use Rattle.engine_world.specs.KinView.{joined};
 ghost use Rattle.engine_world.specs.Counting.{KeepsCounts};
@@ -13,7 +13,7 @@ ghost use Rattle.engine_world.specs.Counting.{KeepsCounts};
 use crate::engine::Engine;
 use crate::lines::Line;
 use definitions::Definition;
-use instances::AdoptError;
+use instance_tables::AdoptError;
 use std::alloc::AllocError;
 use ui_machine::{Arm, Halt, ObjectId};
 

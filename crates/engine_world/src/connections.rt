@@ -3,7 +3,7 @@
 ghost use Rattle.std.specs.Prelude.{◌≡◌, ◌↔◌, false, true, OnOk, OnErr, IfOk, ◌+◌, List, length, nat_lt};
 ghost use Rattle.ui_machine.specs.Rules.Build.{to_connect, with_signal, is_connecting, of_items};
 ghost use Rattle.ui_machine.specs.Rules.Connections.{connected, is_disposed_data, is_too_late, with_handler, greatest_handler};
-ghost use Rattle.instances.specs.Store.{id_of};
+ghost use Rattle.instance_tables.specs.Store.{id_of};
 ghost use Rattle.signal_core.specs.Connected.{connection_of, has_room};
 ghost use Rattle.engine_world.specs.ConnectView.{is_connected, is_full, left_by, told_by, Takes};
 ghost use Rattle.engine_world.specs.Counting.{Connects, KeepsCounts};
@@ -18,7 +18,7 @@ use crate::engine::Engine;
 use crate::places::FIRST_PLACE;
 use crate::task::Task;
 use definitions::Definition;
-use instances::Table;
+use instance_tables::Table;
 use signal_core::{ConnectError, Connection};
 use std::alloc::AllocError;
 use ui_machine::{ObjectId, Place};

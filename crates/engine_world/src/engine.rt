@@ -12,7 +12,7 @@ use crate::seats::Seats;
 use crate::task::Stack;
 use crate::world::World;
 use bindings::Bindings;
-use instances::{Table, WeakSlots};
+use instance_tables::{Table, WeakSlots};
 use main_context::Context;
 use signal_core::Handlers;
 use std::alloc::Global;

@@ -8,7 +8,7 @@ ghost use Rattle.ui_machine.specs.Rules.Build.{held_object};
 ghost use Rattle.ui_machine.specs.Rules.Construction.{given_value};
 ghost use Rattle.g_values.specs.View.{value_view};
 ghost use Rattle.definition_format.specs.Meaning.{given_view};
-ghost use Rattle.instances.specs.Store.{Shows, id_of};
+ghost use Rattle.instance_tables.specs.Store.{Shows, id_of};
 ghost use Rattle.ui_machine.specs.declared.ids.ObjectId.{ObjectId};
 ghost use Rattle.engine_world.specs.GivenView.{held_value, settable_at};
 ghost use Rattle.engine_world.specs.View.{world_of};

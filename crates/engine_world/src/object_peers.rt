@@ -5,7 +5,7 @@ ghost use Rattle.ui_machine.specs.Rules.Build.{first_peer};
 ghost use Rattle.ui_machine.specs.Rules.Construction.{has_shape, peer_left, peer_to_take};
 ghost use Rattle.definition_format.specs.Meaning.{name_bytes};
 ghost use Rattle.definitions.specs.EntryView.{entry_view};
-ghost use Rattle.instances.specs.Store.{Shows};
+ghost use Rattle.instance_tables.specs.Store.{Shows};
 ghost use Rattle.engine_world.specs.PeerPlaces.{is_there, own_peer, taken};
 ghost use Rattle.engine_world.specs.View.{world_of};
 

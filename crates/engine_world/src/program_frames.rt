@@ -9,7 +9,7 @@ ghost use Rattle.ui_machine.specs.State.Tasks.{Running};
 ghost use Rattle.g_values.specs.View.{value_view};
 ghost use Rattle.frames.specs.FrameView.{frame_view};
 ghost use Rattle.bytecode.specs.View.{number_of};
-ghost use Rattle.instances.specs.Store.{count_of};
+ghost use Rattle.instance_tables.specs.Store.{count_of};
 ghost use Rattle.engine_world.specs.TaskView.{agenda_of};
 ghost use Rattle.engine_world.specs.Counting.{Counts, HoldsTasks, KeepsCounts, OnlyCounts, OnlyTasks, in_frame};
 
@@ -20,7 +20,7 @@ use bytecode::Register;
 use definitions::Definition;
 use frames::Frame;
 use g_values::Value;
-use instances::Table;
+use instance_tables::Table;
 use std::alloc::AllocError;
 use ui_machine::{Arm, Halt};
 

@@ -6,11 +6,11 @@ ghost use Rattle.ui_machine.specs.State.Objects.{class_in};
 ghost use Rattle.param_specs.specs.View.{spec_view};
 ghost use Rattle.definition_format.specs.Meaning.{IsPlain};
 ghost use Rattle.engine_world.specs.View.{world_of};
-ghost use Rattle.instances.specs.Store.{Shows};
+ghost use Rattle.instance_tables.specs.Store.{Shows};
 
 use crate::engine::Engine;
 use definitions::Definition;
-use instances::Table;
+use instance_tables::Table;
 use param_specs::Spec;
 use type_tree::TypeId;
 use ui_machine::{Arm, ObjectId, Slot};

@@ -12,7 +12,7 @@ ghost use Rattle.ui_machine.specs.State.Objects.{living};
 ghost use Rattle.ui_machine.specs.State.References.{in_option, in_register, in_value};
 ghost use Rattle.g_values.specs.View.{value_view};
 ghost use Rattle.bytecode.specs.Computing.{registers_of};
-ghost use Rattle.instances.specs.Store.{id_of, count_of, may_hold, may_hold_any, named_by};
+ghost use Rattle.instance_tables.specs.Store.{id_of, count_of, may_hold, may_hold_any, named_by};
 ghost use Rattle.engine_world.specs.KnownHandlers.{TakesKnownHandlers};
 ghost use Rattle.engine_world.specs.View.{world_of};
 ghost use Rattle.engine_world.specs.TaskView.{task_of, task_in, agenda_of};
@@ -21,7 +21,7 @@ ghost use Rattle.engine_world.specs.Counting.{Connects, Counts, OnlyCounts, Keep
 use crate::engine::Engine;
 use crate::task::Task;
 use g_values::Value;
-use instances::Table;
+use instance_tables::Table;
 use signal_core::Cursor;
 use std::alloc::AllocError;
 use ui_machine::ObjectId;

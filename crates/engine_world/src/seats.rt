@@ -1,6 +1,6 @@
 //! The peers of a pool, as far as the engine knows them: their names and shapes, whether they are open, and which objects have them.
 
-ghost use Rattle.std.specs.Prelude.{◌≡◌, ◌<◌, ◌∷◌, ◌++◌, [], List, None, Some, IfSome, IsTrue, OnOk, length, option_and_then, option_map, slice_get, string_bytes};
+ghost use Rattle.std.specs.Prelude.{◌≡◌, ◌<◌, ◌∷◌, ◌++◌, [], List, None, Some, IfSome, IsTrue, OnErr, OnOk, length, option_and_then, option_map, slice_get, string_bytes};
 ghost use Rattle.ui_machine.specs.Definition.Types.{GType};
 ghost use Rattle.ui_machine.specs.Rules.Construction.{lent};
 ghost use Rattle.ui_machine.specs.State.Peers.{Peer, first_left, if_left, is_left, method_of, peer_number};
@@ -9,20 +9,21 @@ ghost use Rattle.peer_shapes.specs.MethodViews.{lent_view as lent_method};
 ghost use Rattle.definition_format.specs.Meaning.{name_bytes};
 ghost use Rattle.engine_world.specs.SeatView.{HasKnownKinds, closed_at, lent_view, new_peer};
 
-use indexmap::IndexMap;
 use peer_shapes::{MethodRef, Shape};
 use std::alloc::{AllocError, Global};
+use std::collections::BTreeMap;
 use std::marker::Model;
 use ui_machine::ObjectId;
 
-/// What the engine knows of a peer beside its name.
+// What the engine knows of a peer.
 #[derive(Drop)]
-pub struct Seat {
-    pub shape: Shape,
-    /// Whether the peer may be called.
-    pub is_open: bool,
-    /// The object that got the peer.
-    pub holder: Option<ObjectId>,
+pub(crate) struct Seat {
+    pub(crate) name: String,
+    pub(crate) shape: Shape,
+    // Whether the peer may be called.
+    pub(crate) is_open: bool,
+    // The object that got the peer.
+    pub(crate) holder: Option<ObjectId>,
 }
 
 /// What the engine knows of a peer, lent.
@@ -38,20 +39,22 @@ pub struct SeatRef<'a> {
 /// contract sees the machine's peers, of which no calls and no faults are known.
 #[derive(Drop)]
 pub struct Seats {
-    seats: IndexMap<String, Seat>,
+    seats: Vec<Seat>,
+    // The number of each name.
+    numbers: BTreeMap<String, usize>,
 }
 
 impl Model for Seats {
     ghost use Rattle.std.specs.Prelude.{List, map};
     ghost use Rattle.std.specs.List.{AllByRecursion};
     ghost use Rattle.ui_machine.specs.State.Peers.{Peer};
-    ghost use Rattle.engine_world.specs.SeatView.{HasPlainShape, seated};
+    ghost use Rattle.engine_world.specs.SeatView.{AreNumbers, HasPlainShape, seated};
 
     ghost Value = { List Peer };
 
-    ghost view = { λ s. map seated s.seats.entries };
+    ghost view = { λ s. map seated s.seats.items };
 
-    ghost invariant = { λ s. AllByRecursion HasPlainShape (map seated s.seats.entries) };
+    ghost invariant = { λ s. AllByRecursion HasPlainShape (map seated s.seats.items) × AreNumbers s.numbers (map seated s.seats.items) };
 }
 
 impl Seats {
@@ -60,7 +63,8 @@ impl Seats {
         ensures { result ≡ [] }
     {
         Seats {
-            seats: IndexMap::new(alloc),
+            seats: Vec::new(alloc),
+            numbers: BTreeMap::new(alloc),
         }
     }
 
@@ -79,14 +83,23 @@ impl Seats {
     pub fn add(&mut self, name: String, shape: Shape, is_open: bool) -> Result<(), AllocError>
         requires fresh { peer_number self.old (string_bytes name) ≡ None }
         requires plain { IsTrue (is_plain_shape shape) }
-        ensures { OnOk result (self.new ≡ self.old ++ new_peer (string_bytes name) shape is_open ∷ []) }
+        ensures ok { OnOk result (self.new ≡ self.old ++ new_peer (string_bytes name) shape is_open ∷ []) }
+        ensures err { OnErr result (self.new ≡ self.old) }
     {
-        let seat = Seat {
+        let alloc = *self.seats.allocator();
+        let key = String::from_str(alloc, name.as_str())?;
+        self.seats.reserve(1)?;
+        self.numbers.insert(key, self.seats.len())?;
+        // There is room.
+        let Ok(()) = self.seats.push(Seat {
+            name,
             shape,
             is_open,
             holder: None,
+        })
+        else {
+            unreachable!()
         };
-        let _ = self.seats.insert(name, seat)?;
         Ok(())
     }
 
@@ -95,7 +108,7 @@ impl Seats {
         ensures found { result ≡ peer_number self.now name.now }
         ensures within { IfSome result (λ number. number < length self.now) }
     {
-        self.seats.get_index_of(name)
+        self.numbers.get(name).copied()
     }
 
     /// The peer of a number, if there are so many.
@@ -103,9 +116,9 @@ impl Seats {
         ensures found { option_map lent_view result ≡ slice_get self.now number }
         ensures plain { IfSome result (λ seat. IsTrue (is_plain_shape seat.shape.now)) }
     {
-        let (name, seat) = self.seats.get_index(number)?;
+        let seat = self.seats.get(number)?;
         Some(SeatRef {
-            name: name.as_str(),
+            name: seat.name.as_str(),
             shape: &seat.shape,
             is_open: seat.is_open,
             holder: seat.holder,
@@ -163,10 +176,7 @@ impl Seats {
         requires { number < length self.now }
         ensures { self.new ≡ lent (Some number) object.0 self.old }
     {
-        let Some(seat) = self.seats.get_index_mut(number) else {
-            return;
-        };
-        seat.holder = Some(object);
+        self.seats[number].holder = Some(object);
     }
 
     /// The peer of a number may not be called from now on.
@@ -174,9 +184,6 @@ impl Seats {
         requires { number < length self.now }
         ensures { self.new ≡ closed_at self.old number }
     {
-        let Some(seat) = self.seats.get_index_mut(number) else {
-            return;
-        };
-        seat.is_open = false;
+        self.seats[number].is_open = false;
     }
 }

@@ -6,7 +6,7 @@ ghost use Rattle.ui_machine.specs.Seq.{total};
 ghost use Rattle.ui_machine.specs.Rules.MainLoop.{answered};
 ghost use Rattle.ui_machine.specs.State.References.{in_source};
 ghost use Rattle.ui_machine.specs.State.Sources.{has_room, without_program};
-ghost use Rattle.instances.specs.Store.{count_of, id_of};
+ghost use Rattle.instance_tables.specs.Store.{count_of, id_of};
 ghost use Rattle.main_context.specs.Dues.{identity_of};
 ghost use Rattle.engine_world.specs.Counting.{KeepsCounts, OnlyCounts};
 ghost use Rattle.engine_world.specs.SourceView.{HoldsSources, with_new_source};
@@ -14,7 +14,7 @@ ghost use Rattle.engine_world.specs.View.{world_of};
 
 use crate::engine::Engine;
 use crate::references::{hold_any, let_go_any};
-use instances::Table;
+use instance_tables::Table;
 use main_context::{AttachError, Context, Due};
 use std::alloc::AllocError;
 use ui_machine::{ObjectId, ProgramId};

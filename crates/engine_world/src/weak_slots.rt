@@ -4,10 +4,10 @@ ghost use Rattle.std.specs.Prelude.{◌≡◌, ◌<◌, length, map, IfOk};
 ghost use Rattle.ui_machine.specs.Seq.{read};
 ghost use Rattle.ui_machine.specs.Definition.Lookups.{specs_of};
 ghost use Rattle.engine_world.specs.WeakView.{weak_of};
-ghost use Rattle.instances.specs.Weak.{Knows};
+ghost use Rattle.instance_tables.specs.Weak.{Knows};
 
 use definitions::Definition;
-use instances::WeakSlots;
+use instance_tables::WeakSlots;
 use std::alloc::{AllocError, Global};
 use type_tree::TypeId;
 use ui_machine::Slot;

@@ -3,14 +3,14 @@
 ghost use Rattle.std.specs.Prelude.{◌≡◌, ◌∷◌, [], ◌++◌, OnOk, OnErr, map, slice_get, string_bytes};
 ghost use Rattle.ui_machine.specs.State.Config.{builder_entry};
 ghost use Rattle.ui_machine.specs.Rules.Build.{identity_held};
-ghost use Rattle.instances.specs.Store.{id_of};
+ghost use Rattle.instance_tables.specs.Store.{id_of};
 ghost use Rattle.engine_world.specs.View.{held_of, with_lines, world_of};
 
 use crate::builder::BuilderEntry;
 use crate::seats::Seats;
 use bindings::Bindings;
 use g_values::Value;
-use instances::{Table, WeakSlots};
+use instance_tables::{Table, WeakSlots};
 use main_context::Context;
 use signal_core::Handlers;
 use std::alloc::AllocError;

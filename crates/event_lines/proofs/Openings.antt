@@ -124,6 +124,11 @@ pub on_err : {A E : Type 0} {P : Type 0} (r : Result A E) → P → OnErr r P
 on_err (Ok x) p = tt
 on_err (Err e) p = p
 
+-- and where what is read is no refusal
+pub on_ok : {A E : Type 0} (P : Type 0) (r : Result A E) (x : A) → r ≡ Ok x → OnErr r P
+on_ok P (Ok y) x is = tt
+on_ok P (Err e) x is = absurd (cc is)
+
 -- ** what is written
 
 -- there are bytes that the reader's are, where these are known
@@ -267,6 +272,10 @@ module _ {I : Type 0} {Held : I → Type 0} (state_of : NamedPeer I Held → Pee
   open_built unbegun is opens = absurd is
   open_built (stopped s) is opens = absurd is
   open_built (built s) is opens = subst (λ (t : SessionState). Opens may peers bytes (built t)) (sym is) opens
+
+  -- where a session was built, the bytes denote its definition
+  pub denoted_where_built : (old : PeerPool I Held) → Opened state_of may peers old bytes (code.Built session) → denoted bytes ≡ Ok state.definition
+  denoted_where_built old o = (open_built o.opening o.is o.opens).0.denoted
 
 module _ {I : Type 0} {Held : I → Type 0} (state_of : NamedPeer I Held → PeerState) (may : Relations) (old : PeerPool I Held) (bytes : List ℕ) (first last : Option (List ℕ)) (r r' : ℕ) (a c : Sent) (status : ℕ) (torn : Bool) (unread : Type 0) where
   abbrev pool_seen : List Seen

@@ -1,4 +1,4 @@
-//! How a run opens: the definition is read, verified and built, with the peers of a pool.
+//! How a run opens: a definition that was read and verified is built, with the peers of a pool.
 
 ghost use Rattle.std.specs.Prelude.{◌≡◌, ◌++◌, codes, ℕ, List, None, Ok, Option, Some, string_bytes, IfSome};
 ghost use Rattle.ui_machine.specs.Definition.{Definition};
@@ -9,10 +9,11 @@ ghost use Rattle.native_peers.specs.Matching.{as_peers};
 ghost use Rattle.native_peers.specs.Pool.{entries, relations, seen};
 ghost use Rattle.native_peers.specs.Seen.{SameRelations};
 ghost use Rattle.ui_engine.specs.SessionView.{IsWhy};
+ghost use Rattle.event_lines.specs.CheckView.{IsJudged};
 ghost use Rattle.event_lines.specs.OpeningView.{Opened, pool_in};
 ghost use Rattle.event_lines.specs.Texts.{mismatch_text};
 
-use crate::definition_checks::{Judgement, judge};
+use crate::definition_checks::Judgement;
 use native_peers::{Peer, PeerPool};
 use std::alloc::{AllocError, Global};
 use ui_engine::{Refused, Session, StartFault, Started};
@@ -31,12 +32,14 @@ pub enum Opening {
     Built(Session),
 }
 
-/// Reads a definition, verifies it and builds it with the peers of a pool.
-pub fn open(alloc: Global, bytes: &[u8], pool: PeerPool) -> Opening
-    ensures opened { Opened (λ p. (⟦<dyn Peer as Peer>⟧ p.peer.vtable).state p.peer.value) (relations (λ p. (⟦<dyn Peer as Peer>⟧ p.peer.vtable).moves p.peer.value) (entries pool)) (as_peers (seen (λ p. (⟦<dyn Peer as Peer>⟧ p.peer.vtable).state p.peer.value) (entries pool))) pool bytes.now result }
+/// Builds what some bytes were judged to be with the peers of a pool, if it is a definition.
+pub fn open(alloc: Global, judgement: Judgement, pool: PeerPool) -> Opening
+    requires judged { (bytes : List ℕ) × IsJudged bytes judgement }
+    ensures opened { (bytes : List ℕ) → IsJudged bytes judgement →
+        Opened (λ p. (⟦<dyn Peer as Peer>⟧ p.peer.vtable).state p.peer.value) (relations (λ p. (⟦<dyn Peer as Peer>⟧ p.peer.vtable).moves p.peer.value) (entries pool)) (as_peers (seen (λ p. (⟦<dyn Peer as Peer>⟧ p.peer.vtable).state p.peer.value) (entries pool))) pool bytes result }
     ensures same { SameRelations (relations (λ p. (⟦<dyn Peer as Peer>⟧ p.peer.vtable).moves p.peer.value) (entries pool)) (relations (λ p. (⟦<dyn Peer as Peer>⟧ p.peer.vtable).moves p.peer.value) (entries (pool_in result))) }
 {
-    match judge(alloc, bytes) {
+    match judgement {
         Judgement::Refused(text) => return Opening::Refused { text, pool },
         Judgement::Unjudged => return Opening::Unbegun(pool),
         Judgement::Accepted(verified) => return build(alloc, verified, pool),
@@ -77,9 +80,10 @@ fn unstarted(alloc: Global, refused: Refused) -> Opening
     }
 }
 
-// Builds a verified definition.
+// Builds a definition that is judged to be an accepted one.
 fn build(alloc: Global, verified: Verified, pool: PeerPool) -> Opening
-    ensures opened { (bytes : List ℕ) → denoted bytes ≡ Ok verified → Judges verified None →
+    requires judged { Judges verified None }
+    ensures opened { (bytes : List ℕ) → denoted bytes ≡ Ok verified →
         Opened (λ p. (⟦<dyn Peer as Peer>⟧ p.peer.vtable).state p.peer.value) (relations (λ p. (⟦<dyn Peer as Peer>⟧ p.peer.vtable).moves p.peer.value) (entries pool)) (as_peers (seen (λ p. (⟦<dyn Peer as Peer>⟧ p.peer.vtable).state p.peer.value) (entries pool))) pool bytes result }
     ensures same { SameRelations (relations (λ p. (⟦<dyn Peer as Peer>⟧ p.peer.vtable).moves p.peer.value) (entries pool)) (relations (λ p. (⟦<dyn Peer as Peer>⟧ p.peer.vtable).moves p.peer.value) (entries (pool_in result))) }
 {

@@ -13,6 +13,7 @@ ghost use Rattle.event_lines.specs.Texts.{joined, lines_text, nothing_begun, bui
 ghost use Rattle.event_lines.specs.Writing.{Sends, Puts, IsMarked};
 ghost use Rattle.event_lines.specs.Opening.{Concludes, Ran};
 
+use crate::definition_checks::judge;
 use crate::devices::{Reader, Writer};
 use crate::event_file::handle_lines;
 use crate::gather::Gather;
@@ -82,7 +83,7 @@ fn run_with<R: Reader, W: Writer>(
     ensures works { result.status ≢ 4 → (R.failed reader.new ≡ false) × (W.failed writer.new ≡ false) }
     ensures same { SameRelations (relations (λ p. (⟦<dyn Peer as Peer>⟧ p.peer.vtable).moves p.peer.value) (entries pool)) (relations (λ p. (⟦<dyn Peer as Peer>⟧ p.peer.vtable).moves p.peer.value) (entries result.pool)) }
 {
-    match open(alloc, definition, pool) {
+    match open(alloc, judge(alloc, definition), pool) {
         Opening::Refused { text, pool } => {
             let status = refuse(writer, &text);
             Over { status, pool }

@@ -2,3 +2,4 @@ mod Lines
 mod NoKind
 mod Places
 mod Taken
+mod Putting

@@ -1,13 +1,17 @@
 -- Which peers the host makes for a definition.
-use Rattle.std.specs.Prelude.{ℕ, Bool, cond, List, [], ◌++◌, map, codes, Option, None, Some, option_and_then, slice_get}
+use Rattle.std.specs.Prelude.{ℕ, Bool, cond, List, [], ◌∷◌, ◌++◌, map, codes, is_some, Option, None, Some, option_and_then, slice_get}
 use Rattle.std.specs.List.{filter, flat_map}
 use Rattle.ui_machine.specs.Definition.{Definition}
-use Rattle.ui_machine.specs.Definition.Names.{same_name}
+use Rattle.ui_machine.specs.Definition.Names.{place_named, same_name}
 use Rattle.ui_machine.specs.Definition.Places.{Place}
 use Rattle.ui_machine.specs.Definition.Signals.{Shape}
 use Rattle.ui_machine.specs.Rules.Construction.{nearest_shape}
 use Rattle.ui_machine.specs.Rules.Transform.{same_bool}
+use Rattle.ui_machine.specs.State.Peers.{PeerState}
 use Rattle.law_pools.specs.Needs.{objects, prototypes}
+use Rattle.native_peers.specs.Seen.{Seen}
+use Rattle.host_peers.specs.Screens.{new_screen}
+use Rattle.host_peers.specs.Tallies.{new_tally}
 use Rattle.host_peers.specs.declared.stock_lists.StockKind.{StockKind}
 use Rattle.host_peers.specs.declared.stock_lists.StockKind.TheVariants as kinds
 use Rattle.host_peers.specs.declared.stock_lists.StockPeer.{StockPeer}
@@ -44,3 +48,26 @@ stock_of d = flat_map (stock_at d) (prototypes d) ++ flat_map (stock_at d) (obje
 -- the peers of those of some places that are prototypes, or that are objects
 abbrev pub stock_of_kind : Definition → Bool → List Place → List Stocked
 stock_of_kind d is_prototype places = flat_map (stock_at d) (filter (λ (p : Place). same_bool p.is_prototype is_prototype) places)
+
+-- ** their pool
+
+-- a peer of a kind, as it is made
+abbrev pub new_state : StockKind → PeerState
+new_state kinds.Screen = new_screen
+new_state kinds.Tally = new_tally
+
+abbrev pub new_peer : Stocked → Seen
+new_peer s = record { name = s.name; state = new_state s.kind }
+
+-- one more peer, unless one of its name is there
+abbrev pub with_peer : List Seen → Seen → List Seen
+with_peer peers p = cond (is_some (place_named (λ (q : Seen). q.name) peers p.name)) peers (peers ++ p ∷ [])
+
+-- new peers behind others, of each name the first
+abbrev pub stocked_after : List Seen → List Stocked → List Seen
+stocked_after peers [] = peers
+stocked_after peers (s ∷ stock) = stocked_after (with_peer peers (new_peer s)) stock
+
+-- what is seen of the pool that the host makes for a definition
+abbrev pub stocked_pool : Definition → List Seen
+stocked_pool d = stocked_after [] (stock_of d)

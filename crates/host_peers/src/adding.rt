@@ -2,21 +2,29 @@
 
 ghost use Rattle.std.specs.Prelude.{◌≡◌, IsSome, IsTrue, None, OnErr, OnOk, string_bytes};
 ghost use Rattle.std.specs.List.{All};
-ghost use Rattle.native_peers.specs.Pool.{AppendsOne, entries, number_of};
+ghost use Rattle.native_peers.specs.Pool.{AppendsOne, entries, number_of, seen};
+ghost use Rattle.host_peers.specs.Stock.{new_peer, new_state, with_peer};
 
+use crate::stock_lists::StockKind;
 use native_peers::{AddFault, NotAdded, Peer, PeerPool};
 use std::alloc::AllocError;
 
-/// Adds an open peer at the end of a pool whose peers are all open. Where a peer of the name is there, the new one is passed over.
+/// Adds a new peer of a kind at the end of a pool whose peers are all open. Where a peer of the name is there, the new one is passed over.
 ///
 /// # Errors
 ///
 /// `AllocError` if memory is refused.
-pub fn put(pool: &mut PeerPool, name: &str, peer: Box<dyn Peer>) -> Result<(), AllocError>
-    requires open { IsTrue ((⟦<dyn Peer as Peer>⟧ peer.vtable).state peer.value).is_open }
+pub fn put(
+    pool: &mut PeerPool,
+    name: &str,
+    kind: StockKind,
+    peer: Box<dyn Peer>,
+) -> Result<(), AllocError>
+    requires new { (⟦<dyn Peer as Peer>⟧ peer.vtable).state peer.value ≡ new_state kind }
     requires all { All (λ p. IsTrue ((⟦<dyn Peer as Peer>⟧ p.peer.vtable).state p.peer.value).is_open) (entries pool.old) }
     ensures added { OnOk result (number_of (entries pool.old) name.now ≡ None → AppendsOne (λ p. (string_bytes p.name ≡ name.now) × (p.peer ≡ peer)) (entries pool.old) (entries pool.new)) }
     ensures passed_over { IsSome (number_of (entries pool.old) name.now) → entries pool.new ≡ entries pool.old }
+    ensures seen { OnOk result (seen (λ p. (⟦<dyn Peer as Peer>⟧ p.peer.vtable).state p.peer.value) (entries pool.new) ≡ with_peer (seen (λ p. (⟦<dyn Peer as Peer>⟧ p.peer.vtable).state p.peer.value) (entries pool.old)) (new_peer (record { name = name.now; kind = kind }))) }
     ensures err { OnErr result (entries pool.new ≡ entries pool.old) }
     ensures open { All (λ p. IsTrue ((⟦<dyn Peer as Peer>⟧ p.peer.vtable).state p.peer.value).is_open) (entries pool.new) }
 {

@@ -1,8 +1,9 @@
 //! Programs that run with the peers which the host makes for a definition.
 
-ghost use Rattle.std.specs.Prelude.{IfOk, IsTrue, ℕ};
-ghost use Rattle.std.specs.List.{All};
-ghost use Rattle.native_peers.specs.Pool.{entries};
+ghost use Rattle.std.specs.Prelude.{IfOk, List, ℕ};
+ghost use Rattle.native_peers.specs.Pool.{entries, seen};
+ghost use Rattle.native_peers.specs.Seen.{Seen};
+ghost use Rattle.host_peers.specs.Stock.{stocked_pool};
 
 use crate::adding::put;
 use crate::screens::Screen;
@@ -14,12 +15,15 @@ use std::alloc::{AllocError, Global};
 
 /// A program that runs with a pool of peers.
 pub trait PoolProgram: Drop {
-    /// The statuses that it may answer, whatever open peers it has.
+    /// What it asks of its peers: their names, and the states that they begin in.
+    ghost asks: { Self → List Seen → Type 0 };
+
+    /// The statuses that it may answer, where its peers are as it asks.
     ghost answers: { Self → ℕ → Type 0 };
 
-    /// Runs with a pool of open peers, and answers a status.
+    /// Runs with a pool of peers, and answers a status.
     fn run(self, pool: PeerPool) -> u8
-        requires { All (λ p. IsTrue ((⟦<dyn Peer as Peer>⟧ p.peer.vtable).state p.peer.value).is_open) (entries pool) }
+        requires { asks self (seen (λ p. (⟦<dyn Peer as Peer>⟧ p.peer.vtable).state p.peer.value) (entries pool)) }
         ensures { answers self result };
 }
 
@@ -33,6 +37,7 @@ pub fn run_with_stock<P: PoolProgram>(
     definition: &Definition,
     program: P,
 ) -> Result<u8, AllocError>
+    requires { P.asks program (stocked_pool definition.now) }
     ensures { IfOk result (λ status. P.answers program status) }
 {
     let mut pool = PeerPool::new(alloc);
@@ -40,11 +45,11 @@ pub fn run_with_stock<P: PoolProgram>(
         match peer.kind {
             StockKind::Screen => {
                 let screen = Box::new(alloc, Screen::new(alloc)?)?;
-                put(&mut pool, peer.name, screen)?;
+                put(&mut pool, peer.name, StockKind::Screen, screen)?;
             }
             StockKind::Tally => {
                 let tally = Box::new(alloc, Tally::new(alloc)?)?;
-                put(&mut pool, peer.name, tally)?;
+                put(&mut pool, peer.name, StockKind::Tally, tally)?;
             }
         }
     }

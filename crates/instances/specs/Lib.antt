@@ -1,7 +1,4 @@
-pub mod Store
-pub mod Family
-pub mod Weak
-pub mod Release
-pub mod Laws
-pub mod View
-pub mod Bounds
+pub mod Lent
+pub mod Making
+pub mod Calls
+pub mod Heaps

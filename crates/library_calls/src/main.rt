@@ -6,14 +6,18 @@
 
 mod call_faults;
 mod handler_calls;
+mod heap_calls;
+mod heap_tables;
 mod object_calls;
 mod queue_calls;
+mod tally_calls;
 mod type_calls;
 mod value_calls;
 mod words;
 
 use call_faults::CallFault;
 use handler_calls::HandlerCalls;
+use heap_calls::answer_of_heaps;
 use object_calls::ObjectCalls;
 use queue_calls::QueueCalls;
 use std::alloc::Global;
@@ -51,6 +55,7 @@ impl Libraries {
             "values" => answer_of_values(alloc, self.types.tree(), call, words),
             "queue" => self.queue.answer(alloc, call, words),
             "objects" => self.objects.answer(alloc, call, words),
+            "heaps" => answer_of_heaps(alloc, call, words),
             "handlers" => self.handlers.answer(alloc, call, words),
             _ => Err(CallFault::Line),
         }

@@ -1,10 +1,10 @@
-//! Calls of instances.
+//! Calls of instance_tables.
 
 ghost use Rattle.std.specs.Prelude.{◌≡◌, [], None};
 
 use crate::call_faults::CallFault;
 use crate::words::{parts, seen, small_number};
-use instances::{AdoptError, Object, Table};
+use instance_tables::{AdoptError, Object, Table};
 use std::alloc::Global;
 use type_tree::TypeId;
 use ui_machine::{ObjectId, Place};
@@ -23,6 +23,30 @@ fn bare_object(alloc: Global) -> Object
     Object::new(alloc, TypeId::new(0), Place(0), Vec::new(alloc), None)
 }
 
+// An object becomes another's child, if it lives and may be held once more.
+fn adopt_in(table: &mut Table, parent: ObjectId, child: ObjectId) -> Result<(), AdoptError> {
+    if !table.can_hold(child) {
+        return Err(AdoptError::NotLiving);
+    }
+    table.adopt(parent, child)
+}
+
+// What the last of so many objects comes to that become one object's children.
+fn adopt_many(alloc: Global, count: u16) -> Result<String, CallFault> {
+    let mut table = Table::new(alloc, u32::MAX);
+    let Ok(parent) = table.create(bare_object(alloc)) else {
+        return Err(CallFault::OutOfMemory);
+    };
+    let mut last = Ok(());
+    'children: for _ in 0..count {
+        let Ok(child) = table.create(bare_object(alloc)) else {
+            return Err(CallFault::OutOfMemory);
+        };
+        last = adopt_in(&mut table, parent, child);
+    }
+    seen(alloc, &last)
+}
+
 // The identity that a word is.
 fn identity(word: &str) -> Result<ObjectId, CallFault> {
     Ok(ObjectId(u64::from(small_number(word)?)))
@@ -35,7 +59,7 @@ impl ObjectCalls {
         }
     }
 
-    /// `create`, `adopt PARENT CHILD`, `is_live OBJECT`, `next_unheld`.
+    /// `create`, `adopt PARENT CHILD`, `is_live OBJECT`, `next_unheld`, and `adopt_many COUNT` on objects of its own.
     ///
     /// # Errors
     ///
@@ -45,24 +69,13 @@ impl ObjectCalls {
             "create" => seen(alloc, &self.table.create(bare_object(alloc))),
             "adopt" => {
                 let (parent, child) = parts(words)?;
-                self.adopt(alloc, identity(parent)?, identity(child)?)
+                let adopted = adopt_in(&mut self.table, identity(parent)?, identity(child)?);
+                seen(alloc, &adopted)
             }
             "is_live" => seen(alloc, &self.table.is_live(identity(words)?)),
             "next_unheld" => seen(alloc, &self.table.next_unheld()),
+            "adopt_many" => adopt_many(alloc, small_number(words)?),
             _ => Err(CallFault::Line),
         }
-    }
-
-    // An object becomes another's child.
-    fn adopt(
-        &mut self,
-        alloc: Global,
-        parent: ObjectId,
-        child: ObjectId,
-    ) -> Result<String, CallFault> {
-        if !self.table.can_hold(child) {
-            return seen(alloc, &AdoptError::NotLiving);
-        }
-        seen(alloc, &self.table.adopt(parent, child))
     }
 }

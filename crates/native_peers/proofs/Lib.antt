@@ -4,6 +4,7 @@ pub mod Finding
 pub mod Lengths
 pub mod Named
 pub mod Needing
+pub mod Numbering
 pub mod Places
 pub mod Relations
 pub mod Apart

@@ -12,6 +12,7 @@ mod kinds;
 mod members;
 mod mismatches;
 mod needs;
+mod numbers;
 mod peers;
 mod pools;
 mod shapes;

@@ -10,11 +10,13 @@ ghost use Rattle.native_peers.specs.Seen.{Asks, ClosesAt, SameRelations};
 
 use crate::entries::NamedPeer;
 use crate::faults::{AddFault, NotAdded, PeerFault};
+use crate::numbers::make_room;
 use crate::peers::Peer;
 use crate::pools::PeerPool;
 use g_values::Value;
 use peer_shapes::Method;
 use std::alloc::Global;
+use std::collections::BTreeMap;
 
 impl PeerPool {
     /// A pool without peers. It takes no memory.
@@ -23,6 +25,7 @@ impl PeerPool {
     {
         PeerPool {
             peers: Vec::new(alloc),
+            numbers: Some(BTreeMap::new(alloc)),
         }
     }
 
@@ -82,8 +85,8 @@ impl PeerPool {
         self.peers[k].close();
     }
 
-    /// The number of the peer of a name.
-    pub fn find(&self, name: &str) -> Option<usize>
+    // The number of the first peer of a name. It goes through the peers.
+    fn first_named(&self, name: &str) -> Option<usize>
         ensures { result ≡ number_of (entries self.now) name.now }
     {
         'peers: for (k, peer) in self.peers.iter().enumerate() {
@@ -92,6 +95,16 @@ impl PeerPool {
             }
         }
         None
+    }
+
+    /// The number of the peer of a name. It is looked up; once a peer was taken out of the pool, it is looked for from the first one on.
+    pub fn find(&self, name: &str) -> Option<usize>
+        ensures { result ≡ number_of (entries self.now) name.now }
+    {
+        match &self.numbers {
+            Some(numbers) => numbers.get(name).copied(),
+            None => self.first_named(name),
+        }
     }
 
     /// Adds a peer at the end.
@@ -112,22 +125,17 @@ impl PeerPool {
                 peer,
             });
         }
-        let Ok(name) = String::from_str(*self.peers.allocator(), name) else {
+        let Ok(name) = make_room(&mut self.peers, &mut self.numbers, name) else {
             return Err(NotAdded {
                 fault: AddFault::OutOfMemory,
                 peer,
             });
         };
-        match self.peers.push(NamedPeer { name, peer }) {
-            Ok(()) => Ok(()),
-            Err(back) => {
-                let NamedPeer { name: _, peer } = back.value;
-                Err(NotAdded {
-                    fault: AddFault::OutOfMemory,
-                    peer,
-                })
-            }
-        }
+        // There is room.
+        let Ok(()) = self.peers.push(NamedPeer { name, peer }) else {
+            unreachable!()
+        };
+        Ok(())
     }
 
     /// Takes the peer of a name out of the pool.
@@ -136,6 +144,7 @@ impl PeerPool {
         ensures left { entries self.new ≡ option_map_or (remove (entries self.old)) (number_of (entries self.old) name.now) (entries self.old) }
     {
         let k = self.find(name)?;
+        self.numbers = None;
         let NamedPeer { name: _, peer } = self.peers.remove(k);
         Some(peer)
     }

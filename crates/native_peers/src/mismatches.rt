@@ -1,6 +1,6 @@
 //! How pools fail to match what is needed.
 
-ghost use Rattle.std.specs.Prelude.{◌≡◌, ◌∷◌, [], Some, map, option_map};
+ghost use Rattle.std.specs.Prelude.{◌≡◌, ◌∷◌, [], IsTrue, Some, map, option_map, true};
 ghost use Rattle.std.specs.List.{list_any};
 ghost use Rattle.ui_machine.specs.Definition.Names.{same_name};
 ghost use Rattle.law_pools.specs.Needs.{first_unused, first_wrong, is_shaped, mismatch_with, peer_named, wrong_with};
@@ -39,19 +39,32 @@ fn fits<'a>(peer: &NamedPeer, need: &Need<'a>) -> Result<(), MatchFault<'a>>
     Ok(())
 }
 
-// Whether something needs the peer of a name.
-fn is_needed(name: &str, needs: &[Need<'_>]) -> bool
+// Whether the need of a number is of the peer of a name.
+fn is_of(needs: &[Need<'_>], number: usize, name: &str) -> bool
+    ensures { IsTrue result → list_any (λ n. same_name n.name.now name.now) needs.now ≡ true }
+{
+    match needs.get(number) {
+        Some(need) => need.has_name(name),
+        None => false,
+    }
+}
+
+// Whether something needs the peer of a name, most likely the need of this number.
+fn is_needed(name: &str, needs: &[Need<'_>], likely: usize) -> bool
     ensures { result ≡ list_any (λ n. same_name n.name.now name.now) needs.now }
 {
+    if is_of(needs, likely, name) {
+        return true;
+    }
     needs.iter().any(|need| need.has_name(name))
 }
 
-// Whether something needs this peer.
-fn used<'a>(peer: &'a NamedPeer, needs: &[Need<'_>]) -> Result<(), MatchFault<'a>>
+// Whether something needs this peer, most likely the need of this number.
+fn used<'a>(peer: &'a NamedPeer, needs: &[Need<'_>], likely: usize) -> Result<(), MatchFault<'a>>
     ensures { mismatch_of result ≡ first_unused (map need_view needs.now) (as_peer (seen_one (state peer.now.peer) peer.now) ∷ []) }
 {
     let name = peer.name.as_str();
-    if is_needed(name, needs) {
+    if is_needed(name, needs, likely) {
         Ok(())
     } else {
         Err(MatchFault::PeerUnused(name))
@@ -80,12 +93,12 @@ impl PeerPool {
         Ok(())
     }
 
-    // Whether all peers are needed.
+    // Whether all peers are needed. In a pool that was made from the needs each peer is found at its own number.
     fn used_up<'a>(&'a self, needs: &[Need<'_>]) -> Result<(), MatchFault<'a>>
         ensures { mismatch_of result ≡ first_unused (map need_view needs.now) (as_peers (seen (λ p. state p.peer) (entries self.now))) }
     {
-        'peers: for peer in &self.peers {
-            used(peer, needs)?;
+        'peers: for (number, peer) in self.peers.iter().enumerate() {
+            used(peer, needs, number)?;
         }
         Ok(())
     }

@@ -1,13 +1,14 @@
--- In a pool that matches what is needed, the first need of a peer's name has the peer's methods.
+-- In a pool that matches what is needed, each need of a peer's name has the peer's methods.
 use Rattle.std.proofs.Common.{◌≡◌, refl, ap, subst, ◌∙◌, ℕ, zero, suc, Bool, true, false, cond, ◌||◌, List, [], ◌∷◌, map, Option, None, Some}
 use Rattle.std.specs.Prelude.{slice_get}
 use Rattle.ui_machine.specs.Definition.Names.{same_name}
+use Rattle.ui_machine.specs.Definition.Signals.{Method}
 use Rattle.ui_machine.specs.State.Peers.{Peer, peer_number}
 use Rattle.law_static.proofs.Same.{names_same}
 use Rattle.law_typing.specs.Laws.WellRead.{no_two}
 use Rattle.law_pools.specs.Needs.{Mismatch, Need, closed, first_unused, first_wrong, is_needed, is_shaped, mismatch_with, misshapen, peer_named, unused, wrong_with}
 use Rattle.law_pools.proofs.PoolProofs.{neither}
-use Rattle.needed_peers.specs.Needing.{shape_needed}
+use Rattle.needed_peers.specs.Needing.{shape_likely, shape_needed}
 use Rattle.needed_peers.proofs.Alone.{found}
 use Rattle.needed_peers.proofs.SameShapes.{needed_equal}
 
@@ -54,8 +55,35 @@ module _ (pool : List Peer) (k : ℕ) (p : Peer) (at : slice_get pool k ≡ Some
       by true same needed right rest = of_need n same right
       by false other needed right rest = rest needed
 
+-- nothing is wrong with the peer of the need of a number
+right_at : (pool : List Peer) (needs : List Need) (k : ℕ) (n : Need) → slice_get needs k ≡ Some n → first_wrong pool needs ≡ None → wrong_with n (peer_named pool n.name) ≡ None
+right_at pool [] k n at none = absurd (cc at)
+right_at pool (m ∷ needs) zero n at none =
+    let here : m ≡ n = cc at in
+    subst (λ (x : Need). wrong_with x (peer_named pool x.name) ≡ None) here (neither (wrong_with m (peer_named pool m.name)) (first_wrong pool needs) none).0
+right_at pool (m ∷ needs) (suc k) n at none = right_at pool needs k n at (neither (wrong_with m (peer_named pool m.name)) (first_wrong pool needs) none).1
+
 pub shape_of_need : (needs : List Need) (pool : List Peer) (k : ℕ) (p : Peer) → slice_get pool k ≡ Some p → no_two same_name (map (λ (p : Peer). p.name) pool) ≡ true
-    → mismatch_with needs pool ≡ None → shape_needed needs p.name ≡ Some p.state.shape
-shape_of_need needs pool k p at apart matches =
-    let both = neither (first_wrong pool needs) (first_unused needs pool) matches in
-    of_needs pool k p at (found (λ (p : Peer). p.name) pool k p at apart) needs both.0 (needed_at needs pool k p at both.1)
+    → mismatch_with needs pool ≡ None → (likely : ℕ) → shape_likely needs likely p.name ≡ Some p.state.shape
+shape_of_need needs pool k p at apart matches likely = by (slice_get needs likely) refl
+  where
+    both : (first_wrong pool needs ≡ None) × (first_unused needs pool ≡ None)
+    both = neither (first_wrong pool needs) (first_unused needs pool) matches
+
+    alone : peer_number pool p.name ≡ Some k
+    alone = found (λ (p : Peer). p.name) pool k p at apart
+
+    first : shape_needed needs p.name ≡ Some p.state.shape
+    first = of_needs pool k p at alone needs both.0 (needed_at needs pool k p at both.1)
+
+    is : Option Need → Option (List Method)
+    is None = shape_needed needs p.name
+    is (Some n) = cond (same_name n.name p.name) n.methods (shape_needed needs p.name)
+
+    here : (n : Need) → slice_get needs likely ≡ Some n → (b : Bool) → same_name n.name p.name ≡ b → cond b n.methods (shape_needed needs p.name) ≡ Some p.state.shape
+    here n there true same = of_need pool k p at alone n same (right_at pool needs likely n there both.0)
+    here n there false other = first
+
+    by : (o : Option Need) → slice_get needs likely ≡ o → shape_likely needs likely p.name ≡ Some p.state.shape
+    by None there = ap is there ∙ first
+    by (Some n) there = ap is there ∙ here n there (same_name n.name p.name) refl

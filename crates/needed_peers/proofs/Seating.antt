@@ -13,7 +13,7 @@ use Rattle.law_typing.specs.Laws.WellRead.{no_two}
 use Rattle.engine_world.specs.SeatView.{new_peer}
 use Rattle.native_peers.specs.Matching.{as_peer, as_peers}
 use Rattle.native_peers.specs.Seen.{Seen}
-use Rattle.needed_peers.specs.Needing.{shape_needed}
+use Rattle.needed_peers.specs.Needing.{shape_likely}
 use Rattle.needed_peers.proofs.Alone.{fresh}
 use Rattle.needed_peers.proofs.Matched.{shape_of_need}
 use Rattle.needed_peers.proofs.Taken.{one_taken}
@@ -45,19 +45,19 @@ module _ {N : Type 0} (see : N → Seen) where
 
   -- the k-th peer of a pool, where no two have one name
   module _ (items : List N) (k : ℕ) (x : N) (at : slice_get items k ≡ Some x) where
-    -- the first need of its name has its methods
-    module _ (needs : List Need) (apart : no_two same_name (map (λ x. (see x).name) items) ≡ true) (matches : mismatch_with needs (as_peers (map see items)) ≡ None) (name : List ℕ) (named : name ≡ (see x).name) where
-      needed : shape_needed needs name ≡ Some (see x).state.shape
+    -- a need of its name has its methods
+    module _ (needs : List Need) (apart : no_two same_name (map (λ x. (see x).name) items) ≡ true) (matches : mismatch_with needs (as_peers (map see items)) ≡ None) (name : List ℕ) (named : name ≡ (see x).name) (likely : ℕ) where
+      needed : shape_likely needs likely name ≡ Some (see x).state.shape
       needed =
-          ap (shape_needed needs) named
+          ap (shape_likely needs likely) named
           ∙ shape_of_need needs (as_peers (map see items)) k (as_peer (see x))
           (slice_get-map as_peer (map see items) k ∙ ap (option_map as_peer) (slice_get-map see items k ∙ ap (option_map see) at))
-          (ap (λ ns. no_two same_name ns) (names_same items) ∙ apart) matches
+          (ap (λ ns. no_two same_name ns) (names_same items) ∙ apart) matches likely
 
-      pub needed_shape : (shape : List Method) → Some shape ≡ shape_needed needs name → shape ≡ (see x).state.shape
+      pub needed_shape : (shape : List Method) → Some shape ≡ shape_likely needs likely name → shape ≡ (see x).state.shape
       needed_shape shape is = let same : ◌≡◌ {A = Option (List Method)} (Some shape) (Some (see x).state.shape) = is ∙ needed in cc same
 
-      pub never_none : None ≡ shape_needed needs name → ⊥
+      pub never_none : None ≡ shape_likely needs likely name → ⊥
       never_none is = let never : ◌≡◌ {A = Option (List Method)} None (Some (see x).state.shape) = is ∙ needed in cc never
 
     -- none of those before it has its name

@@ -5,7 +5,7 @@ ghost use Rattle.law_peers.specs.Forgetting.{forgotten};
 ghost use Rattle.law_pools.specs.Needs.{mismatch_with};
 ghost use Rattle.native_peers.specs.Matching.{as_peers, need_view};
 ghost use Rattle.native_peers.specs.Pool.{entries, seen};
-ghost use Rattle.needed_peers.specs.Needing.{shape_needed};
+ghost use Rattle.needed_peers.specs.Needing.{shape_likely, shape_needed};
 
 use engine_world::seats::Seats;
 use native_peers::{Need, Peer, PeerPool};
@@ -13,7 +13,7 @@ use peer_shapes::Shape;
 use std::alloc::{AllocError, Global};
 
 // The shape of the first need of a name.
-fn shape_for<'a>(needs: &[Need<'a>], name: &str) -> Option<&'a Shape>
+fn first_shape<'a>(needs: &[Need<'a>], name: &str) -> Option<&'a Shape>
     ensures { option_map (λ s. s.now) result ≡ shape_needed (map need_view needs.now) name.now }
 {
     'needs: for need in needs {
@@ -22,6 +22,20 @@ fn shape_for<'a>(needs: &[Need<'a>], name: &str) -> Option<&'a Shape>
         }
     }
     None
+}
+
+// The shape of a need of a name: of the need of this number, if it is of that name, and else of the first that is.
+fn shape_for<'a>(needs: &[Need<'a>], likely: usize, name: &str) -> Option<&'a Shape>
+    ensures { option_map (λ s. s.now) result ≡ shape_likely (map need_view needs.now) likely name.now }
+{
+    let Some(need) = needs.get(likely) else {
+        return first_shape(needs, name);
+    };
+    if need.name == name {
+        need.shape
+    } else {
+        first_shape(needs, name)
+    }
 }
 
 /// The peers of a pool that matches what is needed, in the pool's order: each under its name and with its methods, no object's, and open as it is.
@@ -36,7 +50,7 @@ pub fn seats(alloc: Global, pool: &PeerPool, needs: &[Need<'_>]) -> Result<Seats
     let mut seats = Seats::new(alloc);
     'peers: for k in 0..pool.left() {
         let name = String::from_str(alloc, pool.name(k))?;
-        let Some(shape) = shape_for(needs, name.as_str()) else {
+        let Some(shape) = shape_for(needs, k, name.as_str()) else {
             unreachable!()
         };
         // For the proof: the kinds of the peer's methods are plain.

@@ -2,8 +2,8 @@
 use Rattle.std.proofs.Common.{◌≡◌, ℕ, zero, suc, List, [], ◌∷◌, ◌++◌, map, None, refl, sym, ap, subst, ◌∙◌, arith}
 use Rattle.ui_machine.specs.Seq.{total}
 use Rattle.ui_machine.specs.State.References.{in_task, mentions}
-use Rattle.instances.specs.Store.{count_of}
-use Rattle.instances.specs.Weak.{Knows, Marks}
+use Rattle.instance_tables.specs.Store.{count_of}
+use Rattle.instance_tables.specs.Weak.{Knows, Marks}
 use Rattle.engine_world.specs.Counting.{Connects, Counts, nothing}
 use Rattle.engine_world.specs.EngineView.{config_of}
 use Rattle.engine_world.specs.View.{world_of}

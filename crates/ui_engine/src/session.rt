@@ -1,15 +1,13 @@
 //! A session: a verified definition, its pool of peers, and what stands while its events come.
 
-ghost use Rattle.std.specs.Prelude.{◌≡◌, None, map, string_bytes, IfOk, IfErr, false, true};
-ghost use Rattle.law_typing.specs.Laws.WellRead.{no_two};
-ghost use Rattle.ui_machine.specs.Definition.Names.{same_name};
+ghost use Rattle.std.specs.Prelude.{◌≡◌, None, map, string_bytes, IfOk, IfErr, false};
 ghost use Rattle.ui_machine.specs.Prefix.{IsPrefix};
 ghost use Rattle.ui_machine.specs.Rules.Events.{refusal};
 ghost use Rattle.law_pools.specs.Needs.{mismatch};
 ghost use Rattle.law_sessions.specs.Sessions.{EventRead};
 ghost use Rattle.definition_format.specs.Meaning.{event_of};
 ghost use Rattle.native_peers.specs.Matching.{as_peers};
-ghost use Rattle.native_peers.specs.Pool.{entries, names, relations, seen};
+ghost use Rattle.native_peers.specs.Pool.{entries, relations, seen};
 ghost use Rattle.native_peers.specs.Seen.{SameRelations};
 ghost use Rattle.ui_engine.specs.Endings.{taken_closed};
 ghost use Rattle.engine_pools.specs.PoolView.{world_at};
@@ -113,8 +111,6 @@ impl Session {
     /// needs and the pool does not have so, then `PeerUnused` for the first that it does not need; and `OutOfMemory` if no memory is found
     /// before the build.
     pub fn start(alloc: Global, verified: Verified, pool: PeerPool) -> Result<Started, Refused>
-        // Each pool has this.
-        requires apart { no_two same_name (names (entries pool)) ≡ true }
         ensures matches { IfOk result (λ started. mismatch verified (as_peers (seen (λ p. (⟦<dyn Peer as Peer>⟧ p.peer.vtable).state p.peer.value) (entries pool))) ≡ None) }
         ensures built { IfOk result (λ started. Comes started.build (building (relations (λ p. (⟦<dyn Peer as Peer>⟧ p.peer.vtable).moves p.peer.value) (entries pool)) verified (as_peers (seen (λ p. (⟦<dyn Peer as Peer>⟧ p.peer.vtable).state p.peer.value) (entries pool)))) verified
             (state_at (seen (λ p. (⟦<dyn Peer as Peer>⟧ p.peer.vtable).state p.peer.value) (entries started.session.pool)) started.session.core)) }
@@ -183,7 +179,6 @@ impl Session {
 
     /// Ends the session, also where it has stopped, closes each open peer that an object has got, and hands out the lines and the pool.
     pub fn finish(self) -> Finished
-        requires seated { IsSeated (seen (λ p. (⟦<dyn Peer as Peer>⟧ p.peer.vtable).state p.peer.value) (entries self.pool)) self.core }
         ensures lines { map string_bytes result.transcript.items ≡ self.core.world.transcript }
         ensures closed { (seen (λ p. (⟦<dyn Peer as Peer>⟧ p.peer.vtable).state p.peer.value) (entries result.pool)) ≡ taken_closed self.core.world.peers (seen (λ p. (⟦<dyn Peer as Peer>⟧ p.peer.vtable).state p.peer.value) (entries self.pool)) }
         ensures same { SameRelations (relations (λ p. (⟦<dyn Peer as Peer>⟧ p.peer.vtable).moves p.peer.value) (entries self.pool)) (relations (λ p. (⟦<dyn Peer as Peer>⟧ p.peer.vtable).moves p.peer.value) (entries result.pool)) }

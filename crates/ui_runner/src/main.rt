@@ -84,6 +84,8 @@ struct EventsRun<'a> {
 }
 
 impl PoolProgram for EventsRun<'_> {
+    ghost asks = { λ _ _. ⊤ };
+
     ghost answers = { λ _ _. ⊤ };
 
     fn run(self, mut pool: PeerPool) -> u8 {

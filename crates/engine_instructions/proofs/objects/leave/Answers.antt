@@ -5,7 +5,7 @@ use Rattle.ui_machine.specs.Output.Text.{text_of_line}
 use Rattle.ui_machine.specs.Rules.Children.{orphaned, updated, with_parent, without_child}
 use Rattle.ui_machine.specs.State.Config.{World, with_objects}
 use Rattle.ui_machine.specs.State.Objects.{living}
-use Rattle.instances.specs.Family.{parent_in}
+use Rattle.instance_tables.specs.Family.{parent_in}
 use Rattle.engine_world.specs.View.{world_of}
 use Rattle.engine_world.proofs.Counts.{keeps_on, keeps_said, with_table}
 use Rattle.engine_instructions.proofs.Pushed.{left_keeps, left_world, none_named, one_named}

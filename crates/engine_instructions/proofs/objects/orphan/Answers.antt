@@ -5,7 +5,7 @@ use Rattle.ui_machine.specs.Instructions.Objects.{orphaning}
 use Rattle.ui_machine.specs.Rules.Children.{orphaned}
 use Rattle.ui_machine.specs.State.Config.{World}
 use Rattle.ui_machine.specs.State.Objects.{living}
-use Rattle.instances.specs.Family.{parent_in}
+use Rattle.instance_tables.specs.Family.{parent_in}
 use Rattle.engine_world.specs.Counting.{nothing}
 use Rattle.engine_world.specs.TaskView.{agenda_of}
 use Rattle.engine_world.specs.View.{world_of}

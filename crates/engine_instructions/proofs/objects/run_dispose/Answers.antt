@@ -9,7 +9,7 @@ use Rattle.ui_machine.specs.declared.arm.Halt.{Halt}
 use Rattle.ui_machine.specs.Instructions.Objects.{disposing}
 use Rattle.ui_machine.specs.Rules.Sets.{is_disposed}
 use Rattle.ui_machine.specs.State.Objects.{living}
-use Rattle.instances.specs.Weak.{Knows}
+use Rattle.instance_tables.specs.Weak.{Knows}
 use Rattle.engine_world.specs.Counting.{Counts, KeepsCounts, nothing}
 use Rattle.engine_world.specs.TaskView.{agenda_of}
 use Rattle.engine_world.specs.View.{world_of}

@@ -7,7 +7,7 @@ use Rattle.ui_machine.specs.Output.Lines as lines
 use Rattle.ui_machine.specs.State.Config.{World, said}
 use Rattle.ui_machine.specs.State.Sources.{has_room}
 use Rattle.frames.specs.FrameView.{frame_view}
-use Rattle.instances.specs.Store.{id_of}
+use Rattle.instance_tables.specs.Store.{id_of}
 use Rattle.engine_world.specs.EngineView.{config_of}
 use Rattle.engine_world.specs.TaskView.{agenda_of}
 use Rattle.engine_world.specs.View.{world_of}

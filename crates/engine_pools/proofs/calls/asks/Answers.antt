@@ -2,7 +2,7 @@ use Rattle.std.proofs.Common.{◌≡◌, None, ap, sym, ◌∙◌}
 use Rattle.std.specs.Prelude.{is_some}
 use Rattle.ui_machine.specs.State.References.{next_unheld}
 use Rattle.ui_machine.specs.Steps.{asked_after}
-use Rattle.instances.specs.Store.{count_of, id_of}
+use Rattle.instance_tables.specs.Store.{count_of, id_of}
 use Rattle.engine_tasks.specs.CallView.{question_view}
 use Rattle.engine_world.specs.EngineView.{config_of}
 use Rattle.engine_world.specs.View.{world_of}

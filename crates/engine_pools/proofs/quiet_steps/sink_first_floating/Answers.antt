@@ -1,5 +1,5 @@
 use Rattle.std.proofs.Common.{refl, ap, map, sym, ◌∙◌}
-use Rattle.instances.specs.Store.{Store, id_of}
+use Rattle.instance_tables.specs.Store.{Store, id_of}
 use Rattle.engine_world.specs.View.{held_of}
 use Rattle.engine_world.specs.TaskView.{agenda_of}
 use Rattle.engine_world.specs.EngineView.{config_of}

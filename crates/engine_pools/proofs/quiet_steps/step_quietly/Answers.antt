@@ -1,7 +1,7 @@
 use Rattle.std.proofs.Common.{◌≡◌, List, Some, None, ap, sym, ◌∙◌}
 use Rattle.ui_machine.specs.State.References.{mentions, next_unheld}
 use Rattle.ui_machine.specs.State.Tasks.{Task}
-use Rattle.instances.specs.Store.{id_of, count_of}
+use Rattle.instance_tables.specs.Store.{id_of, count_of}
 use Rattle.engine_world.specs.Counting.{nothing}
 use Rattle.engine_world.specs.EngineView.{config_of}
 use Rattle.engine_world.specs.TaskView.{agenda_of}

@@ -5,7 +5,7 @@ use Rattle.ui_machine.specs.Steps.{uncounted}
 use Rattle.engine_world.specs.View.{world_of}
 use Rattle.engine_world.specs.TaskView.{agenda_of}
 use Rattle.engine_world.proofs.Built.{no_object, held_before, held_now}
-use Rattle.instances.specs.Store.{Store}
+use Rattle.instance_tables.specs.Store.{Store}
 use Rattle.std.proofs.Common.{ℕ, ◌+◌, map, List, arith}
 use Rattle.ui_machine.specs.Seq.{total}
 use Rattle.ui_machine.specs.State.Config.{BuilderEntry, unbuilt, built}

@@ -7,7 +7,7 @@ use Rattle.ui_machine.specs.State.Config as config
 use Rattle.ui_machine.specs.State.Config.{starts}
 use Rattle.ui_machine.specs.State.Objects.{living}
 use Rattle.ui_machine.specs.Steps.{uncounted, finalising}
-use Rattle.instances.specs.Weak.{Knows}
+use Rattle.instance_tables.specs.Weak.{Knows}
 use Rattle.engine_world.specs.ClosingView.{closed_with, or_number}
 use Rattle.engine_world.specs.Counting.{KeepsCounts}
 use Rattle.engine_world.specs.declared.engine.Engine.{Engine}

@@ -5,7 +5,7 @@ use Rattle.ui_machine.specs.State.Config.{Config, Started}
 use Rattle.ui_machine.specs.State.Tasks.{Answering}
 use Rattle.ui_machine.specs.Steps.{uncounted}
 use Rattle.g_values.specs.View.{value_view}
-use Rattle.instances.specs.Store.{id_of}
+use Rattle.instance_tables.specs.Store.{id_of}
 use Rattle.engine_world.specs.EngineView.{config_of}
 use Rattle.engine_world.specs.View.{world_of}
 use Rattle.engine_world.specs.TaskView.{agenda_of}

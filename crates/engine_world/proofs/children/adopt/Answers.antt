@@ -1,5 +1,5 @@
 use Rattle.std.proofs.Common.{map, refl}
-use Rattle.instances.proofs.Exact.{join_exact}
+use Rattle.instance_tables.proofs.Exact.{join_exact}
 use Rattle.ui_machine.specs.State.Objects.{living}
 use Rattle.engine_world.specs.View.{held_of}
 use Rattle.engine_world.specs.TaskView.{agenda_of}

@@ -1,5 +1,5 @@
 use Rattle.std.proofs.Common.{◌≡◌, Some, Ok, sym, ap, ◌∙◌}
-use Rattle.instances.specs.declared.error.AdoptError.TheVariants.{NotLiving, HasParent, ChildLimit}
+use Rattle.instance_tables.specs.declared.error.AdoptError.TheVariants.{NotLiving, HasParent, ChildLimit}
 use Rattle.engine_world.specs.View.{world_of}
 use Rattle.engine_world.proofs.Kin.{not_joined, limit_told, family_told}
 use Rattle.engine_world.proofs.children.join.Goals as goal

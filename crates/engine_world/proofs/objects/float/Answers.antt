@@ -1,8 +1,8 @@
 use Rattle.std.proofs.Common.{sym, subst}
-use Rattle.instances.specs.Laws.{Counted}
-use Rattle.instances.specs.Store.{Store}
-use Rattle.instances.proofs.Created.{float_exact}
-use Rattle.instances.proofs.Families.{held_lives}
+use Rattle.instance_tables.specs.Laws.{Counted}
+use Rattle.instance_tables.specs.Store.{Store}
+use Rattle.instance_tables.proofs.Created.{float_exact}
+use Rattle.instance_tables.proofs.Families.{held_lives}
 use Rattle.engine_world.proofs.objects.float.Goals as goal
 
 pub returns-clause-counted : goal.returns-clause-counted

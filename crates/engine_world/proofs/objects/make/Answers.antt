@@ -8,8 +8,8 @@ use Rattle.ui_machine.specs.State.References.{in_values}
 use Rattle.ui_machine.specs.State.Tasks.{Constructing}
 use Rattle.ui_machine.specs.Rules.Construction.{with_object, new_object}
 use Rattle.definitions.specs.EntryView.{entry_view}
-use Rattle.instances.specs.Store.{made_object}
-use Rattle.instances.proofs.Created.{made_holds}
+use Rattle.instance_tables.specs.Store.{made_object}
+use Rattle.instance_tables.proofs.Created.{made_holds}
 use Rattle.engine_world.specs.View.{with_line, world_of}
 use Rattle.engine_world.proofs.Building.{made_there, valid_defaults}
 use Rattle.engine_world.proofs.objects.make.Goals as goal

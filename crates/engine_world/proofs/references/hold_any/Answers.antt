@@ -1,9 +1,9 @@
 use Rattle.std.proofs.Common.{◌≡◌, ◌+◌, Option, refl, sym, ap, arith}
 use Rattle.ui_machine.specs.declared.ids.ObjectId.{ObjectId}
 use Rattle.ui_machine.specs.State.References.{in_option}
-use Rattle.instances.specs.Store.{Store, id_of, count_of, so_often}
-use Rattle.instances.proofs.Families.{was_made, held_lives}
-use Rattle.instances.proofs.Moves.{more_at}
+use Rattle.instance_tables.specs.Store.{Store, id_of, count_of, so_often}
+use Rattle.instance_tables.proofs.Families.{was_made, held_lives}
+use Rattle.instance_tables.proofs.Moves.{more_at}
 use Rattle.engine_world.proofs.references.hold_any.Goals as goal
 
 pub returns-clause-counts : goal.returns-clause-counts

@@ -2,7 +2,7 @@ use Rattle.std.proofs.Common.{◌≡◌, ℕ, ◌+◌, drop}
 use Rattle.ui_machine.specs.Seq.{total}
 use Rattle.ui_machine.specs.State.References.{in_register}
 use Rattle.bytecode.specs.Computing.{registers_of}
-use Rattle.instances.specs.Store.{count_of}
+use Rattle.instance_tables.specs.Store.{count_of}
 use Rattle.engine_world.specs.Counting.{OnlyCounts}
 use Rattle.engine_world.proofs.references.hold_registers.Given as goal
 

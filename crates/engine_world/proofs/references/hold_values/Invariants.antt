@@ -2,7 +2,7 @@ use Rattle.std.proofs.Common.{◌≡◌, ℕ, ◌+◌, drop, map}
 use Rattle.ui_machine.specs.Seq.{total}
 use Rattle.ui_machine.specs.State.References.{in_value}
 use Rattle.g_values.specs.View.{value_view}
-use Rattle.instances.specs.Store.{count_of}
+use Rattle.instance_tables.specs.Store.{count_of}
 use Rattle.engine_world.specs.Counting.{OnlyCounts}
 use Rattle.engine_world.proofs.references.hold_values.Given as goal
 

@@ -1,7 +1,7 @@
 use Rattle.std.proofs.Common.{◌≡◌, ℕ, ◌<◌, Option, ap, arith}
 use Rattle.ui_machine.specs.declared.ids.ObjectId.{ObjectId}
 use Rattle.ui_machine.specs.State.References.{same, in_option}
-use Rattle.instances.specs.Store.{Store, id_of, count_of}
+use Rattle.instance_tables.specs.Store.{Store, id_of, count_of}
 use Rattle.engine_world.proofs.Floats.{same_self}
 use Rattle.engine_world.proofs.Counts.{let_go_less}
 use Rattle.engine_world.proofs.references.let_go_any.Goals as goal

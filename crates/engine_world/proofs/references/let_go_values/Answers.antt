@@ -1,7 +1,7 @@
 use Rattle.std.proofs.Common.{ℕ, Option, ap, ◌∙◌, arith}
 use Rattle.ui_machine.specs.State.References.{in_option, in_value}
 use Rattle.g_values.specs.View.{value_view}
-use Rattle.instances.proofs.Written.{by_name}
+use Rattle.instance_tables.proofs.Written.{by_name}
 use Rattle.engine_world.proofs.Counts.{both_only}
 use Rattle.engine_world.proofs.Values.{values_next, values_end}
 use Rattle.engine_world.proofs.references.let_go_values.Goals as goal

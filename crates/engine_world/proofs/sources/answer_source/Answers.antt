@@ -1,7 +1,7 @@
 use Rattle.std.proofs.Common.{◌≡◌, true, false, not, ◌&&◌, refl, sym, ap, ◌∙◌, arith}
 use Rattle.ui_machine.specs.Seq.{total}
 use Rattle.ui_machine.specs.State.References.{in_option, in_source}
-use Rattle.instances.specs.Store.{id_of}
+use Rattle.instance_tables.specs.Store.{id_of}
 use Rattle.main_context.specs.Attached.{Attached, is_attached}
 use Rattle.engine_world.specs.Counting.{OnlyCounts}
 use Rattle.engine_world.proofs.SourceCounts.{answered_total, context_moves, data_given, data_in, staying_total}

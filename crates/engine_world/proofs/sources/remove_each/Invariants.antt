@@ -2,7 +2,7 @@ use Rattle.std.proofs.Common.{◌≡◌, ℕ, ◌+◌, ◌≤◌, length}
 use Rattle.ui_machine.specs.Seq.{total}
 use Rattle.ui_machine.specs.State.References.{in_source}
 use Rattle.ui_machine.specs.State.Sources.{without_program}
-use Rattle.instances.specs.Store.{count_of}
+use Rattle.instance_tables.specs.Store.{count_of}
 use Rattle.engine_world.specs.Counting.{OnlyCounts}
 use Rattle.engine_world.proofs.sources.remove_each.Given as goal
 

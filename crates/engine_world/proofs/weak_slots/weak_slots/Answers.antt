@@ -1,7 +1,7 @@
 use Rattle.std.proofs.Common.{◌≡◌, ℕ, suc, ◌+◌, ◌<◌, ◌^◌, ◌++◌, ◌∷◌, [], length, Bool, List, ap, sym, rules, ◌∙◌, arith, length-append}
 use Rattle.ui_machine.specs.Seq.{read}
 use Rattle.ui_machine.specs.Definition.Lookups.{specs_of}
-use Rattle.instances.specs.Weak.{Marks}
+use Rattle.instance_tables.specs.Weak.{Marks}
 use Rattle.engine_world.specs.WeakView.{weak_of}
 use Rattle.std.proofs.lemmas.Bool.{cases_lt}
 use Rattle.std.proofs.Common.{inl, inr}

@@ -11,40 +11,40 @@ use Rattle.event_lines.proofs.Openings.{all_free, opens_built, opens_stopped}
 use Rattle.event_lines.proofs.opening.build.Goals as goal
 
 pub returns-in-Ok-build-clause-opened : goal.returns-in-Ok-build-clause-opened
-returns-in-Ok-build-clause-opened g c bytes denotes judged =
+returns-in-Ok-build-clause-opened g c bytes denotes =
     let d = c.args.verified in
     let pool = (seen (λ p. (g.dyn-1.0.entry p.peer.vtable).1.state p.peer.value) (entries c.args.pool)) in
     let peers = as_peers pool in
     let taken : IsTaken bytes d peers = record {
       denoted = denotes;
-      judged = judged;
+      judged = c.requires.judged;
       accepted = c.definition.ensures.accepted;
       matches = c.in-Ok.ensures.matches;
       ready = matched_is_ready d peers c.in-Ok.ensures.matches (all_free pool);
     } in
     let session = c.in-Ok.started.session in
-    opens_built (λ p. (g.dyn-1.0.entry p.peer.vtable).1.state p.peer.value) (relations (λ p. (g.dyn-1.0.entry p.peer.vtable).1.moves p.peer.value) (entries c.args.pool)) peers c.args.pool bytes d denotes judged session taken c.in-Ok-build.field-0 c.in-Ok.ensures.seated
+    opens_built (λ p. (g.dyn-1.0.entry p.peer.vtable).1.state p.peer.value) (relations (λ p. (g.dyn-1.0.entry p.peer.vtable).1.moves p.peer.value) (entries c.args.pool)) peers c.args.pool bytes d denotes c.requires.judged session taken c.in-Ok-build.field-0 c.in-Ok.ensures.seated
     (subst (λ (b : Result Reply SessionFault). Comes b (building (relations (λ p. (g.dyn-1.0.entry p.peer.vtable).1.moves p.peer.value) (entries c.args.pool)) d peers) d (state_at (seen (λ p. (g.dyn-1.0.entry p.peer.vtable).1.state p.peer.value) (entries session.pool)) session.core)) c.in-Ok-build.is c.in-Ok.ensures.built)
 
 pub returns-in-Err-clause-opened : goal.returns-in-Err-clause-opened
-returns-in-Err-clause-opened g c bytes denotes judged =
-    (rw c.in-Err.ensures.refused.1 at c.unstarted.ensures.opened) bytes c.args.verified denotes judged c.in-Err.ensures.refused.2
+returns-in-Err-clause-opened g c bytes denotes =
+    (rw c.in-Err.ensures.refused.1 at c.unstarted.ensures.opened) bytes c.args.verified denotes c.requires.judged c.in-Err.ensures.refused.2
 
 pub returns-in-Err-clause-same : goal.returns-in-Err-clause-same
 returns-in-Err-clause-same g c = rw (c.unstarted.ensures.same, c.in-Err.ensures.refused.1) (same_here (relations (λ p. (g.dyn-1.0.entry p.peer.vtable).1.moves p.peer.value) (entries c.args.pool)))
 
 pub returns-in-Err-build-clause-opened : goal.returns-in-Err-build-clause-opened
-returns-in-Err-build-clause-opened g c bytes denotes judged =
+returns-in-Err-build-clause-opened g c bytes denotes =
     let d = c.args.verified in
     let pool = (seen (λ p. (g.dyn-1.0.entry p.peer.vtable).1.state p.peer.value) (entries c.args.pool)) in
     let peers = as_peers pool in
     let taken : IsTaken bytes d peers = record {
       denoted = denotes;
-      judged = judged;
+      judged = c.requires.judged;
       accepted = c.definition.ensures.accepted;
       matches = c.in-Ok.ensures.matches;
       ready = matched_is_ready d peers c.in-Ok.ensures.matches (all_free pool);
     } in
     let session = c.in-Ok.started.session in
-    opens_stopped (λ p. (g.dyn-1.0.entry p.peer.vtable).1.state p.peer.value) (relations (λ p. (g.dyn-1.0.entry p.peer.vtable).1.moves p.peer.value) (entries c.args.pool)) peers c.args.pool bytes d denotes judged session taken c.in-Err-build.field-0 c.in-Ok.ensures.seated
+    opens_stopped (λ p. (g.dyn-1.0.entry p.peer.vtable).1.state p.peer.value) (relations (λ p. (g.dyn-1.0.entry p.peer.vtable).1.moves p.peer.value) (entries c.args.pool)) peers c.args.pool bytes d denotes c.requires.judged session taken c.in-Err-build.field-0 c.in-Ok.ensures.seated
     (subst (λ (b : Result Reply SessionFault). Comes b (building (relations (λ p. (g.dyn-1.0.entry p.peer.vtable).1.moves p.peer.value) (entries c.args.pool)) d peers) d (state_at (seen (λ p. (g.dyn-1.0.entry p.peer.vtable).1.state p.peer.value) (entries session.pool)) session.core)) c.in-Err-build.is c.in-Ok.ensures.built)

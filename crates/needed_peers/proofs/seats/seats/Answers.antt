@@ -10,7 +10,7 @@ unreachable-requires g c =
     let items = c.args.pool.now.peers.items in
     let p = the_peer items c.peers.k _ c.name.ensures in
     never_none (λ p. record { name = string_bytes p.name; state = (g.dyn-1.0.entry p.peer.vtable).1.state p.peer.value }) items c.peers.k p.0 p.1 (map need_view c.args.needs.now) c.args.pool.now.apart c.requires.matches c.as_str.result.now
-    (c.as_str.ensures.value ∙ c.in_ok-name.ensures.ok ∙ p.2) c.in_default.ensures
+    (c.as_str.ensures.value ∙ c.in_ok-name.ensures.ok ∙ p.2) c.peers.k c.in_default.ensures
 
 pub add-requires-clause-fresh : goal.add-requires-clause-fresh
 add-requires-clause-fresh g c =
@@ -24,7 +24,7 @@ add-requires-clause-plain g c =
     let items = c.args.pool.now.peers.items in
     let p = the_peer items c.peers.k _ c.name.ensures in
     let same = needed_shape (λ p. record { name = string_bytes p.name; state = (g.dyn-1.0.entry p.peer.vtable).1.state p.peer.value }) items c.peers.k p.0 p.1 (map need_view c.args.needs.now) c.args.pool.now.apart c.requires.matches c.as_str.result.now
-    (c.as_str.ensures.value ∙ c.in_ok-name.ensures.ok ∙ p.2) c.in-Some.shape.now c.in-Some.ensures in
+    (c.as_str.ensures.value ∙ c.in_ok-name.ensures.ok ∙ p.2) c.peers.k c.in-Some.shape.now c.in-Some.ensures in
     subst (λ s. IsTrue (is_plain_shape s)) (sym (c.in_ok-shape.ensures ∙ same)) (holds items c.peers.k p.0 _ p.1 c.shape-methods.ensures.plain)
 
 pub peers-preserved : goal.peers-preserved
@@ -32,6 +32,6 @@ peers-preserved g c =
     let items = c.args.pool.now.peers.items in
     let p = the_peer items c.peers.k _ c.name.ensures in
     let same = needed_shape (λ p. record { name = string_bytes p.name; state = (g.dyn-1.0.entry p.peer.vtable).1.state p.peer.value }) items c.peers.k p.0 p.1 (map need_view c.args.needs.now) c.args.pool.now.apart c.requires.matches c.as_str.result.now
-    (c.as_str.ensures.value ∙ c.in_ok-name.ensures.ok ∙ p.2) c.in-Some.shape.now c.in-Some.ensures in
+    (c.as_str.ensures.value ∙ c.in_ok-name.ensures.ok ∙ p.2) c.peers.k c.in-Some.shape.now c.in-Some.ensures in
     seated (λ p. record { name = string_bytes p.name; state = (g.dyn-1.0.entry p.peer.vtable).1.state p.peer.value }) items c.peers.k p.0 p.1 c.peers.seats c.add.new.self (string_bytes c.in_ok-name.name) c.in_ok-shape.shape c.is_open.result
-    c.peers.invariant c.in_ok-add.ensures (c.in_ok-name.ensures.ok ∙ p.2) (c.in_ok-shape.ensures ∙ same) (holds items c.peers.k p.0 _ p.1 c.is_open.ensures)
+    c.peers.invariant c.in_ok-add.ensures.ok (c.in_ok-name.ensures.ok ∙ p.2) (c.in_ok-shape.ensures ∙ same) (holds items c.peers.k p.0 _ p.1 c.is_open.ensures)

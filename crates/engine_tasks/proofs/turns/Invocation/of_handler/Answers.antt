@@ -1,5 +1,5 @@
 use Rattle.std.proofs.Common.{ap, sym, ◌∙◌}
-use Rattle.instances.specs.Store.{id_of}
+use Rattle.instance_tables.specs.Store.{id_of}
 use Rattle.signal_core.specs.declared.turn.Turn.TheVariants as turns
 use Rattle.engine_tasks.specs.TurnView.{given_by, value_of}
 use Rattle.engine_tasks.proofs.TurnTaking.{handler_given, swapped_given}

@@ -1,23 +1,29 @@
-use Rattle.std.proofs.Common.{◌≡◌, false, List, map, refl, sym, ap, subst, ◌∙◌}
-use Rattle.std.specs.Option.{option_copied_mut}
+use Rattle.std.proofs.Common.{◌≡◌, ◌<◌, false, List, length, map, slice_set, refl, sym, arith, rules, subst}
+use Rattle.std.proofs.lemmas.List.{length-map}
 use Rattle.ui_machine.specs.State.Peers.{Peer, closed_peer}
-use Rattle.indexmap.specs.IndexMap.{set_value_at}
 use Rattle.engine_world.specs.SeatView.{closed_at, seated}
 use Rattle.engine_world.specs.declared.seats.Seat.{Seat}
-use Rattle.engine_world.proofs.SeatedPeers.{changed_seat, plain_changed}
+use Rattle.engine_world.proofs.SeatedPeers.{changed_seat, numbers_changed, plain_changed, sits_there}
 use Rattle.engine_world.proofs.seats.Seats.close.Goals as goal
 
-pub invariant_of-self-2 : goal.invariant_of-self-2
-invariant_of-self-2 c =
-    let v = c.in-Some.seat.now in
-    let at = sym c.get_index_mut.ensures.value ∙ ap option_copied_mut c.in-Some.is in
-    plain_changed c.self.inside.seats.entries c.args.number v (record { shape = v.shape; is_open = false; holder = v.holder }) at refl c.self.invariant
+pub index_mut-requires : goal.index_mut-requires
+index_mut-requires c =
+    let same = length-map c.self.inside.seats.items seated in
+    let less : c.args.number < length (map seated c.self.inside.seats.items) = subst (λ (ps : List Peer). c.args.number < length ps) (sym c.self.view_is) c.requires in
+    let inside : c.args.number < length c.self.inside.seats.items = omega (arith, less, same) in
+    search rules
+
+pub invariant_of-self : goal.invariant_of-self
+invariant_of-self c =
+    let v = c.index_mut.result.now in
+    let w : Seat = record { name = v.name; shape = v.shape; is_open = false; holder = v.holder } in
+    let at = sits_there c.self.inside.seats.items c.args.number v (subst (λ (ps : List Peer). c.args.number < length ps) (sym c.self.view_is) c.requires) c.index_mut.ensures.value in
+    (plain_changed c.self.inside.seats.items c.args.number v w at refl c.self.invariant.0, numbers_changed c.self.inside.numbers c.self.inside.seats.items c.args.number v w at refl c.self.invariant.1)
 
 pub returns : goal.returns
 returns c =
-    let v = c.in-Some.seat.now in
-    let es = c.self.inside.seats.entries in
-    let w : Seat = record { shape = v.shape; is_open = false; holder = v.holder } in
-    let at = sym c.get_index_mut.ensures.value ∙ ap option_copied_mut c.in-Some.is in
-    subst (λ (ps : List Peer). map seated (set_value_at es c.args.number w) ≡ closed_at ps c.args.number) c.self.view_is
-    (changed_seat es c.args.number v w (λ (p : Peer). closed_peer p) at (λ k. refl))
+    let v = c.index_mut.result.now in
+    let w : Seat = record { name = v.name; shape = v.shape; is_open = false; holder = v.holder } in
+    let at = sits_there c.self.inside.seats.items c.args.number v (subst (λ (ps : List Peer). c.args.number < length ps) (sym c.self.view_is) c.requires) c.index_mut.ensures.value in
+    subst (λ (ps : List Peer). map seated (slice_set c.self.inside.seats.items c.args.number w) ≡ closed_at ps c.args.number) c.self.view_is
+    (changed_seat c.self.inside.seats.items c.args.number v w (λ (p : Peer). closed_peer p) at refl)

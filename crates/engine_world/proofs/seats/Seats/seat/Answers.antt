@@ -1,7 +1,16 @@
-use Rattle.std.proofs.Common.{sym}
-use Rattle.engine_world.proofs.SeatedPeers.{plain_seat}
+use Rattle.std.proofs.Common.{◌≡◌, ◌<◌, List, length, map, get_or, ap, subst, arith}
+use Rattle.std.proofs.lemmas.List.{length-map}
+use Rattle.engine_world.specs.SeatView.{seated}
+use Rattle.engine_world.specs.declared.seats.Seat.{Seat}
+use Rattle.engine_world.proofs.SeatedPeers.{plain_seat, sits_there}
 use Rattle.engine_world.proofs.seats.Seats.seat.Goals as goal
 
 pub returns-clause-plain : goal.returns-clause-plain
 returns-clause-plain c =
-    plain_seat c.self.inside.seats.entries c.args.number (c.in_ok-name.name.now, c.in_ok-name.seat.now) (sym c.in_ok-name.ensures.entry) c.self.invariant
+    let ss = c.self.inside.seats.items in
+    let v = c.in_ok-seat.seat.now in
+    let same = length-map ss seated in
+    let here = ap (λ (l : List Seat). length l) c.deref.ensures.value in
+    let inside : c.args.number < length (map seated ss) = omega (arith, c.in_ok-seat.ensures.lookup.3.0, same, here) in
+    let is : v ≡ get_or ss c.args.number v = subst (λ (l : List Seat). v ≡ get_or l c.args.number v) c.deref.ensures.value c.in_ok-seat.ensures.lookup.1 in
+    plain_seat ss c.args.number v (sits_there ss c.args.number v inside is) c.self.invariant.0

@@ -1,5 +1,6 @@
 use Rattle.native_peers.proofs.Apart.{set_apart}
-use Rattle.std.proofs.Common.{ap, string_bytes}
+use Rattle.native_peers.proofs.Numbering.{numbers_set}
+use Rattle.std.proofs.Common.{ap, string_bytes, sym, ◌∙◌}
 use Rattle.native_peers.proofs.Closing.{closed_at}
 use Rattle.native_peers.proofs.Places.{here, inside}
 use Rattle.native_peers.proofs.Relations.{same_relations}
@@ -22,4 +23,7 @@ pub invariant_of-self : goal.invariant_of-self
 invariant_of-self g c =
     let items = c.args.self.now.peers.items in
     let at = here items c.args.k c.index_mut.result.now (inside items c.args.k _ c.requires) c.index_mut.ensures.value in
-    record { apart = set_apart (λ p. string_bytes p.name) items c.args.k c.index_mut.result.now c.close.new.self at (ap (λ s. string_bytes s) c.close.ensures.name) c.args.self.now.apart }
+    record {
+      apart = set_apart (λ p. string_bytes p.name) items c.args.k c.index_mut.result.now c.close.new.self at (ap (λ s. string_bytes s) c.close.ensures.name) c.args.self.now.apart;
+      numbered = λ m is n. c.args.self.now.numbered m is n ∙ sym (numbers_set (λ p. string_bytes p.name) items c.args.k c.index_mut.result.now c.close.new.self at (ap (λ s. string_bytes s) c.close.ensures.name) n);
+    }

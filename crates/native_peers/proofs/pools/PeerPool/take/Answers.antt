@@ -17,4 +17,4 @@ returns-clause-taken g c =
     (within (λ p. string_bytes p.name) c.args.name.now items c.in_ok-k.k (sym c.in_ok-k.ensures)) c.remove-peer.ensures.value
 
 pub invariant_of-self : goal.invariant_of-self
-invariant_of-self g c = record { apart = ap (λ items. no_two same_name (map (λ p. string_bytes p.name) items)) c.remove-peer.ensures.items ∙ left_apart (λ p. string_bytes p.name) c.args.self.now.peers.items c.in_ok-k.k c.args.self.now.apart }
+invariant_of-self g c = record { apart = ap (λ items. no_two same_name (map (λ p. string_bytes p.name) items)) c.remove-peer.ensures.items ∙ left_apart (λ p. string_bytes p.name) c.args.self.now.peers.items c.in_ok-k.k c.args.self.now.apart; numbered = λ m is. absurd (cc is) }

@@ -1,0 +1,269 @@
+-- What a change of one instance keeps of all: that each was given, which is the lowest that nothing holds, and that children and
+-- parents were given.
+use Rattle.std.proofs.Common.{◌≡◌, ◌≢◌, ℕ, ◌<◌, ◌≤◌, List, [], ◌∷◌, ◌++◌, length, cond, nat_eq, refl, Bool, true, false, Option, None, Some, is_some, IsSome, inl, inr, sym, ap, subst, ◌∙◌, arith}
+use Rattle.std.proofs.lemmas.Bool.{cases_eq}
+use Rattle.std.proofs.lemmas.Bool.Decides.{nat_tests}
+use Rattle.std.specs.Option.{option_map}
+use Rattle.std.specs.Ordering.{nat_cmp}
+use Rattle.std.specs.BTreeMap.{BTreeMap, get, WritesThrough}
+use Rattle.ui_machine.specs.Seq.{total}
+use Rattle.ui_machine.specs.State.Objects.{Object, living}
+use Rattle.ui_machine.specs.State.References.{same}
+use Rattle.ui_machine.specs.State.Config.{without}
+use Rattle.ui_machine.specs.Rules.Children.{with_child, with_parent, without_child}
+use Rattle.ui_machine.specs.Rules.Disposal.{children_of}
+use Rattle.instance_tables.specs.Family.{parent_in, KeepsKin}
+use Rattle.ui_machine.specs.declared.ids.ObjectId.{ObjectId}
+use Rattle.instance_tables.specs.Store.{Store}
+use Rattle.instance_tables.specs.View.{Lookup, held_in, lower_of, object_in, store_of, InRange, IsHeldOrGone, IsLowestUnheld, KinInRange, Replaces}
+use Rattle.instance_tables.specs.declared.instance.Instance.{Instance}
+use Rattle.instance_tables.proofs.Exact.{one_more, split}
+use Rattle.instance_tables.proofs.Lowest.{lowest_kept, lowest_let_go, lowest_same}
+use Rattle.instance_tables.proofs.Maps.{written}
+use Rattle.instance_tables.proofs.Shown.{found_in, given_out}
+
+-- what holds of all instances
+abbrev pub Well : Lookup → ℕ → Option ℕ → Type 0
+Well at made low = InRange at made × IsLowestUnheld (held_in at) low × KinInRange at made
+
+-- the children and the parent of one object were given
+abbrev pub KinGiven : ℕ → Option Object → Type 0
+KinGiven made o =
+    ((child : ℕ) → 0 < total (same child) (children_of o) → child ≤ made) × ((parent : ℕ) → parent_in o ≡ Some parent → parent ≤ made)
+
+module _ (at new : Lookup) (made id : ℕ) (was y : Instance) (here : at id ≡ Some was) (replaces : Replaces at new id (Some y)) where
+  still_range : InRange at made → InRange new made
+  still_range range q some =
+      elim (cases_eq q id) [
+        | inl is ↦ range q (ap is_some (ap at is ∙ here))
+        | inr ne ↦ range q (subst IsSome (replaces.others q ne) some)
+      ]
+
+  held_others : (q : ℕ) → q ≢ id → held_in new q ≡ held_in at q
+  held_others q ne = ap (option_map (λ (x : Instance). x.mentions)) (replaces.others q ne)
+
+  held_here : held_in new id ≡ Some y.mentions
+  held_here = ap (option_map (λ (x : Instance). x.mentions)) replaces.changed
+
+  held_was : held_in at id ≡ Some was.mentions
+  held_was = ap (option_map (λ (x : Instance). x.mentions)) here
+
+  more_held : 0 < y.mentions → held_in new id ≡ Some 0 → ⊥
+  more_held more e = let same : Some y.mentions ≡ Some 0 = sym held_here ∙ e in let zero : y.mentions ≡ 0 = cc in omega (arith, more, zero)
+
+  still_lowest : (low : Option ℕ) → IsLowestUnheld (held_in at) low → y.mentions ≡ was.mentions → IsLowestUnheld (held_in new) low
+  still_lowest low noted same =
+      lowest_same (held_in at) (held_in new) low
+      (λ q. elim (cases_eq q id) [
+        | inl is ↦ ap (held_in new) is ∙ held_here ∙ ap Some same ∙ sym held_was ∙ ap (held_in at) (sym is)
+        | inr ne ↦ held_others q ne
+      ]) noted
+
+  -- one that is held less often
+  less_lowest : (low t : Option ℕ) → IsLowestUnheld (held_in at) low → y.mentions ≤ was.mentions → (0 < y.mentions → t ≡ low)
+      → (y.mentions ≡ 0 → t ≡ Some (lower_of low id)) → IsLowestUnheld (held_in new) t
+  less_lowest low t noted less held unheld =
+      elim (cases_eq y.mentions 0) [
+        | inl zero ↦
+            subst (IsLowestUnheld (held_in new)) (sym (unheld zero))
+            (lowest_let_go (held_in at) (held_in new) low id held_others noted (held_here ∙ ap Some zero))
+        | inr ne ↦
+            let more : 0 < y.mentions = omega (arith, ne) in
+            subst (IsLowestUnheld (held_in new)) (sym (held more))
+            (lowest_kept (held_in at) (held_in new) low id held_others noted (more_held more)
+            (λ e.
+            let none : Some was.mentions ≡ Some 0 = sym held_was ∙ noted.unheld id e in
+            let zero : was.mentions ≡ 0 = cc in
+            omega (arith, more, less, zero)))
+      ]
+
+  still_kin : KinInRange at made → KinGiven made (Some y.object) → KinInRange new made
+  still_kin kin given = (children, parents)
+    where
+      there : (q : ℕ) → q ≡ id → object_in (new q) ≡ Some y.object
+      there q is = ap object_in (ap new is ∙ replaces.changed)
+
+      children : (q child : ℕ) → 0 < total (same child) (children_of (object_in (new q))) → child ≤ made
+      children q child some =
+          elim (cases_eq q id) [
+            | inl is ↦ given.0 child (subst (λ (o : Option Object). 0 < total (same child) (children_of o)) (there q is) some)
+            | inr ne ↦ kin.0 q child (subst (λ (o : Option Instance). 0 < total (same child) (children_of (object_in o))) (replaces.others q ne) some)
+          ]
+
+      parents : (q parent : ℕ) → parent_in (object_in (new q)) ≡ Some parent → parent ≤ made
+      parents q parent e =
+          elim (cases_eq q id) [
+            | inl is ↦ given.1 parent (ap parent_in (sym (there q is)) ∙ e)
+            | inr ne ↦ kin.1 q parent (ap (λ (o : Option Instance). parent_in (object_in o)) (sym (replaces.others q ne)) ∙ e)
+          ]
+
+-- an object of the look-up has its kin in range, and so has one that keeps its kin
+pub kin_kept : (at : Lookup) (made id : ℕ) (was : Instance) (o : Object) → KinInRange at made → at id ≡ Some was
+    → KeepsKin was.object o → KinGiven made (Some o)
+kin_kept at made id was o kin here keeps = (
+  λ child some.
+      let is : total (same child) o.children ≡ total (same child) (children_of (object_in (at id))) =
+      ap (total (same child)) keeps.children ∙ ap (λ (x : Option Instance). total (same child) (children_of (object_in x))) (sym here) in
+      kin.0 id child (omega (arith, is, some)),
+  λ parent e. kin.1 id parent (ap (λ (x : Option Instance). parent_in (object_in x)) here ∙ sym keeps.parent ∙ e),
+)
+
+-- one that stays has the kin that it had
+same_kin : (o p : Object) → p ≡ o → KeepsKin o p
+same_kin o p e = record { children = ap (λ (x : Object). x.children) e; parent = ap (λ (x : Object). x.parent) e }
+
+module _ (m n : BTreeMap ℕ Instance) (made : ℕ) (low : Option ℕ) (id : ℕ) (was y : Instance) (here : get nat_cmp m id ≡ Some was)
+    (h : WritesThrough nat_cmp (nat_cmp id) m y n) (well : Well (get nat_cmp m) made low) where
+  replaced_well : (t : Option ℕ) → KinGiven made (Some y.object) → IsLowestUnheld (held_in (get nat_cmp n)) t → Well (get nat_cmp n) made t
+  replaced_well t given noted =
+      let replaces = written m n id was y here h in (
+        still_range (get nat_cmp m) (get nat_cmp n) made id was y here replaces well.0,
+        noted,
+        still_kin (get nat_cmp m) (get nat_cmp n) made id was y here replaces well.2 given,
+      )
+
+  -- an object with other kin, as often held
+  pub kin_well : KinGiven made (Some y.object) → y.mentions ≡ was.mentions → Well (get nat_cmp n) made low
+  kin_well given same =
+      replaced_well low given
+      (still_lowest (get nat_cmp m) (get nat_cmp n) made id was y here (written m n id was y here h) low well.1 same)
+
+  -- another object with the same kin, as often held
+  pub same_well : KeepsKin was.object y.object → y.mentions ≡ was.mentions → Well (get nat_cmp n) made low
+  same_well keeps = kin_well (kin_kept (get nat_cmp m) made id was y.object well.2 here keeps)
+
+  same_object : y.object ≡ was.object → KinGiven made (Some y.object)
+  same_object same = kin_kept (get nat_cmp m) made id was y.object well.2 here (same_kin was.object y.object same)
+
+  -- the same object, held more often
+  pub held_well : (t : Option ℕ) → y.object ≡ was.object → 0 < y.mentions
+      → ((held : ℕ → Option ℕ) → IsLowestUnheld held low → IsHeldOrGone held (held_in (get nat_cmp n)) id
+      → IsLowestUnheld (held_in (get nat_cmp n)) t)
+      → Well (get nat_cmp n) made t
+  held_well t same more found =
+      let replaces = written m n id was y here h in
+      replaced_well t (same_object same)
+      (found (held_in (get nat_cmp m)) well.1 (record {
+        gone = more_held (get nat_cmp m) (get nat_cmp n) made id was y here replaces more;
+        others = held_others (get nat_cmp m) (get nat_cmp n) made id was y here replaces;
+      }))
+
+  -- the same object, held less often
+  pub less_well : (t : Option ℕ) → y.object ≡ was.object → y.mentions ≤ was.mentions → (0 < y.mentions → t ≡ low)
+      → (y.mentions ≡ 0 → t ≡ Some (lower_of low id)) → Well (get nat_cmp n) made t
+  less_well t same less held unheld =
+      replaced_well t (same_object same)
+      (less_lowest (get nat_cmp m) (get nat_cmp n) made id was y here (written m n id was y here h) low t well.1 less held unheld)
+
+-- one that is taken out
+module _ (at new : Lookup) (made : ℕ) (low : Option ℕ) (id : ℕ) (replaces : Replaces at new id None) (well : Well at made low) where
+  none_there : (q : ℕ) → q ≡ id → object_in (new q) ≡ None
+  none_there q is = ap object_in (ap new is ∙ replaces.changed)
+
+  gone_range : InRange new made
+  gone_range q some =
+      elim (cases_eq q id) [
+        | inl is ↦ let no : is_some (new q) ≡ false = ap is_some (ap new is ∙ replaces.changed) in absurd (cc)
+        | inr ne ↦ well.0 q (subst IsSome (replaces.others q ne) some)
+      ]
+
+  gone_kin : KinInRange new made
+  gone_kin = (
+    λ q child some.
+        elim (cases_eq q id) [
+          | inl is ↦
+              let no : total (same child) (children_of (object_in (new q))) ≡ 0 =
+              ap (λ (o : Option Object). total (same child) (children_of o)) (none_there q is) in
+              absurd (omega (arith, some, no))
+          | inr ne ↦ well.2.0 q child (subst (λ (o : Option Instance). 0 < total (same child) (children_of (object_in o))) (replaces.others q ne) some)
+        ],
+    λ q parent e.
+        elim (cases_eq q id) [
+          | inl is ↦ let no : parent_in (object_in (new q)) ≡ None = ap parent_in (none_there q is) in absurd (cc)
+          | inr ne ↦ well.2.1 q parent (ap (λ (o : Option Instance). parent_in (object_in o)) (sym (replaces.others q ne)) ∙ e)
+        ],
+  )
+
+  pub gone_well : (t : Option ℕ)
+      → ((held : ℕ → Option ℕ) → IsLowestUnheld held low → IsHeldOrGone held (held_in new) id → IsLowestUnheld (held_in new) t)
+      → Well new made t
+  gone_well t found = (
+    gone_range,
+    found (held_in at) well.1 (record {
+      gone = λ e.
+          let no : held_in new id ≡ None = ap (option_map (λ (x : Instance). x.mentions)) replaces.changed in
+          absurd (cc);
+      others = λ q ne. ap (option_map (λ (x : Instance). x.mentions)) (replaces.others q ne);
+    }),
+    gone_kin,
+  )
+
+-- ** other kin
+
+-- whoever stands in a list that is one longer stands in it or is the new one
+given_more : (made new : ℕ) (is : List ℕ) → ((i : ℕ) → 0 < total (same i) is → i ≤ made) → new ≤ made → (i : ℕ)
+    → 0 < total (same i) (is ++ new ∷ []) → i ≤ made
+given_more made new is given small i some = by (nat_eq new i) refl
+  where
+    by : (b : Bool) → nat_eq new i ≡ b → i ≤ made
+    by true e = let is_it : new ≡ i = grind (arith, nat_tests) in omega (arith, is_it, small)
+    by false e =
+        let none : same i new ≡ 0 = ap (λ b. cond b 1 0) e in
+        given i (omega (arith, some, one_more i new is, none))
+
+module _ (at : Lookup) (made id : ℕ) (kin : KinInRange at made) (was : Instance) (here : at id ≡ Some was) (o : Object) where
+  children_were : (child : ℕ) → 0 < total (same child) was.object.children → child ≤ made
+  children_were child some =
+      kin.0 id child (subst (λ (x : Option Instance). 0 < total (same child) (children_of (object_in x))) (sym here) some)
+
+  parent_was : (parent : ℕ) → was.object.parent ≡ Some parent → parent ≤ made
+  parent_was parent e = kin.1 id parent (ap (λ (x : Option Instance). parent_in (object_in x)) here ∙ e)
+
+  pub child_given : (child : ℕ) → o ≡ with_child child was.object → child ≤ made → KinGiven made (Some o)
+  child_given child is small = (
+    λ c some.
+        given_more made child was.object.children children_were small c
+        (subst (λ (x : Object). 0 < total (same c) x.children) is some),
+    λ p e. parent_was p (sym (ap (λ (x : Object). x.parent) is) ∙ e),
+  )
+
+  pub without_given : (child : ℕ) → o ≡ without_child child was.object → KinGiven made (Some o)
+  without_given child is = (
+    λ c some.
+        let left : 0 < total (same c) (without child was.object.children) = subst (λ (x : Object). 0 < total (same c) x.children) is some in
+        children_were c (omega (arith, left, split child c was.object.children)),
+    λ p e. parent_was p (sym (ap (λ (x : Object). x.parent) is) ∙ e),
+  )
+
+  pub parent_given : (parent : Option ℕ) → o ≡ with_parent parent was.object → ((p : ℕ) → parent ≡ Some p → p ≤ made)
+      → KinGiven made (Some o)
+  parent_given parent is small = (
+    λ c some. children_were c (subst (λ (x : Object). 0 < total (same c) x.children) is some),
+    λ p e. small p (sym (ap (λ (x : Object). x.parent) is) ∙ e),
+  )
+
+  -- one without children
+  pub childless_given : o.children ≡ [] → o.parent ≡ was.object.parent → KinGiven made (Some o)
+  childless_given none same_one = (
+    λ c some. let no : 0 < total (same c) [] = subst (λ (is : List ℕ). 0 < total (same c) is) none some in absurd (omega (arith, no)),
+    λ p e. parent_was p (sym same_one ∙ e),
+  )
+
+-- ** what is seen of it
+
+module _ (at : Lookup) (made limit : ℕ) (floats : List ObjectId) (old : Store) (range : InRange at made)
+    (is : store_of at made limit floats ≡ old) (kin : KinInRange at made) (id : ℕ) where
+  pub parent_made : (parent : ℕ) → parent_in (living old.objects id) ≡ Some parent → parent ≤ length old.objects
+  parent_made parent e =
+      let made_all : length old.objects ≡ made = given_out at made limit floats old is in
+      omega (arith, made_all, kin.1 id parent (ap parent_in (sym (found_in at made limit floats old range is id)) ∙ e))
+
+  pub children_made : (child : ℕ) → 0 < total (same child) (children_of (living old.objects id)) → child ≤ length old.objects
+  children_made child some =
+      let made_all : length old.objects ≡ made = given_out at made limit floats old is in
+      omega (
+        arith,
+        made_all,
+        kin.0 id child
+            (subst (λ (o : Option Object). 0 < total (same child) (children_of o)) (found_in at made limit floats old range is id) some),
+      )

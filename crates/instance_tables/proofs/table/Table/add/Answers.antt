@@ -1,0 +1,36 @@
+use Rattle.std.proofs.Common.{refl, sym, ap, ◌∙◌}
+use Rattle.std.specs.Option.{option_copied_mut}
+use Rattle.instance_tables.specs.declared.instance.Instance.{Instance}
+use Rattle.instance_tables.proofs.Shown.{absent_changed}
+use Rattle.instance_tables.proofs.Maps.{written_beside, written_follows, written_refused}
+use Rattle.instance_tables.proofs.Kin.{same_well}
+use Rattle.instance_tables.proofs.table.Table.add.Goals as goal
+
+pub returns-in_default-clause-changes : goal.returns-in_default-clause-changes
+returns-in_default-clause-changes c =
+    absent_changed _ _ c.self.inside.limit c.self.inside.floating.items _ c.self.invariant.0 c.self.view_is _ _
+    (sym c.get_mut.ensures.value ∙ ap option_copied_mut c.in_default.is)
+
+pub returns-clause-changes : goal.returns-clause-changes
+returns-clause-changes c =
+    let y : Instance = record { object = c.add.new.self; mentions = c.in-Some.instance.now.mentions } in
+    written_follows c.self.inside.instances (c.get_mut.follows.lender y) _ c.self.inside.limit c.self.inside.floating.items _ c.self.invariant.0 c.self.view_is _ _ y
+    (sym c.get_mut.ensures.value ∙ ap option_copied_mut c.in-Some.is) (c.get_mut.follows.holds y) _ _ c.add.result c.add.ensures.changes
+
+pub returns-clause-beside : goal.returns-clause-beside
+returns-clause-beside c =
+    let y : Instance = record { object = c.add.new.self; mentions = c.in-Some.instance.now.mentions } in
+    written_beside c.self.inside.instances (c.get_mut.follows.lender y) _ c.self.inside.limit c.self.inside.floating.items _ c.self.invariant.0 c.self.view_is _ _ y
+    (sym c.get_mut.ensures.value ∙ ap option_copied_mut c.in-Some.is) (c.get_mut.follows.holds y) refl
+
+pub returns-clause-refused : goal.returns-clause-refused
+returns-clause-refused c =
+    let y : Instance = record { object = c.add.new.self; mentions = c.in-Some.instance.now.mentions } in
+    written_refused c.self.inside.instances (c.get_mut.follows.lender y) _ c.self.inside.limit c.self.inside.floating.items _ c.self.invariant.0 c.self.view_is _ _ y
+    (sym c.get_mut.ensures.value ∙ ap option_copied_mut c.in-Some.is) (c.get_mut.follows.holds y) c.add.result c.add.ensures.refused refl
+
+pub invariant_of-self-2 : goal.invariant_of-self-2
+invariant_of-self-2 c =
+    let here = sym c.get_mut.ensures.value ∙ ap option_copied_mut c.in-Some.is in
+    let y : Instance = record { object = c.add.new.self; mentions = c.in-Some.instance.now.mentions } in
+    same_well c.self.inside.instances (c.get_mut.follows.lender y) _ _ _ _ y here (c.get_mut.follows.holds y) c.self.invariant c.add.ensures.kin refl

@@ -1,0 +1,34 @@
+use Rattle.std.proofs.Common.{ℕ, ◌+◌, refl, sym, ap, ◌∙◌, arith}
+use Rattle.std.specs.Option.{option_copied_mut}
+use Rattle.instance_tables.specs.Store.{id_of}
+use Rattle.instance_tables.specs.declared.instance.Instance.{Instance}
+use Rattle.instance_tables.proofs.Shown.{not_absent, count_is}
+use Rattle.instance_tables.proofs.Maps.{written_recounted}
+use Rattle.instance_tables.proofs.Kin.{held_well}
+use Rattle.instance_tables.proofs.table.Table.hold.Goals as goal
+
+pub returns-in_default : goal.returns-in_default
+returns-in_default c =
+    let none = sym c.get_mut.ensures.value ∙ ap option_copied_mut c.in_default.is in
+    absurd (not_absent _ _ c.self.inside.limit c.self.inside.floating.items _ c.self.invariant.0 c.self.view_is _ none c.requires.live)
+
+pub overflow_add-instance : goal.overflow_add-instance
+overflow_add-instance c =
+    let here = sym c.get_mut.ensures.value ∙ ap option_copied_mut c.in-Some.is in
+    let same = count_is _ _ c.self.inside.limit c.self.inside.floating.items _ c.self.invariant.0 c.self.view_is _ _ here in
+    omega (arith, same, c.requires.room)
+
+pub returns : goal.returns
+returns c =
+    let here = sym c.get_mut.ensures.value ∙ ap option_copied_mut c.in-Some.is in
+    let same = count_is _ _ c.self.inside.limit c.self.inside.floating.items _ c.self.invariant.0 c.self.view_is _ _ here in
+    let y : Instance = record { object = c.in-Some.instance.now.object; mentions = c.in-Some.instance.now.mentions + 1 } in
+    written_recounted c.self.inside.instances (c.get_mut.follows.lender y) _ c.self.inside.limit c.self.inside.floating.items _ c.self.invariant.0 c.self.view_is _ _ y
+    here (c.get_mut.follows.holds y) _ refl (ap (λ (k : ℕ). k + 1) (sym same))
+
+pub invariant_of-self-2 : goal.invariant_of-self-2
+invariant_of-self-2 c =
+    let here = sym c.get_mut.ensures.value ∙ ap option_copied_mut c.in-Some.is in
+    let y : Instance = record { object = c.in-Some.instance.now.object; mentions = c.in-Some.instance.now.mentions + 1 } in
+    held_well c.self.inside.instances (c.get_mut.follows.lender y) _ _ _ _ y here (c.get_mut.follows.holds y) c.self.invariant (id_of c.lowest_beside-self-inside.result) refl
+    (omega arith) c.lowest_beside-self-inside.ensures

@@ -1,0 +1,178 @@
+//! Parents and children, and what floats.
+
+ghost use Rattle.std.specs.Prelude.{◌≡◌, ℕ, is_some, ◌+◌, ◌-◌, ◌*◌, ◌^◌, ◌<◌, ◌≤◌, ◌++◌, ◌∷◌, [], IsSome, Some, None, length, nat_eq, slice_get, OnOk, OnErr};
+ghost use Rattle.std.specs.List.{list_any};
+ghost use Rattle.ui_machine.specs.Seq.{total};
+ghost use Rattle.ui_machine.specs.State.Config.{without};
+ghost use Rattle.ui_machine.specs.State.Objects.{living};
+ghost use Rattle.ui_machine.specs.State.References.{same};
+ghost use Rattle.ui_machine.specs.Rules.Children.{updated, with_child, with_parent, without_child};
+ghost use Rattle.ui_machine.specs.Rules.Disposal.{children_of};
+ghost use Rattle.instance_tables.specs.Store.{id_of, count_of, with_count, with_objects, so_often};
+ghost use Rattle.instance_tables.specs.Family.{refusal_in, parent_in, Adopts, Leaves, Sinks};
+
+use crate::error::AdoptError;
+use crate::ids::{is_among, remove_id};
+use crate::table::Table;
+use std::alloc::AllocError;
+use ui_machine::ObjectId;
+
+impl Table {
+    /// An object becomes another's child: the parent holds it, and it no longer floats. An error leaves all as it was.
+    pub fn adopt(&mut self, parent: ObjectId, child: ObjectId) -> Result<(), AdoptError>
+        requires room { count_of self.old.counts child.0 < 2 ^ 128 - 1 }
+        ensures { Adopts result parent.0 child.0 self.old self.new }
+    {
+        if let Some(refusal) = self.refusal(parent, child) {
+            return Err(refusal);
+        }
+        let Ok(()) = self.hold_child(parent, child) else {
+            return Err(AdoptError::OutOfMemory);
+        };
+        self.give_parent(child, Some(parent));
+        self.sink(child);
+        Ok(())
+    }
+
+    /// Why an object may not become another's child, if it may not.
+    pub fn refusal(&self, parent: ObjectId, child: ObjectId) -> Option<AdoptError>
+        ensures { result ≡ refusal_in self.now parent.0 child.0 }
+    {
+        let Some(above) = self.instances.get(&parent.0) else {
+            return Some(AdoptError::NotLiving);
+        };
+        let Some(below) = self.instances.get(&child.0) else {
+            return Some(AdoptError::NotLiving);
+        };
+        if below.object.parent().is_some() {
+            return Some(AdoptError::HasParent);
+        }
+        if parent.0 == child.0 {
+            return Some(AdoptError::HasParent);
+        }
+        if above.object.is_full() {
+            return Some(AdoptError::ChildLimit);
+        }
+        None
+    }
+
+    /// The parent of an object, if it has one.
+    pub fn parent_of(&self, id: ObjectId) -> Option<ObjectId>
+        ensures parent { id_of result ≡ parent_in (living self.now.objects id.0) }
+        ensures given { (parent : ℕ) → parent_in (living self.now.objects id.0) ≡ Some parent → parent ≤ length self.now.objects }
+    {
+        let Some(instance) = self.instances.get(&id.0) else {
+            return None;
+        };
+        instance.object.parent()
+    }
+
+    /// Takes an object out of its parent's children, and lets it go so. It answers whether the object had a parent.
+    pub fn orphan(&mut self, child: ObjectId) -> bool
+        ensures had { result ≡ is_some (parent_in (living self.old.objects child.0)) }
+        ensures alone { parent_in (living self.old.objects child.0) ≡ None → self.new ≡ self.old }
+        ensures leaves { (parent : ℕ) → parent_in (living self.old.objects child.0) ≡ Some parent → Leaves parent child.0 self.old self.new }
+    {
+        let Some(parent) = self.parent_of(child) else {
+            return false;
+        };
+        let gone = self.remove_child(parent, child);
+        self.give_parent(child, None);
+        self.release(child, gone as u128);
+        true
+    }
+
+    // One object more is among the children of the other, which holds it.
+    fn hold_child(&mut self, parent: ObjectId, child: ObjectId) -> Result<(), AllocError>
+        requires live { IsSome (living self.old.objects child.0) }
+        requires room { count_of self.old.counts child.0 < 2 ^ 128 - 1 }
+        ensures ok { OnOk result (self.new ≡ with_count (with_objects self.old (updated (with_child child.0) parent.0 self.old.objects)) child.0 (count_of self.old.counts child.0 + 1)) }
+        ensures err { OnErr result (self.new ≡ self.old) }
+    {
+        self.add_child(parent, child)?;
+        self.hold(child);
+        Ok(())
+    }
+
+    // Adds a child to an object.
+    fn add_child(&mut self, parent: ObjectId, child: ObjectId) -> Result<(), AllocError>
+        requires given { child.0 ≤ length self.old.objects }
+        ensures ok { OnOk result (self.new ≡ with_objects self.old (updated (with_child child.0) parent.0 self.old.objects)) }
+        ensures live { OnOk result (IsSome (living self.old.objects parent.0)) }
+        ensures err { OnErr result (self.new ≡ self.old) }
+    {
+        let Some(instance) = self.instances.get_mut(&parent.0) else {
+            return Err(AllocError);
+        };
+        instance.object.add_child(child)?;
+        Ok(())
+    }
+
+    // Takes a child out of an object's, and answers how often it was there.
+    fn remove_child(&mut self, parent: ObjectId, child: ObjectId) -> usize
+        requires given { parent.0 ≤ length self.old.objects }
+        ensures objects { self.new.objects ≡ updated (without_child child.0) parent.0 self.old.objects }
+        ensures count { result ≡ total (same child.0) (children_of (living self.old.objects parent.0)) }
+        ensures beside { self.new ≡ with_objects self.old self.new.objects }
+    {
+        let Some(instance) = self.instances.get_mut(&parent.0) else {
+            return 0;
+        };
+        instance.object.remove_child(child)
+    }
+
+    // Gives an object a parent, or none.
+    pub(crate) fn give_parent(&mut self, id: ObjectId, parent: Option<ObjectId>)
+        requires given { id.0 ≤ length self.old.objects }
+        requires kin { (p : ℕ) → id_of parent ≡ Some p → p ≤ length self.old.objects }
+        ensures objects { self.new.objects ≡ updated (with_parent (id_of parent)) id.0 self.old.objects }
+        ensures beside { self.new ≡ with_objects self.old self.new.objects }
+    {
+        let Some(instance) = self.instances.get_mut(&id.0) else {
+            return;
+        };
+        instance.object.give_parent(parent);
+    }
+
+    /// An object no longer floats, and is held so much less.
+    pub fn sink(&mut self, id: ObjectId)
+        ensures { Sinks id.0 self.old self.new }
+    {
+        let gone = self.remove_floating(id);
+        self.release(id, gone as u128);
+    }
+
+    // Takes an object out of what floats, and answers how often it was there.
+    fn remove_floating(&mut self, id: ObjectId) -> usize
+        ensures floating { self.new ≡ record self.old { floating = without id.0 self.old.floating } }
+        ensures count { result ≡ total (same id.0) self.old.floating }
+    {
+        remove_id(&mut self.floating, id)
+    }
+
+    /// Whether an object floats.
+    pub fn is_floating(&self, id: ObjectId) -> bool
+        ensures { result ≡ list_any (λ i. nat_eq i id.0) self.now.floating }
+    {
+        is_among(&self.floating, id)
+    }
+
+    /// The one that has floated longest, if something floats.
+    pub fn first_floating(&self) -> Option<ObjectId>
+        ensures { id_of result ≡ slice_get self.now.floating 0 }
+    {
+        self.floating.first().copied()
+    }
+
+    /// An object begins floating, and is held so once more. An error leaves all as it was.
+    pub fn float(&mut self, id: ObjectId) -> Result<(), AllocError>
+        requires live { IsSome (living self.old.objects id.0) }
+        requires room { count_of self.old.counts id.0 < 2 ^ 128 - 1 }
+        ensures ok { OnOk result (self.new ≡ with_count (record self.old { floating = self.old.floating ++ id.0 ∷ [] }) id.0 (count_of self.old.counts id.0 + 1)) }
+        ensures err { OnErr result (self.new ≡ self.old) }
+    {
+        self.floating.push(id)?;
+        self.hold(id);
+        Ok(())
+    }
+}

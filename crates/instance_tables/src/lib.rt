@@ -1,0 +1,32 @@
+//! The objects that live, and how often each is mentioned.
+//!
+//! Each object has an identity, which rises from 1 and is given once. Beside it stands how often something holds it (GObject
+//! manual, `g_object_ref`); what nothing holds any more is to be finalised, the lowest identity first. An object that is disposed
+//! lets go of what it held and lives on; one that is finalised is disposed and taken out. A contract sees the machine's objects, a
+//! list of counts, how many objects may live, and what floats. The laws say that counts which are exact stay so.
+#![tactic(auto)]
+
+mod bounds;
+mod error;
+mod family;
+mod ids;
+mod instance;
+mod laws;
+mod mentions;
+mod object;
+mod object_values;
+mod release;
+mod table;
+mod unheld;
+mod weak;
+
+pub use error::{AdoptError, CreateError};
+pub use laws::{
+    counted_finds, counts_find, create_counts, dispose_counts, disposing_moves, finalise_counts,
+    finalising_moves, float_counts, forget_counts, held_lives, hold_counts, join_counts,
+    leave_counts, let_go_counts, made_holds_nothing, marks_known, none_counts, sink_counts,
+    write_counts, writing_moves,
+};
+pub use object::Object;
+pub use table::Table;
+pub use weak::WeakSlots;

@@ -1,0 +1,99 @@
+//! Properties that are written, and the mentions that move with them.
+
+ghost use Rattle.std.specs.Prelude.{◌≡◌, ℕ, ◌+◌, ◌-◌, cond, true, false, Ok, Err};
+ghost use Rattle.ui_machine.specs.Definition.Values as values;
+ghost use Rattle.ui_machine.specs.declared.arm.Arm as arms;
+ghost use Rattle.ui_machine.specs.Outcome.{Gives};
+ghost use Rattle.ui_machine.specs.State.Objects.{asked, changed, living, value_at, with_value};
+ghost use Rattle.ui_machine.specs.State.References.{in_option, in_value};
+ghost use Rattle.g_values.specs.View.{value_view};
+ghost use Rattle.instance_tables.specs.Store.{id_of, count_of, may_hold_any, named_by};
+ghost use Rattle.instance_tables.specs.Weak.{strong_in};
+
+use crate::object_values::named;
+use crate::table::Table;
+use crate::weak::WeakSlots;
+use g_values::Value;
+use ui_machine::{Arm, ObjectId, Slot};
+
+impl Table {
+    /// Writes a property, and answers what it was. Where the property is strong, the old value's object is let go, and the new
+    /// one's is held, if it lives and may be held once more. An error leaves all as it was.
+    pub fn write(
+        &mut self,
+        weak: &WeakSlots,
+        id: ObjectId,
+        slot: Slot,
+        value: Value,
+    ) -> Result<Value, Arm>
+        ensures changes { Gives value_view result (changed self.old.objects id.0 (with_value slot (value_view value))) self.new.objects }
+        ensures beside { self.new ≡ record self.old { objects = self.new.objects; counts = self.new.counts } }
+        ensures refused { (arm : arms.Arm) → asked self.old.objects id.0 (value_at slot) ≡ Err arm → self.new ≡ self.old }
+        ensures moves { (was : values.Value) → asked self.old.objects id.0 (value_at slot) ≡ Ok was
+            → may_hold_any self.old (named_by (value_view value)) ≡ true
+            → let strong = strong_in weak.now slot (living self.old.objects id.0) in
+            (o : ℕ) → count_of self.new.counts o
+            ≡ count_of self.old.counts o + cond strong (in_value o (value_view value)) 0 - cond strong (in_value o was) 0 }
+        ensures lets_go { (was : values.Value) → asked self.old.objects id.0 (value_at slot) ≡ Ok was
+            → may_hold_any self.old (named_by (value_view value)) ≡ false
+            → let strong = strong_in weak.now slot (living self.old.objects id.0) in
+            (o : ℕ) → count_of self.new.counts o ≡ count_of self.old.counts o - cond strong (in_value o was) 0 }
+    {
+        let was = named(self.read(id, slot)?);
+        let is_strong = self.is_strong(weak, id, slot);
+        self.move_mention(is_strong, was, named(&value));
+        self.replace(id, slot, value)
+    }
+
+    // Whether a slot of an object is strong.
+    fn is_strong(&self, weak: &WeakSlots, id: ObjectId, slot: Slot) -> bool
+        ensures { result ≡ strong_in weak.now slot (living self.now.objects id.0) }
+    {
+        let Some(instance) = self.instances.get(&id.0) else {
+            return false;
+        };
+        weak.is_strong(instance.object.class(), slot)
+    }
+
+    // A mention moves from one object to another, if it counts.
+    fn move_mention(&mut self, counts: bool, from: Option<ObjectId>, to: Option<ObjectId>)
+        ensures moves { may_hold_any self.old (id_of to) ≡ true → (o : ℕ) → count_of self.new.counts o
+            ≡ count_of self.old.counts o + cond counts (in_option o (id_of to)) 0 - cond counts (in_option o (id_of from)) 0 }
+        ensures lets_go { may_hold_any self.old (id_of to) ≡ false → (o : ℕ) → count_of self.new.counts o
+            ≡ count_of self.old.counts o - cond counts (in_option o (id_of from)) 0 }
+        ensures beside { self.new ≡ record self.old { counts = self.new.counts } }
+    {
+        if !counts {
+            return;
+        }
+        self.hold_any(to);
+        self.release_any(from);
+    }
+
+    // Holds an object, if there is one, once more, unless it is held as often as may be.
+    fn hold_any(&mut self, id: Option<ObjectId>)
+        ensures counts { may_hold_any self.old (id_of id) ≡ true
+            → (o : ℕ) → count_of self.new.counts o ≡ count_of self.old.counts o + in_option o (id_of id) }
+        ensures unheld { may_hold_any self.old (id_of id) ≡ false → self.new ≡ self.old }
+        ensures beside { self.new ≡ record self.old { counts = self.new.counts } }
+    {
+        let Some(id) = id else {
+            return;
+        };
+        if !self.can_hold(id) {
+            return;
+        }
+        self.hold(id);
+    }
+
+    // Holds an object, if there is one, once less.
+    pub(crate) fn release_any(&mut self, id: Option<ObjectId>)
+        ensures counts { (o : ℕ) → count_of self.new.counts o ≡ count_of self.old.counts o - in_option o (id_of id) }
+        ensures beside { self.new ≡ record self.old { counts = self.new.counts } }
+    {
+        let Some(id) = id else {
+            return;
+        };
+        self.release(id, 1);
+    }
+}

@@ -1,0 +1,135 @@
+//! What an object lets go of as it is disposed and finalised, and what forgets it.
+
+ghost use Rattle.std.specs.Prelude.{◌≡◌, ℕ, ◌-◌, ◌<◌, ◌≤◌, None, cond, length, IsSome};
+ghost use Rattle.ui_machine.specs.Definition as machine;
+ghost use Rattle.ui_machine.specs.Seq.{total};
+ghost use Rattle.ui_machine.specs.State.Objects.{living, put};
+ghost use Rattle.ui_machine.specs.State.References.{in_option, same};
+ghost use Rattle.ui_machine.specs.Rules.Children.{updated};
+ghost use Rattle.ui_machine.specs.Rules.Disposal.{all_forget, children_of, orphans};
+ghost use Rattle.instance_tables.specs.Store.{count_of, id_of, ids_of, with_objects};
+ghost use Rattle.instance_tables.specs.Weak.{Knows};
+ghost use Rattle.instance_tables.specs.Release.{emptied, in_strong, marks_in, name_at, values_in, Disposes, Finalises};
+
+use crate::table::Table;
+use crate::unheld::lowest_beside;
+use crate::weak::WeakSlots;
+use ui_machine::ObjectId;
+
+impl Table {
+    /// Each weak property that names the object becomes null. Where no property is weak it looks through none.
+    pub fn forget(&mut self, weak: &WeakSlots, id: ObjectId)
+        ensures { (d : machine.Definition) → Knows d weak.now → self.new ≡ with_objects self.old (all_forget d id.0 self.old.objects) }
+    {
+        if !weak.has_weak() {
+            return;
+        }
+        self.instances
+            .retain(|_id, instance| instance.forget(weak, id));
+    }
+
+    /// Disposes an object, again if it was. Each weak property that names it becomes null, and so do its own strong properties of
+    /// an object kind. It has no children any more, and they have no parent. What it held is held so much less. It takes no
+    /// memory, and the object still lives.
+    pub fn dispose(&mut self, weak: &WeakSlots, id: ObjectId)
+        requires live { IsSome (living self.old.objects id.0) }
+        ensures disposes { (d : machine.Definition) → Knows d weak.now → Disposes d id.0 self.old self.new }
+        ensures made { length self.new.objects ≡ length self.old.objects }
+    {
+        self.forget(weak, id);
+        self.release_values(weak, id);
+        let children = self.empty(weak, id);
+        self.orphan_all(&children);
+    }
+
+    // What the object's strong values name is held so much less.
+    fn release_values(&mut self, weak: &WeakSlots, id: ObjectId)
+        ensures counts { let o = living self.old.objects id.0 in (i : ℕ) → count_of self.new.counts i
+            ≡ count_of self.old.counts i - in_strong i (marks_in weak.now o) (values_in o) }
+        ensures beside { self.new ≡ record self.old { counts = self.new.counts } }
+    {
+        let Some(instance) = self.instances.get(&id.0) else {
+            return;
+        };
+        let slots = weak.of(instance.object.class());
+        for (slot, is_weak) in slots.iter().enumerate() {
+            self.release_slot(id, slot, *is_weak);
+        }
+    }
+
+    // What the value of a slot names is held once less, unless it is weak.
+    fn release_slot(&mut self, id: ObjectId, slot: usize, is_weak: bool)
+        ensures counts { (i : ℕ) → count_of self.new.counts i
+            ≡ count_of self.old.counts i - cond is_weak 0 (in_option i (name_at slot (living self.old.objects id.0))) }
+        ensures beside { self.new ≡ record self.old { counts = self.new.counts } }
+    {
+        if is_weak {
+            return;
+        }
+        let named = self.named_at(id, slot);
+        self.release_any(named);
+    }
+
+    // The object that the value of a slot names.
+    fn named_at(&self, id: ObjectId, slot: usize) -> Option<ObjectId>
+        ensures { id_of result ≡ name_at slot (living self.now.objects id.0) }
+    {
+        let Some(instance) = self.instances.get(&id.0) else {
+            return None;
+        };
+        instance.object.named_at(slot)
+    }
+
+    // The object's strong values of an object kind become null, it has no children any more, and it is disposed. It answers
+    // what its children were.
+    fn empty(&mut self, weak: &WeakSlots, id: ObjectId) -> Vec<ObjectId>
+        requires live { IsSome (living self.old.objects id.0) }
+        ensures objects { self.new.objects ≡ updated (emptied weak.now) id.0 self.old.objects }
+        ensures beside { self.new ≡ with_objects self.old self.new.objects }
+        ensures children { ids_of result.items ≡ children_of (living self.old.objects id.0) }
+        ensures given { (child : ℕ) → 0 < total (same child) (ids_of result.items) → child ≤ length self.new.objects }
+        ensures made { length self.new.objects ≡ length self.old.objects }
+    {
+        let alloc = self.alloc;
+        let Some(instance) = self.instances.get_mut(&id.0) else {
+            return Vec::new(alloc);
+        };
+        instance.object.dispose(alloc, weak)
+    }
+
+    // These have no parent any more, and each is held once less.
+    fn orphan_all(&mut self, children: &[ObjectId])
+        requires given { (child : ℕ) → 0 < total (same child) (ids_of children.now) → child ≤ length self.old.objects }
+        ensures objects { self.new.objects ≡ orphans (ids_of children.now) self.old.objects }
+        ensures counts { (i : ℕ) → count_of self.new.counts i ≡ count_of self.old.counts i - total (same i) (ids_of children.now) }
+        ensures beside { self.new ≡ record self.old { objects = self.new.objects; counts = self.new.counts } }
+        ensures made { length self.new.objects ≡ length self.old.objects }
+    {
+        for child in children {
+            self.give_parent(*child, None);
+            self.release(*child, 1);
+        }
+    }
+
+    /// Finalises an object that nothing holds: it is disposed, again if it was, and taken out. Its identity is not given again. It
+    /// takes no memory.
+    pub fn finalise(&mut self, weak: &WeakSlots, id: ObjectId)
+        requires live { IsSome (living self.old.objects id.0) }
+        requires unheld { count_of self.old.counts id.0 ≡ 0 }
+        ensures finalises { (d : machine.Definition) → Knows d weak.now → Finalises d id.0 self.old self.new }
+        ensures made { length self.new.objects ≡ length self.old.objects }
+    {
+        self.dispose(weak, id);
+        self.take_out(id);
+    }
+
+    // Takes an object out that nothing holds.
+    fn take_out(&mut self, id: ObjectId)
+        requires live { IsSome (living self.old.objects id.0) }
+        requires unheld { count_of self.old.counts id.0 ≡ 0 }
+        ensures { self.new ≡ with_objects self.old (put self.old.objects id.0 None) }
+    {
+        self.instances.remove(&id.0);
+        self.unheld = lowest_beside(&self.instances, self.unheld, id);
+    }
+}

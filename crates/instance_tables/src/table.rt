@@ -1,0 +1,278 @@
+//! The objects by their identities.
+
+ghost use Rattle.std.specs.Prelude.{◌≡◌, ℕ, ◌+◌, ◌-◌, ◌<◌, ◌≤◌, ◌^◌, [], IfSome, IsSome, is_some, None, Ok, map, reverse, OnOk, OnErr};
+ghost use Rattle.ui_machine.specs.State.Objects.{asked, changed, living, value_at, with_value};
+ghost use Rattle.ui_machine.specs.State.References.{next_unheld};
+ghost use Rattle.ui_machine.specs.Rules.NotifyQueue.{raised, frozen_more, frozen_less};
+ghost use Rattle.ui_machine.specs.Rules.Sets.{is_disposed};
+ghost use Rattle.ui_machine.specs.Rules.Disposal.{peer_of};
+ghost use Rattle.ui_machine.specs.Outcome.{Gives, Follows};
+ghost use Rattle.g_values.specs.View.{value_view};
+ghost use Rattle.ui_machine.specs.declared.ids.ObjectId.{ObjectId};
+ghost use Rattle.ui_machine.specs.declared.ids.Place.{Place};
+ghost use Rattle.instance_tables.specs.Store.{Shows, count_of, id_of, with_count, with_objects, has_room, may_hold, so_often, Creates};
+
+use crate::error::CreateError;
+use crate::instance::Instance;
+use crate::object::Object;
+use crate::unheld::{lower, lowest_beside, lowest_with};
+use g_values::Value;
+use std::alloc::Global;
+use std::collections::BTreeMap;
+use std::marker::Model;
+use type_tree::TypeId;
+use ui_machine::{Arm, Halt, ObjectId, Place, Slot};
+
+/// The objects that live, and how often each is held.
+#[derive(Drop)]
+pub struct Table {
+    pub(crate) instances: BTreeMap<u64, Instance>,
+    made: u64,
+    limit: u32,
+    pub(crate) floating: Vec<ObjectId>,
+    // The lowest one that nothing holds.
+    pub(crate) unheld: Option<ObjectId>,
+    pub(crate) alloc: Global,
+}
+
+impl Model for Table {
+    ghost use Rattle.instance_tables.specs.Store.{Store};
+
+    ghost Value = { Store };
+
+    ghost use Rattle.std.specs.Ordering.{nat_cmp};
+    ghost use Rattle.std.specs.BTreeMap.{get};
+    ghost use Rattle.instance_tables.specs.Store.{id_of};
+    ghost use Rattle.instance_tables.specs.View.{store_of, held_in, InRange, IsLowestUnheld, KinInRange};
+
+    ghost view = { λ t. store_of (get nat_cmp t.instances) t.made t.limit t.floating.items };
+
+    ghost invariant = { λ t. InRange (get nat_cmp t.instances) t.made
+        × IsLowestUnheld (held_in (get nat_cmp t.instances)) (id_of t.unheld)
+        × KinInRange (get nat_cmp t.instances) t.made };
+}
+
+impl Table {
+    /// No objects, and how many may live. It takes no memory.
+    pub fn new(alloc: Global, limit: u32) -> Self
+        ensures { result ≡ record { objects = []; counts = []; limit = limit; floating = [] } }
+    {
+        Table {
+            instances: BTreeMap::new(alloc),
+            made: 0,
+            limit,
+            floating: Vec::new(alloc),
+            unheld: None,
+            alloc,
+        }
+    }
+
+    /// Whether there is room for one object more beside so many that are still to come: they count in number and in identities.
+    pub fn has_room(&self, to_come: u32) -> bool
+        ensures { result ≡ has_room to_come self.now }
+    {
+        self.has_room_below(self.limit, to_come)
+    }
+
+    /// The same where so many may live.
+    pub fn has_room_below(&self, most: u32, to_come: u32) -> bool
+        ensures { result ≡ has_room to_come (record self.now { limit = most }) }
+    {
+        let Some(limit) = most.checked_sub(to_come) else {
+            return false;
+        };
+        if self.instances.len() >= limit as usize {
+            return false;
+        }
+        u64::from(to_come) < u64::MAX - self.made
+    }
+
+    /// One more object, which nothing holds yet, under the next identity. It has neither children nor a parent.
+    pub fn create(&mut self, object: Object) -> Result<ObjectId, CreateError>
+        requires childless { object.children ≡ [] }
+        requires parentless { object.parent ≡ None }
+        ensures { Creates result object self.old self.new }
+    {
+        if self.instances.len() >= self.limit as usize {
+            return Err(CreateError::ObjectLimit);
+        }
+        let Some(id) = self.made.checked_add(1) else {
+            return Err(CreateError::ObjectLimit);
+        };
+        let instance = Instance {
+            object,
+            mentions: 0,
+        };
+        let Ok(_old) = self.instances.insert(id, instance) else {
+            return Err(CreateError::OutOfMemory);
+        };
+        self.made = id;
+        self.unheld = Some(lower(self.unheld, ObjectId(id)));
+        Ok(ObjectId(id))
+    }
+
+    /// Whether the object lives. What does not is not held.
+    pub fn is_live(&self, id: ObjectId) -> bool
+        ensures dead { (o : ℕ) → living self.now.objects o ≡ None → count_of self.now.counts o ≡ 0 }
+        ensures live { result ≡ is_some (living self.now.objects id.0) }
+    {
+        self.instances.contains_key(&id.0)
+    }
+
+    /// The class of an object.
+    pub fn class_of(&self, id: ObjectId) -> Result<TypeId, Arm>
+        ensures { Shows (λ class. class) result (asked self.now.objects id.0 (λ o. Ok o.class)) }
+    {
+        let Some(instance) = self.instances.get(&id.0) else {
+            return Err(Arm::Operand);
+        };
+        Ok(instance.object.class())
+    }
+
+    /// The place of an object.
+    pub fn place_of(&self, id: ObjectId) -> Result<Place, Arm>
+        ensures { Shows (λ (place : Place). place.0) result (asked self.now.objects id.0 (λ o. Ok o.place)) }
+    {
+        let Some(instance) = self.instances.get(&id.0) else {
+            return Err(Arm::Operand);
+        };
+        Ok(instance.object.place())
+    }
+
+    /// Whether an object lives and was disposed.
+    pub fn is_disposed(&self, id: ObjectId) -> bool
+        ensures { result ≡ is_disposed (living self.now.objects id.0) }
+    {
+        let Some(instance) = self.instances.get(&id.0) else {
+            return false;
+        };
+        instance.object.is_disposed()
+    }
+
+    /// The number of the peer of an object, if it lives and has one.
+    pub fn peer_of(&self, id: ObjectId) -> Option<usize>
+        ensures { result ≡ peer_of (living self.now.objects id.0) }
+    {
+        let Some(instance) = self.instances.get(&id.0) else {
+            return None;
+        };
+        instance.object.peer()
+    }
+
+    /// The value of a property.
+    pub fn read(&self, id: ObjectId, slot: Slot) -> Result<&Value, Arm>
+        ensures { Shows (λ v. value_view v.now) result (asked self.now.objects id.0 (value_at slot)) }
+    {
+        let Some(instance) = self.instances.get(&id.0) else {
+            return Err(Arm::Operand);
+        };
+        instance.object.read(slot)
+    }
+
+    // Writes a property, and answers what it was. Who holds what is the caller's to count.
+    pub(crate) fn replace(&mut self, id: ObjectId, slot: Slot, value: Value) -> Result<Value, Arm>
+        ensures changes { Gives value_view result (changed self.old.objects id.0 (with_value slot (value_view value))) self.new.objects }
+        ensures beside { self.new ≡ with_objects self.old self.new.objects }
+        ensures refused { OnErr result (self.new ≡ self.old) }
+    {
+        let Some(instance) = self.instances.get_mut(&id.0) else {
+            return Err(Arm::Operand);
+        };
+        instance.object.write(slot, value)
+    }
+
+    /// Adds one freeze to an object.
+    pub fn freeze(&mut self, id: ObjectId) -> Result<(), Arm>
+        ensures changes { Gives (λ _. tt) result (changed self.old.objects id.0 frozen_more) self.new.objects }
+        ensures beside { self.new ≡ with_objects self.old self.new.objects }
+        ensures refused { OnErr result (self.new ≡ self.old) }
+    {
+        let Some(instance) = self.instances.get_mut(&id.0) else {
+            return Err(Arm::Operand);
+        };
+        instance.object.freeze()
+    }
+
+    /// Takes one freeze off an object, and answers the notifications that are then made, the last first.
+    pub fn thaw(&mut self, id: ObjectId) -> Result<Vec<Slot>, Arm>
+        ensures changes { Gives (λ slots. reverse slots.items) result (changed self.old.objects id.0 frozen_less) self.new.objects }
+        ensures beside { self.new ≡ with_objects self.old self.new.objects }
+        ensures refused { OnErr result (self.new ≡ self.old) }
+    {
+        let alloc = self.alloc;
+        let Some(instance) = self.instances.get_mut(&id.0) else {
+            return Err(Arm::Operand);
+        };
+        instance.object.thaw(alloc)
+    }
+
+    /// Queues a notification while the object is frozen, and else answers that it is to be made at once.
+    pub fn add(&mut self, id: ObjectId, slot: Slot) -> Result<bool, Halt>
+        ensures changes { Follows (λ now. now) result (changed self.old.objects id.0 (raised slot)) self.new.objects }
+        ensures beside { self.new ≡ with_objects self.old self.new.objects }
+        ensures refused { OnErr result (self.new ≡ self.old) }
+    {
+        let Some(instance) = self.instances.get_mut(&id.0) else {
+            return Err(Halt::Stuck(Arm::Operand));
+        };
+        instance.object.add(slot)
+    }
+
+    /// Whether an object lives and may be held once more.
+    pub fn can_hold(&self, id: ObjectId) -> bool
+        ensures { result ≡ may_hold self.now id.0 }
+    {
+        let Some(instance) = self.instances.get(&id.0) else {
+            return false;
+        };
+        instance.mentions < u128::MAX
+    }
+
+    // Holds an object so many times less, or not at all any more.
+    pub(crate) fn release(&mut self, id: ObjectId, times: u128)
+        ensures counts { (o : ℕ) → count_of self.new.counts o ≡ count_of self.old.counts o - so_often times id.0 o }
+        ensures beside { self.new ≡ record self.old { counts = self.new.counts } }
+    {
+        let Some(instance) = self.instances.get_mut(&id.0) else {
+            return;
+        };
+        instance.mentions = instance.mentions.saturating_sub(times);
+        self.unheld = lowest_with(self.unheld, id, instance.mentions);
+    }
+
+    /// Holds an object once more.
+    pub fn hold(&mut self, id: ObjectId)
+        requires live { IsSome (living self.old.objects id.0) }
+        requires room { count_of self.old.counts id.0 < 2 ^ 128 - 1 }
+        ensures { self.new ≡ with_count self.old id.0 (count_of self.old.counts id.0 + 1) }
+    {
+        let Some(instance) = self.instances.get_mut(&id.0) else {
+            return;
+        };
+        instance.mentions += 1;
+        self.unheld = lowest_beside(&self.instances, self.unheld, id);
+    }
+
+    /// Holds an object once less.
+    pub fn let_go(&mut self, id: ObjectId)
+        requires held { 0 < count_of self.old.counts id.0 }
+        ensures { self.new ≡ with_count self.old id.0 (count_of self.old.counts id.0 - 1) }
+    {
+        let Some(instance) = self.instances.get_mut(&id.0) else {
+            return;
+        };
+        instance.mentions -= 1;
+        self.unheld = lowest_with(self.unheld, id, instance.mentions);
+    }
+
+    /// The lowest identity of an object that nothing holds. It looks at no object: which one it is was noted as objects were made, held, let
+    /// go and taken out. What does not live is not held.
+    pub fn next_unheld(&self) -> Option<ObjectId>
+        ensures found { id_of result ≡ next_unheld (count_of self.now.counts) self.now.objects }
+        ensures dead { (o : ℕ) → living self.now.objects o ≡ None → count_of self.now.counts o ≡ 0 }
+        ensures live { IfSome result (λ id. IsSome (living self.now.objects id.0)) }
+        ensures unheld { IfSome result (λ id. count_of self.now.counts id.0 ≡ 0) }
+    {
+        self.unheld
+    }
+}

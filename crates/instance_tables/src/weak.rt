@@ -1,0 +1,90 @@
+//! Which properties are weak.
+
+ghost use Rattle.std.specs.Prelude.{◌≡◌, ◌++◌, ◌∷◌, [], OnOk, OnErr};
+ghost use Rattle.std.specs.List.{list_any};
+ghost use Rattle.ui_machine.specs.Seq.{read};
+ghost use Rattle.instance_tables.specs.Weak.{has_weak, is_strong};
+
+use std::alloc::{AllocError, Global};
+use std::marker::Model;
+use type_tree::TypeId;
+use ui_machine::Slot;
+
+/// For each class, which of its slots are weak: such a property does not hold its object.
+#[derive(Drop)]
+pub struct WeakSlots {
+    classes: Vec<Vec<bool>>,
+    has_weak: bool,
+}
+
+impl Model for WeakSlots {
+    ghost use Rattle.std.specs.Prelude.{map};
+    ghost use Rattle.instance_tables.specs.Weak.{Marks, SaysWeak};
+
+    ghost Value = { Marks };
+
+    ghost view = { λ w. map (λ v. v.items) w.classes.items };
+
+    ghost invariant = { λ w. SaysWeak w.has_weak (map (λ v. v.items) w.classes.items) };
+}
+
+impl WeakSlots {
+    /// No class yet.
+    pub fn new(alloc: Global) -> Self
+        ensures { result ≡ [] }
+    {
+        WeakSlots {
+            classes: Vec::new(alloc),
+            has_weak: false,
+        }
+    }
+
+    /// The next class has these slots.
+    pub fn add(&mut self, slots: Vec<bool>) -> Result<(), AllocError>
+        ensures ok { OnOk result (self.new ≡ self.old ++ slots.items ∷ []) }
+        ensures err { OnErr result (self.new ≡ self.old) }
+    {
+        let is_weak = is_any_weak(&slots);
+        self.classes.push(slots)?;
+        self.has_weak = self.has_weak | is_weak;
+        Ok(())
+    }
+
+    /// Whether a slot of any class is weak.
+    pub fn has_weak(&self) -> bool
+        ensures { result ≡ has_weak self.now }
+    {
+        self.has_weak
+    }
+
+    /// Whether a slot of a class is there and is not weak.
+    pub fn is_strong(&self, class: TypeId, slot: Slot) -> bool
+        ensures { result ≡ is_strong self.now class slot }
+    {
+        let slots = self.of(class);
+        let slot = usize::from(slot);
+        if slot >= slots.len() {
+            return false;
+        }
+        !slots[slot]
+    }
+
+    /// The slots of a class, none if it is not there.
+    pub fn of(&self, class: TypeId) -> &[bool]
+        ensures { result.now ≡ read [] self.now class }
+    {
+        let class = class.index();
+        if class < self.classes.len() {
+            self.classes[class].as_slice()
+        } else {
+            &[]
+        }
+    }
+}
+
+// Whether one of these slots is weak.
+fn is_any_weak(slots: &[bool]) -> bool
+    ensures { result ≡ list_any (λ is_weak. is_weak) slots.now }
+{
+    slots.iter().any(|is_weak| *is_weak)
+}

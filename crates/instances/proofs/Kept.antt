@@ -1,0 +1,290 @@
+-- Peers that objects keep as the objects change.
+use Rattle.std.proofs.Common.{◌≡◌, refl, sym, ap, ◌∙◌, ℕ, zero, suc, ◌+◌, ◌<◌, max, length, List, [], ◌∷◌, ◌++◌, Bool, true, false, map, nat_lt, nat_eq, cond, Option, None, Some, Result, Ok, Err, slice_get, slice_set, ◌-◌, ◌⊎◌, inl, inr, OnErr, OnOk, arith}
+use Rattle.std.specs.Option.{ForSome, option_map}
+use Rattle.std.specs.declared.alloc.AllocError.{AllocError}
+use Rattle.ui_machine.specs.declared.arm.Halt.{Halt}
+use Rattle.ui_machine.specs.declared.arm.Arm.{Arm}
+use Rattle.ui_machine.specs.declared.arm.Arm.TheVariants as arms
+use Rattle.ui_machine.specs.Definition.{Definition}
+use Rattle.ui_machine.specs.Definition.Values.{Value}
+use Rattle.ui_machine.specs.Outcome.{After, Answer, Follows, Gives, known, only_if, ◌>>=◌}
+use Rattle.ui_machine.specs.Seq.{read, write}
+use Rattle.ui_machine.specs.State.Objects.{Object, Objects, changed, living, put, with_value}
+use Rattle.ui_machine.specs.Rules.Children.{updated, with_child, with_parent, without_child}
+use Rattle.ui_machine.specs.Rules.Disposal.{all_forget, children_of, forgets, lets_go, objects_disposed, one_lets_go, orphans, peer_of, without_parent}
+use Rattle.ui_machine.specs.Rules.NotifyQueue.{frozen_less, frozen_more, less_frozen, queued, raised}
+use Rattle.instance_tables.specs.Store.{Store, count_of, has_room, with_count, with_object}
+use Rattle.instance_tables.specs.Release.{Disposes, Finalises}
+use Rattle.instance_tables.specs.Weak.{Knows, Marks}
+use Rattle.instance_tables.proofs.Disposed.{known_by}
+use Rattle.instance_tables.specs.Family.{Adopts, Leaves, parent_in}
+use Rattle.instance_tables.specs.declared.error.AdoptError.{AdoptError}
+use Rattle.instance_tables.specs.declared.error.AdoptError.TheVariants.{NotLiving, HasParent, ChildLimit, OutOfMemory}
+use Rattle.instance_tables.specs.Release.{values_in}
+use Rattle.g_values.specs.View.{value_view}
+use Rattle.g_values.specs.declared.value.Value as code
+use Rattle.instances.proofs.Living.{writes_there}
+use Rattle.instances.specs.Lent.{AreApart, AreLent, IsFree, peer_at}
+
+-- what has a peer now had it before
+abbrev pub NoMore : Objects → Objects → Type 0
+NoMore old new = (id number : ℕ) → peer_at new id ≡ Some number → peer_at old id ≡ Some number
+
+-- each has the peer that it had
+abbrev pub SamePeers : Objects → Objects → Type 0
+SamePeers old new = (id : ℕ) → peer_at new id ≡ peer_at old id
+
+pub no_more : (old new : Objects) → SamePeers old new → NoMore old new
+no_more old new same id number at = sym (same id) ∙ at
+
+pub same_objects : (old new : Objects) → new ≡ old → NoMore old new
+same_objects old new is id number at = sym (ap (λ os. peer_at os id) is) ∙ at
+
+pub lent_on : (last count : ℕ) (old new : Objects) → NoMore old new → AreLent last count old → AreLent last count new
+lent_on last count old new fewer are id number at = are id number (fewer id number at)
+
+pub apart_on : (old new : Objects) → NoMore old new → AreApart old → AreApart new
+apart_on old new fewer are i j number at_i at_j = are i j number (fewer i number at_i) (fewer j number at_j)
+
+-- ** objects that are changed
+
+abbrev Keeps : (Object → Object) → Type 0
+Keeps change = (o : Object) → (change o).peer ≡ o.peer
+
+kept : (change : Object → Object) → Keeps change → (x : Option Object) → peer_of (option_map change x) ≡ peer_of x
+kept change keeps None = refl
+kept change keeps (Some o) = keeps o
+
+-- where one is changed that may live
+pub same_updated : (change : Object → Object) → Keeps change → (id : ℕ) (os : Objects) → SamePeers os (updated change id os)
+same_updated change keeps zero os j = refl
+same_updated change keeps (suc i) os zero = refl
+same_updated change keeps (suc i) os (suc j) = by os i j
+  where
+    by : (xs : Objects) (i j : ℕ) → peer_of (read None (write None xs i (option_map change (read None xs i))) j) ≡ peer_of (read None xs j)
+    by [] zero zero = refl
+    by [] zero (suc j) = refl
+    by [] (suc i) zero = refl
+    by [] (suc i) (suc j) = by [] i j
+    by (x ∷ xs) zero zero = kept change keeps x
+    by (x ∷ xs) zero (suc j) = refl
+    by (x ∷ xs) (suc i) zero = refl
+    by (x ∷ xs) (suc i) (suc j) = by xs i j
+
+-- where one that lives is put anew
+pub same_put : (os : Objects) (id : ℕ) (o new : Object) → living os id ≡ Some o → new.peer ≡ o.peer → SamePeers os (put os id (Some new))
+same_put os zero o new here keeps j = refl
+same_put os (suc i) o new here keeps zero = refl
+same_put os (suc i) o new here keeps (suc j) = by os i j here
+  where
+    by : (xs : Objects) (i j : ℕ) → read None xs i ≡ Some o → peer_of (read None (write None xs i (Some new)) j) ≡ peer_of (read None xs j)
+    by [] i j at = absurd (cc at)
+    by (x ∷ xs) zero zero at = keeps ∙ sym (ap peer_of at)
+    by (x ∷ xs) zero (suc j) at = refl
+    by (x ∷ xs) (suc i) zero at = refl
+    by (x ∷ xs) (suc i) (suc j) at = by xs i j at
+
+-- where one is taken out
+pub fewer_without : (os : Objects) (id : ℕ) → NoMore os (put os id None)
+fewer_without os zero j number at = at
+fewer_without os (suc i) zero number at = at
+fewer_without os (suc i) (suc j) number at = by os i j at
+  where
+    by : (xs : Objects) (i j : ℕ) → peer_of (read None (write None xs i None) j) ≡ Some number → peer_of (read None xs j) ≡ Some number
+    by [] zero zero h = h
+    by [] zero (suc j) h = h
+    by [] (suc i) zero h = h
+    by [] (suc i) (suc j) h = by [] i j h
+    by (x ∷ xs) zero zero h = absurd (cc h)
+    by (x ∷ xs) zero (suc j) h = h
+    by (x ∷ xs) (suc i) zero h = h
+    by (x ∷ xs) (suc i) (suc j) h = by xs i j h
+
+-- ** disposed
+
+same_forgotten : (d : Definition) (id : ℕ) (os : Objects) → SamePeers os (all_forget d id os)
+same_forgotten d id os zero = refl
+same_forgotten d id os (suc j) = by os j
+  where
+    by : (xs : Objects) (j : ℕ) → peer_of (read None (map (option_map (forgets d id)) xs) j) ≡ peer_of (read None xs j)
+    by [] j = refl
+    by (x ∷ xs) zero = kept (forgets d id) (λ o. refl) x
+    by (x ∷ xs) (suc j) = by xs j
+
+same_orphans : (ids : List ℕ) (os : Objects) → SamePeers os (orphans ids os)
+same_orphans [] os j = refl
+same_orphans (id ∷ ids) os j = same_orphans ids (updated without_parent id os) j ∙ same_updated without_parent (λ o. refl) id os j
+
+pub same_disposed : (d : Definition) (id : ℕ) (os : Objects) → SamePeers os (objects_disposed d id os)
+same_disposed d id os j =
+    same_orphans (children_of (living os id)) (one_lets_go d id (all_forget d id os)) j
+    ∙ same_updated (lets_go d) (λ o. refl) id (all_forget d id os) j
+    ∙ same_forgotten d id os j
+
+pub fewer_finalised : (d : Definition) (id : ℕ) (os : Objects) → NoMore os (put (objects_disposed d id os) id None)
+fewer_finalised d id os j number at =
+    no_more os (objects_disposed d id os) (same_disposed d id os) j number (fewer_without (objects_disposed d id os) id j number at)
+
+-- ** families
+
+pub fewer_adopted : (result : Result (Unit {0}) AdoptError) (parent child : ℕ) (s n : Store) → Adopts result parent child s n → NoMore s.objects n.objects
+fewer_adopted (Ok x) parent child s n adopts =
+    let joined : SamePeers s.objects (updated (with_parent (Some parent)) child (updated (with_child child) parent s.objects)) =
+    λ j. same_updated (with_parent (Some parent)) (λ o. refl) child (updated (with_child child) parent s.objects) j
+    ∙ same_updated (with_child child) (λ o. refl) parent s.objects j in
+    λ j number at. sym (joined j) ∙ sym (ap (λ os. peer_at os j) adopts.1.objects) ∙ at
+fewer_adopted (Err OutOfMemory) parent child s n adopts = same_objects s.objects n.objects (ap (λ (x : Store). x.objects) adopts.1)
+fewer_adopted (Err NotLiving) parent child s n adopts = same_objects s.objects n.objects (ap (λ (x : Store). x.objects) adopts.1)
+fewer_adopted (Err HasParent) parent child s n adopts = same_objects s.objects n.objects (ap (λ (x : Store). x.objects) adopts.1)
+fewer_adopted (Err ChildLimit) parent child s n adopts = same_objects s.objects n.objects (ap (λ (x : Store). x.objects) adopts.1)
+
+pub fewer_orphaned : (child : ℕ) (s n : Store) → (parent_in (living s.objects child) ≡ None → n ≡ s)
+    → ((parent : ℕ) → parent_in (living s.objects child) ≡ Some parent → Leaves parent child s n) → NoMore s.objects n.objects
+fewer_orphaned child s n alone leaves = by (parent_in (living s.objects child)) refl
+  where
+    by : (p : Option ℕ) → parent_in (living s.objects child) ≡ p → NoMore s.objects n.objects
+    by None is = same_objects s.objects n.objects (ap (λ (x : Store). x.objects) (alone is))
+    by (Some parent) is =
+        let left = leaves parent is in
+        let same : SamePeers s.objects (updated (with_parent None) child (updated (without_child child) parent s.objects)) =
+        λ j. same_updated (with_parent None) (λ o. refl) child (updated (without_child child) parent s.objects) j
+        ∙ same_updated (without_child child) (λ o. refl) parent s.objects j in
+        λ j number at. sym (same j) ∙ sym (ap (λ os. peer_at os j) left.objects) ∙ at
+
+-- ** one object, asked to change
+
+abbrev pub KeepsPeer : {X : Type 0} → (Object → Answer (After Object X)) → Type 0
+KeepsPeer {X} change = (o : Object) (a : After Object X) → change o ≡ Ok a → a.state.peer ≡ o.peer
+
+pub fewer_changed : {X : Type 0} (os new : Objects) (id : ℕ) (change : Object → Answer (After Object X)) (x : X) → KeepsPeer change
+    → changed os id change ≡ Ok (record { state = new; answer = x }) → NoMore os new
+unfolding changed
+fewer_changed {X} os new id change x keeps is = by (living os id) refl is
+  where
+    put_in : After Object X → Answer (After Objects X)
+    put_in w = Ok (record { state = put os id (Some w.state); answer = w.answer })
+
+    of_one : (o : Object) → living os id ≡ Some o → (r : Answer (After Object X)) → change o ≡ r → (r >>= put_in) ≡ Ok (record { state = new; answer = x }) → NoMore os new
+    of_one o here (Err arm) at e = absurd (cc e)
+    of_one o here (Ok w) at e =
+        let left : record { state = put os id (Some w.state); answer = w.answer } ≡ record { state = new; answer = x } = cc e in
+        let put_is : put os id (Some w.state) ≡ new = ap (λ (r : After Objects X). r.state) left in
+        λ j number has. sym (same_put os id o w.state here (keeps o w at) j) ∙ ap (λ y. peer_at y j) put_is ∙ has
+
+    by : (o : Option Object) → living os id ≡ o → (known arms.Operand o >>= λ y. (change y >>= put_in)) ≡ Ok (record { state = new; answer = x }) → NoMore os new
+    by None here e = absurd (cc e)
+    by (Some o) here e = of_one o here (change o) refl e
+
+pub writing_keeps : (slot : ℕ) (v : Value) → KeepsPeer (with_value slot v)
+unfolding with_value
+writing_keeps slot v o a e = by (slice_get o.values slot) e
+  where
+    write_in : Value → Answer (After Object Value)
+    write_in old = Ok (record { state = record o { values = slice_set o.values slot v }; answer = old })
+
+    by : (x : Option Value) → (known arms.Code x >>= write_in) ≡ Ok a → a.state.peer ≡ o.peer
+    by None h = absurd (cc h)
+    by (Some old) h = let is : record { state = record o { values = slice_set o.values slot v }; answer = old } ≡ a = cc h in sym (ap (λ (w : After Object Value). w.state.peer) is)
+
+pub freezing_keeps : KeepsPeer frozen_more
+freezing_keeps o a e = by (nat_lt o.freezes 18446744073709551615) (record { state = record o { freezes = suc o.freezes }; answer = tt }) refl e
+  where
+    by : (b : Bool) (w : After Object (Unit {0})) → w.state.peer ≡ o.peer → only_if b arms.Freeze (Ok w) ≡ Ok a → a.state.peer ≡ o.peer
+    by false w same h = absurd (cc h)
+    by true w same h = let is : w ≡ a = cc h in sym (ap (λ (x : After Object (Unit {0})). x.state.peer) is) ∙ same
+
+less_keeps : (n : ℕ) (o : Object) → (less_frozen n o).state.peer ≡ o.peer
+less_keeps zero o = refl
+less_keeps (suc n) o = refl
+
+pub thawing_keeps : KeepsPeer frozen_less
+thawing_keeps o a e = by (nat_lt 0 o.freezes) (less_frozen (o.freezes - 1) o) (less_keeps (o.freezes - 1) o) e
+  where
+    by : (b : Bool) (w : After Object (List ℕ)) → w.state.peer ≡ o.peer → only_if b arms.Freeze (Ok w) ≡ Ok a → a.state.peer ≡ o.peer
+    by false w same h = absurd (cc h)
+    by true w same h = let is : w ≡ a = cc h in sym (ap (λ (x : After Object (List ℕ)). x.state.peer) is) ∙ same
+
+pub raising_keeps : (slot : ℕ) → KeepsPeer (raised slot)
+raising_keeps slot o a e = by (nat_eq o.freezes 0) (record { state = o; answer = true }) (record { state = record o { queue = queued o.queue slot }; answer = false }) refl refl e
+  where
+    by : (b : Bool) (w v : After Object Bool) → w.state.peer ≡ o.peer → v.state.peer ≡ o.peer → ◌≡◌ {A = Answer (After Object Bool)} (Ok (cond b w v)) (Ok a) → a.state.peer ≡ o.peer
+    by true w v same_w same_v h = let is : w ≡ a = cc h in sym (ap (λ (x : After Object Bool). x.state.peer) is) ∙ same_w
+    by false w v same_w same_v h = let is : v ≡ a = cc h in sym (ap (λ (x : After Object Bool). x.state.peer) is) ∙ same_v
+
+-- whatever the code answers
+pub fewer_gives : {X Y : Type 0} (view : X → Y) (r : Result X Arm) (s n : Store) (id : ℕ) (change : Object → Answer (After Object Y)) → KeepsPeer change
+    → Gives view r (changed s.objects id change) n.objects → OnErr r (n ≡ s) → NoMore s.objects n.objects
+fewer_gives view (Ok x) s n id change keeps gives same = fewer_changed s.objects n.objects id change (view x) keeps gives
+fewer_gives view (Err arm) s n id change keeps gives same = same_objects s.objects n.objects (ap (λ (y : Store). y.objects) same)
+
+pub fewer_follows : {X Y : Type 0} (view : X → Y) (r : Result X Halt) (s n : Store) (id : ℕ) (change : Object → Answer (After Object Y)) → KeepsPeer change
+    → Follows view r (changed s.objects id change) n.objects → OnErr r (n ≡ s) → NoMore s.objects n.objects
+fewer_follows view (Ok x) s n id change keeps gives same = fewer_changed s.objects n.objects id change (view x) keeps gives
+fewer_follows view (Err halt) s n id change keeps gives same = same_objects s.objects n.objects (ap (λ (y : Store). y.objects) same)
+
+-- ** disposed and finalised in a table
+
+pub fewer_disposing : (weak : Marks) (id : ℕ) (s n : Store) → ((d : Definition) → Knows d weak → Disposes d id s n) → NoMore s.objects n.objects
+fewer_disposing weak id s n disposes =
+    let some = known_by weak in
+    λ j number at. sym (same_disposed some.0 id s.objects j) ∙ sym (ap (λ os. peer_at os j) (disposes some.0 some.1).objects) ∙ at
+
+pub fewer_finalising : (weak : Marks) (id : ℕ) (s n : Store) → ((d : Definition) → Knows d weak → Finalises d id s n) → NoMore s.objects n.objects
+fewer_finalising weak id s n finalises =
+    let some = known_by weak in
+    λ j number at. fewer_finalised some.0 id s.objects j number (sym (ap (λ os. peer_at os j) (finalises some.0 some.1).objects) ∙ at)
+
+-- as many peers stay in the pool
+pub lent_among : (last count new_count : ℕ) (os : Objects) → new_count ≡ count → AreLent last count os → AreLent last new_count os
+lent_among last count new_count os is are id number at = let lent = are id number at in (lent.0, omega (arith, is, lent.1))
+
+-- ** one object more
+
+born_at : (os : Objects) (o : Object) (j number : ℕ) → peer_at (os ++ Some o ∷ []) j ≡ Some number
+    → (peer_at os j ≡ Some number) ⊎ ((j ≡ suc (length os)) × (o.peer ≡ Some number))
+born_at os o zero number at = inl at
+born_at [] o (suc zero) number at = inr (refl, at)
+born_at [] o (suc (suc j)) number at = inl at
+born_at (x ∷ os) o (suc zero) number at = inl at
+born_at (x ∷ os) o (suc (suc j)) number at = elim (born_at os o (suc j) number at) [ inl h ↦ inl h | inr h ↦ inr (ap suc h.0, h.1) ]
+
+pub lent_born : (last id count : ℕ) (s n : Store) (o : Object) → AreLent last count s.objects → ForSome o.peer (λ number. number < count)
+    → (has_room 0 s ≡ true) × (id ≡ suc (length s.objects)) × (n ≡ with_object o s) → AreLent (max last id) count n.objects
+lent_born last id count s n o are small created j number at =
+    let there : peer_at (s.objects ++ Some o ∷ []) j ≡ Some number = sym (ap (λ (x : Store). peer_at x.objects j) created.2) ∙ at in
+    elim (born_at s.objects o j number there) [
+      | inl h ↦ let lent = are j number h in (omega (arith, lent.0), lent.1)
+      | inr h ↦ (omega (arith, h.0, created.1), small number h.1)
+    ]
+
+pub apart_born : (id : ℕ) (s n : Store) (o : Object) → AreApart s.objects → ForSome o.peer (IsFree s.objects)
+    → (has_room 0 s ≡ true) × (id ≡ suc (length s.objects)) × (n ≡ with_object o s) → AreApart n.objects
+apart_born id s n o are free created i j number at_i at_j =
+    let there_i : peer_at (s.objects ++ Some o ∷ []) i ≡ Some number = sym (ap (λ (x : Store). peer_at x.objects i) created.2) ∙ at_i in
+    let there_j : peer_at (s.objects ++ Some o ∷ []) j ≡ Some number = sym (ap (λ (x : Store). peer_at x.objects j) created.2) ∙ at_j in
+    elim (born_at s.objects o i number there_i) [
+      | inl h ↦ elim (born_at s.objects o j number there_j) [
+        | inl k ↦ are i j number h k
+        | inr k ↦ absurd (free number k.1 i h)
+      ]
+      | inr h ↦ elim (born_at s.objects o j number there_j) [
+        | inl k ↦ absurd (free number h.1 j k)
+        | inr k ↦ h.0 ∙ sym k.0
+      ]
+    ]
+
+-- what floats has no other peer
+pub floats_same : (r : Result (Unit {0}) AllocError) (s n : Store) (id : ℕ)
+    → OnOk r (n ≡ with_count (record s { floating = s.floating ++ id ∷ [] }) id (count_of s.counts id + 1)) → OnErr r (n ≡ s) → NoMore s.objects n.objects
+floats_same (Ok x) s n id ok err = same_objects s.objects n.objects (ap (λ (y : Store). y.objects) ok)
+floats_same (Err x) s n id ok err = same_objects s.objects n.objects (ap (λ (y : Store). y.objects) err)
+
+pub no_more_then : (a b c : Objects) → NoMore a b → NoMore b c → NoMore a c
+no_more_then a b c first later id number at = first id number (later id number at)
+
+-- ** a property that is written, by a slot that is there
+
+pub fewer_writing : (r : Result code.Value Arm) (s n : Store) (id slot : ℕ) (v : Value) → slot < length (values_in (living s.objects id))
+    → Gives value_view r (changed s.objects id (with_value slot v)) n.objects → NoMore s.objects n.objects
+fewer_writing (Ok x) s n id slot v small gives = fewer_changed s.objects n.objects id (with_value slot v) (value_view x) (writing_keeps slot v) gives
+fewer_writing (Err arm) s n id slot v small gives = absurd (writes_there s.objects id slot v arm small gives)

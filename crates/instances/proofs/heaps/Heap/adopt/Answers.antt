@@ -1,0 +1,10 @@
+use Rattle.instances.proofs.Kept.{NoMore, apart_on, lent_on, fewer_adopted}
+use Rattle.instances.proofs.heaps.Heap.adopt.Goals as goal
+
+pub invariant_of-self : goal.invariant_of-self
+invariant_of-self g c =
+    let fewer : NoMore c.args.self.now.table.objects c.adopt.new.self.objects = fewer_adopted c.adopt.result c.args.parent.0 c.args.child.0 c.args.self.now.table c.adopt.new.self c.adopt.ensures in
+    record {
+      lent = lent_on _ _ c.args.self.now.table.objects c.adopt.new.self.objects fewer c.args.self.now.lent;
+      apart = apart_on c.args.self.now.table.objects c.adopt.new.self.objects fewer c.args.self.now.apart;
+    }

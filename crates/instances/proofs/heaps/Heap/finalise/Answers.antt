@@ -1,0 +1,13 @@
+use Rattle.std.proofs.Common.{length}
+use Rattle.native_peers.specs.Pool.{entries}
+use Rattle.instances.proofs.Kept.{NoMore, apart_on, lent_among, lent_on, fewer_finalising}
+use Rattle.instances.proofs.heaps.Heap.finalise.Goals as goal
+
+pub invariant_of-self : goal.invariant_of-self
+invariant_of-self g c =
+    let fewer : NoMore c.args.self.now.table.objects c.finalise.new.self.objects = fewer_finalising c.args.self.now.classes.weak.now c.args.id.0 c.args.self.now.table c.finalise.new.self c.finalise.ensures.finalises in
+    record {
+      lent = lent_among c.args.self.now.last_lent (length (entries c.args.self.now.pool)) (length (entries c.close_peer.new.pool)) c.finalise.new.self.objects c.close_peer.ensures.as_many
+          (lent_on _ _ c.args.self.now.table.objects c.finalise.new.self.objects fewer c.args.self.now.lent);
+      apart = apart_on c.args.self.now.table.objects c.finalise.new.self.objects fewer c.args.self.now.apart;
+    }

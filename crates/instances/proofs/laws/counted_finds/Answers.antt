@@ -1,5 +1,0 @@
-use Rattle.instances.proofs.Exact.{exact_finds}
-use Rattle.instances.proofs.laws.counted_finds.Goals as goal
-
-pub returns : goal.returns
-returns c = exact_finds

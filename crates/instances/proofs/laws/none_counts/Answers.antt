@@ -1,5 +1,0 @@
-use Rattle.instances.proofs.Created.{none_exact}
-use Rattle.instances.proofs.laws.none_counts.Goals as goal
-
-pub returns : goal.returns
-returns c = none_exact

@@ -1,9 +1,0 @@
-use Rattle.std.proofs.Common.{rules}
-use Rattle.instances.specs.Store.{id_of}
-use Rattle.instances.proofs.Lowest.{found_beside}
-use Rattle.instances.proofs.unheld.lowest_beside.Goals as goal
-
-pub returns : goal.returns
-returns c held is change =
-    found_beside c.args.instances.now.entries c.first_from.ensures.ordered held (id_of c.args.noted) c.args.id.0 is change (search rules)
-    (id_of c.first_from.result) c.first_from.ensures.first

@@ -1,0 +1,23 @@
+//! The heap itself.
+
+ghost use Rattle.std.specs.Prelude.{length};
+ghost use Rattle.native_peers.specs.Pool.{entries};
+ghost use Rattle.instances.specs.Lent.{AreApart, AreLent};
+
+use crate::classes::Classes;
+use instance_tables::Table;
+use native_peers::PeerPool;
+use std::alloc::Global;
+
+/// Objects, how often each is held, and the pool of their peers. No two objects have one peer.
+#[derive(Drop)]
+pub struct Heap<'a> {
+    pub(crate) classes: Classes<'a>,
+    pub(crate) table: Table,
+    pub(crate) pool: PeerPool,
+    // The greatest identity of an object that was given a peer.
+    pub(crate) last_lent: u64,
+    pub(crate) alloc: Global,
+    ghost lent: { AreLent last_lent (length (entries pool)) table.objects },
+    ghost apart: { AreApart table.objects },
+}
