@@ -231,6 +231,7 @@ pub stop_counts : (d : Definition) (e mid : Engine) (taken : ℕ → ℕ) → mi
     → ((last : ℕ) → AllTakeKnownHandlers last e.stack → AllTakeKnownHandlers last mid.stack) → Counts d taken e → Counts d taken mid
 stop_counts d e mid taken beside is begun h = subst (λ (x : Engine). Counts d taken x) (sym beside) (record {
   knows = h.knows;
+  passes = h.passes;
   connects = restacked d e mid.stack begun h.connects;
   exact = λ o.
       let same_tasks : tasks_of d e.world.handlers.handlers mid.stack ≡ machine.stopped (agenda_of d e) = ap (λ (x : Engine). tasks_of d x.world.handlers.handlers mid.stack) (sym beside) ∙ is in

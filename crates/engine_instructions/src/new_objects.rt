@@ -1,6 +1,6 @@
 //! `new`: an object of a prototype is made (GObject manual, GObject: `g_object_new`).
 
-ghost use Rattle.std.specs.Prelude.{◌≡◌, ◌<◌, ◌-◌, ◌&&◌, List, min, length, IfSome, OnOk, OnErr, option_map};
+ghost use Rattle.std.specs.Prelude.{◌≡◌, ◌<◌, ◌-◌, ◌&&◌, List, Some, min, length, slice_get, IfSome, OnOk, OnErr, option_map};
 ghost use Rattle.ui_machine.specs.Instructions.{in_front};
 ghost use Rattle.ui_machine.specs.Instructions.Objects.{creating};
 ghost use Rattle.ui_machine.specs.Outcome.{Goes, known};
@@ -11,6 +11,7 @@ ghost use Rattle.ui_machine.specs.Steps.{left};
 ghost use Rattle.definition_format.specs.Meaning.{object_count};
 ghost use Rattle.frames.specs.FrameView.{frame_view};
 ghost use Rattle.engine_world.specs.Counting.{Counts, in_frame, nothing};
+ghost use Rattle.definitions.specs.EntryView.{entry_view};
 ghost use Rattle.engine_instructions.specs.CreateView.{created, has_room, prototype_named, prototype_of};
 ghost use Rattle.engine_world.specs.EngineView.{config_of};
 ghost use Rattle.engine_world.specs.PeerPlaces.{is_there};
@@ -38,7 +39,8 @@ struct Prototype<'a> {
 
 // The prototype of an id.
 fn prototype_named<'a>(definition: &'a Definition, id: &str) -> Option<Prototype<'a>>
-    ensures { known arms.Code (option_map prototype_of result) ≡ prototype_named definition.now id.now }
+    ensures named { known arms.Code (option_map prototype_of result) ≡ prototype_named definition.now id.now }
+    ensures at { IfSome result (λ p. slice_get definition.now.places p.place.0 ≡ Some (entry_view p.entry)) }
 {
     let Some(place) = definition.place(id) else {
         return None;
@@ -155,7 +157,7 @@ pub(crate) fn create(
     let Some(prototype) = prototype_named(definition, id) else {
         return Err(Halt::Stuck(Arm::Code));
     };
-    let peer = new_peer(engine, definition, &prototype.entry);
+    let peer = new_peer(engine, definition, prototype.place, &prototype.entry);
     if !may_create(engine, definition, peer) {
         return write_null_and_say_limit(engine, definition, frame, to, object_or_null(None), "new");
     }

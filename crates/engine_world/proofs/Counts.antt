@@ -10,6 +10,7 @@ use Rattle.ui_machine.specs.Outcome.{After, Answer, ◌>>=◌, known, only_if}
 use Rattle.ui_machine.specs.Rules.NotifyQueue.{queued, raised, less_frozen, frozen_less}
 use Rattle.ui_machine.specs.State.Config.{BuilderEntry, said}
 use Rattle.ui_machine.specs.State.Objects.{Object, Objects, living, put, asked, changed, value_at, with_value}
+use Rattle.ui_machine.specs.State.Peers.{first_left}
 use Rattle.ui_machine.specs.State.References.{same, in_value, in_object, in_held, in_source, in_task, mentions, next_unheld}
 use Rattle.main_context.specs.Attached.{Attached}
 use Rattle.ui_machine.specs.State.Tasks.{Emission, Emitting, PlanEntry, Task}
@@ -42,8 +43,10 @@ use Rattle.engine_world.proofs.Left.{same_agenda}
 use Rattle.signal_core.specs.Connected.{Connected}
 use Rattle.ui_machine.specs.State.Handlers.{Handler}
 use Rattle.engine_world.specs.KnownHandlers.{AllTakeKnownHandlers}
-use Rattle.engine_world.specs.Counting.{OnlyCounts, Connects, Counts, KeepsCounts, in_emitted, in_subject, nothing}
+use Rattle.engine_world.specs.Counting.{OnlyCounts, Connects, Counts, KeepsCounts, PassesGot, in_emitted, in_subject, nothing}
+use Rattle.engine_world.specs.PeerPlaces.{AreGot}
 use Rattle.engine_world.proofs.Floats.{if_ok_at, bind_ok}
+use Rattle.engine_world.proofs.GotPeers.{alike_got}
 
 -- two changes of counts alone
 pub both_only : (t m n : Store) → OnlyCounts t m → OnlyCounts m n → OnlyCounts t n
@@ -224,13 +227,14 @@ pub restacked : (d : Definition) (e : Engine) (s : Stack) → ((last : ℕ) → 
 restacked d e s begun h = record { most = h.most; to_come = h.to_come; begun = begun e.world.handlers.last h.begun }
 
 module _ (d : Definition) (e new : Engine) where
-  pub keeps_by : new.world.weak ≡ e.world.weak → new.world.context ≡ e.world.context → (Connects d e → Connects d new)
+  pub keeps_by : new.world.weak ≡ e.world.weak → (PassesGot d e → PassesGot d new) → new.world.context ≡ e.world.context → (Connects d e → Connects d new)
       → ((taken : ℕ → ℕ) → Knows d e.world.weak → Exact d taken e.world.table (map held_of e.world.builder.items) (agenda_of d e)
       → Exact d taken new.world.table (map held_of new.world.builder.items) (agenda_of d new))
       → KeepsCounts d e new
-  keeps_by weak context connects moves = record {
+  keeps_by weak passes context connects moves = record {
     at = λ taken h. record {
       knows = subst (λ (m : Marks). Knows d m) (sym weak) h.knows;
+      passes = passes h.passes;
       connects = connects h.connects;
       exact = λ o.
           let sources : (o : ℕ) → ℕ = λ o. total (in_source o) e.world.context.sources in
@@ -243,9 +247,9 @@ pub keeps_on : (d : Definition) (e f new : Engine) → KeepsCounts d e f → Kee
 keeps_on d e f new p q = record { at = λ taken h. q.at taken (p.at taken h) }
 
 -- a line more, another result or another count of steps moves nothing
-pub keeps_same : (d : Definition) (e new : Engine) → new.world.table ≡ e.world.table → new.world.weak ≡ e.world.weak → new.world.context ≡ e.world.context
-    → new.world.builder ≡ e.world.builder → new.stack ≡ e.stack → new.world.handlers ≡ e.world.handlers → KeepsCounts d e new
-keeps_same d e new table weak context builder stack handlers = keeps_by d e new weak context (stays d e new handlers stack) (λ taken _ h.
+pub keeps_same : (d : Definition) (e new : Engine) → new.world.table ≡ e.world.table → new.world.weak ≡ e.world.weak → (PassesGot d e → PassesGot d new)
+    → new.world.context ≡ e.world.context → new.world.builder ≡ e.world.builder → new.stack ≡ e.stack → new.world.handlers ≡ e.world.handlers → KeepsCounts d e new
+keeps_same d e new table weak passes context builder stack handlers = keeps_by d e new weak passes context (stays d e new handlers stack) (λ taken _ h.
     subst (λ (t : Store). Exact d taken t (map held_of new.world.builder.items) (agenda_of d new)) (sym table)
     (subst (λ (ts : List Task). Exact d taken e.world.table (map held_of new.world.builder.items) ts) (sym (same_agenda d e new stack handlers))
     (subst (λ bs. Exact d taken e.world.table (map held_of bs.items) (agenda_of d e)) (sym builder) h)))
@@ -253,14 +257,14 @@ keeps_same d e new table weak context builder stack handlers = keeps_by d e new 
 -- a line that was said
 pub keeps_said : (d : Definition) (e : Engine) (w : World) → w ≡ record e.world { transcript = w.transcript } → KeepsCounts d e (record e { world = w })
 keeps_said d e w is =
-    keeps_same d e (record e { world = w }) (ap (λ (v : World). v.table) is) (ap (λ (v : World). v.weak) is) (ap (λ (v : World). v.context) is) (ap (λ (v : World). v.builder) is) refl (ap (λ (v : World). v.handlers) is)
+    keeps_same d e (record e { world = w }) (ap (λ (v : World). v.table) is) (ap (λ (v : World). v.weak) is) (subst (λ (v : World). AreGot d v.seats v.got_peers.items) (sym is)) (ap (λ (v : World). v.context) is) (ap (λ (v : World). v.builder) is) refl (ap (λ (v : World). v.handlers) is)
 
 -- an object that changed and holds what it held
 pub keeps_changed : (d : Definition) (e : Engine) (t : Store) → t ≡ with_objects e.world.table t.objects
     → ((o : ℕ) → total (in_object d o) t.objects ≡ total (in_object d o) e.world.table.objects)
     → KeepsCounts d e (record e { world = record e.world { table = t } })
 keeps_changed d e t beside alike =
-    keeps_by d e (record e { world = record e.world { table = t } }) refl refl (stays d e _ refl refl)
+    keeps_by d e (record e { world = record e.world { table = t } }) refl (λ g. g) refl (stays d e _ refl refl)
     (λ taken _ h. objects_alike d taken e.world.table t (map held_of e.world.builder.items) (agenda_of d e) beside alike h)
 
 -- the same of a change that answers
@@ -306,6 +310,7 @@ pub taken_off : (d : Definition) (e : Engine) (s : Stack) (t : Task) → agenda_
     → ((last : ℕ) → AllTakeKnownHandlers last e.stack → AllTakeKnownHandlers last s) → Counts d nothing e → Counts d (λ o. in_task o t) (record e { stack = s })
 taken_off d e s t first begun h = record {
   knows = h.knows;
+  passes = h.passes;
   connects = restacked d e s begun h.connects;
   exact = λ o. omega (arith, h.exact o, ap (λ (ts : List Task). total (in_task o) ts) first);
 }
@@ -316,6 +321,7 @@ pub given_back : (d : Definition) (e : Engine) (t : Store) (gone : ℕ → ℕ) 
     → Counts d nothing (record e { world = record e.world { table = t } })
 given_back d e t gone only counts h = record {
   knows = h.knows;
+  passes = h.passes;
   connects = stays d e _ refl refl h.connects;
   exact = λ o.
       let objects : total (in_object d o) t.objects ≡ total (in_object d o) e.world.table.objects = ap (total (in_object d o)) only.objects in
@@ -328,6 +334,7 @@ pub same_tasks : (d : Definition) (e : Engine) (s : Stack) → tasks_of d e.worl
     → ((last : ℕ) → AllTakeKnownHandlers last e.stack → AllTakeKnownHandlers last s) → Counts d nothing e → Counts d nothing (record e { stack = s })
 same_tasks d e s is begun h = record {
   knows = h.knows;
+  passes = h.passes;
   connects = restacked d e s begun h.connects;
   exact = λ o. omega (arith, h.exact o, ap (λ (ts : List Task). total (in_task o) ts) is);
 }
@@ -337,10 +344,11 @@ none_of : (o : ℕ) → count_of [] o ≡ 0
 none_of zero = refl
 none_of (suc o) = refl
 
-pub none_counted : (d : Definition) (e : Engine) (m : Marks) → Knows d m → Connects d e → e.world.weak ≡ m → e.world.table.counts ≡ [] → world_of e.world ≡ said d (first_world d []) lines.build
+pub none_counted : (d : Definition) (e : Engine) (m : Marks) → Knows d m → PassesGot d e → Connects d e → e.world.weak ≡ m → e.world.table.counts ≡ [] → world_of e.world ≡ said d (first_world d []) lines.build
     → agenda_of d e ≡ [] → Counts d nothing e
-none_counted d e m knows connects marks counts world idle = record {
+none_counted d e m knows passes connects marks counts world idle = record {
   knows = subst (λ (w : Marks). Knows d w) (sym marks) knows;
+  passes = passes;
   connects = connects;
   exact = λ o.
       let none : count_of e.world.table.counts o ≡ 0 = ap (λ cs. count_of cs o) counts ∙ none_of o in
@@ -349,6 +357,13 @@ none_counted d e m knows connects marks counts world idle = record {
       ∙ omega (arith, ap (λ (ts : List Task). total (in_task o) ts) idle) in
       omega (arith, none, same);
 }
+
+-- ** peers that are closed
+
+-- what is passed over stays so where the same peers are left
+pub closed_got : (d : Definition) (old new : World) → ((names : List (List ℕ)) → first_left new.seats names ≡ first_left old.seats names) → new.got_peers.items ≡ old.got_peers.items
+    → AreGot d old.seats old.got_peers.items → AreGot d new.seats new.got_peers.items
+closed_got d old new alike got are = subst (AreGot d new.seats) (sym got) (alike_got d old.seats new.seats old.got_peers.items alike are)
 
 -- ** what is to be finalised
 
@@ -360,11 +375,11 @@ finds_mentioned d e h =
 
 -- what is finalised held what it let go of; its handlers hold nothing
 pub keeps_finalised : (d : Definition) (e : Engine) (t : Store) (hs : Connected) (bs : Made) (w : World) (gone : Gone) (id n : ℕ) (closing : Option ℕ) → (Knows d e.world.weak → Finalises d id e.world.table t)
-    → hs ≡ record e.world.handlers { handlers = hs.handlers }
+    → ((names : List (List ℕ)) → first_left w.seats names ≡ first_left e.world.seats names) → hs ≡ record e.world.handlers { handlers = hs.handlers }
     → w ≡ record (record e.world { table = t; handlers = hs; bindings = bs }) { seats = w.seats; transcript = w.transcript } → tasks_of d hs.handlers e.stack ≡ map (pruned gone) (agenda_of d e)
     → KeepsCounts d e (record e { world = w; counted = n; closing = closing })
-keeps_finalised d e t hs bs w gone id n closing finalises only is left =
-    keeps_by d e (record e { world = w; counted = n; closing = closing }) (ap (λ (v : World). v.weak) is) (ap (λ (v : World). v.context) is)
+keeps_finalised d e t hs bs w gone id n closing finalises closes only is left =
+    keeps_by d e (record e { world = w; counted = n; closing = closing }) (ap (λ (v : World). v.weak) is) (closed_got d e.world w closes (ap (λ (v : World). v.got_peers.items) is)) (ap (λ (v : World). v.context) is)
     (λ h. handled d e (record e { world = w; counted = n; closing = closing }) hs (ap (λ (v : World). v.handlers) is) only refl h) (λ taken knows h.
     let b = map held_of e.world.builder.items in
     let a = agenda_of d e in
@@ -379,7 +394,7 @@ with_table e t = record e { world = record e.world { table = t } }
 
 -- as much is held beside
 pub taken_alike : (d : Definition) (e : Engine) (more less : ℕ → ℕ) → ((o : ℕ) → more o ≡ less o) → Counts d more e → Counts d less e
-taken_alike d e more less alike h = record { knows = h.knows; connects = h.connects; exact = λ o. omega (arith, h.exact o, alike o) }
+taken_alike d e more less alike h = record { knows = h.knows; passes = h.passes; connects = h.connects; exact = λ o. omega (arith, h.exact o, alike o) }
 
 -- the rest of an emission goes on with what it was given, and holds its object
 pub pushed_rest : (d : Definition) (e : Engine) (t : Store) (s : Stack) (taken : ℕ → ℕ) (m : Emission) (entries : List PlanEntry) → OnlyCounts e.world.table t
@@ -388,6 +403,7 @@ pub pushed_rest : (d : Definition) (e : Engine) (t : Store) (s : Stack) (taken :
     → Counts d (λ o. taken o + in_emitted o m) e → Counts d taken (record e { world = record e.world { table = t }; stack = s })
 pushed_rest d e t s taken m entries only counts first begun h = record {
   knows = h.knows;
+  passes = h.passes;
   connects = record { most = h.connects.most; to_come = h.connects.to_come; begun = begun h.connects.begun };
   exact = λ o.
       let objects : total (in_object d o) t.objects ≡ total (in_object d o) e.world.table.objects = ap (total (in_object d o)) only.objects in
@@ -401,6 +417,7 @@ pub less_held : (d : Definition) (e : Engine) (t : Store) (more left gone : ℕ 
     → Counts d more e → Counts d left (record e { world = record e.world { table = t } })
 less_held d e t more left gone only counts parts h = record {
   knows = h.knows;
+  passes = h.passes;
   connects = stays d e _ refl refl h.connects;
   exact = λ o.
       let objects : total (in_object d o) t.objects ≡ total (in_object d o) e.world.table.objects = ap (total (in_object d o)) only.objects in

@@ -18,6 +18,7 @@ pub mod Registers
 mod Operands
 pub mod Built
 pub mod Gone
+pub mod GotPeers
 pub mod SameTurns
 pub mod Signals
 mod Rooms

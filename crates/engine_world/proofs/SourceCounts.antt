@@ -27,6 +27,7 @@ pub context_moves : (d : Definition) (e : Engine) (t : Store) (c : Attached) →
 context_moves d e t c only moves = record {
   at = λ taken h. record {
     knows = h.knows;
+    passes = h.passes;
     connects = stays d e _ refl refl h.connects;
     exact = λ o.
         let objects : total (in_object d o) t.objects ≡ total (in_object d o) e.world.table.objects = ap (total (in_object d o)) only.objects in

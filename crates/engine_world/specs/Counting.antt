@@ -9,6 +9,7 @@ use Rattle.instance_tables.specs.Weak.{Knows}
 use Rattle.ui_machine.specs.Seq.{total}
 use Rattle.engine_world.specs.View.{world_of}
 use Rattle.engine_world.specs.KnownHandlers.{AllTakeKnownHandlers}
+use Rattle.engine_world.specs.PeerPlaces.{AreGot}
 use Rattle.engine_world.specs.EngineView.{config_of}
 use Rattle.engine_world.specs.TaskView.{agenda_of}
 
@@ -24,10 +25,15 @@ pub record Connects (d : Definition) (e : Engine) : Type 0 where
   pub to_come : e.world.handlers.to_come ≡ 0
   pub begun : AllTakeKnownHandlers e.world.handlers.last e.stack
 
+-- what the engine passes over of each place's peers is not left
+abbrev pub PassesGot : Definition → Engine → Type 0
+PassesGot d e = AreGot d e.world.seats e.world.got_peers.items
+
 -- Each object is counted as often as it is mentioned, and so often more as is said: so much holds a task that was taken off and is not done yet.
--- It is known which properties are weak, and what may be connected.
+-- It is known which properties are weak, which peers of a place are passed over, and what may be connected.
 pub record Counts (d : Definition) (taken : ℕ → ℕ) (e : Engine) : Type 0 where
   pub knows : Knows d e.world.weak
+  pub passes : PassesGot d e
   pub connects : Connects d e
   pub exact : (o : ℕ) → count_of e.world.table.counts o ≡ mentions d (config_of d e) o + taken o
 

@@ -1,12 +1,14 @@
 -- Which peer the object of a place gets.
-use Rattle.std.specs.Prelude.{ℕ, Bool, None, Option, Some, false, true}
+use Rattle.std.specs.Prelude.{◌≡◌, ℕ, Bool, List, None, Option, Some, false, slice_get, take, true}
 use Rattle.ui_machine.specs.declared.arm.Arm.TheVariants as arms
 use Rattle.ui_machine.specs.Definition.{Definition}
 use Rattle.ui_machine.specs.Definition.Lookups.{place_at}
 use Rattle.ui_machine.specs.Definition.Places.{Place}
 use Rattle.ui_machine.specs.Outcome.{Answer, known, ◌>>=◌}
 use Rattle.ui_machine.specs.Rules.Build.{peer_for}
+use Rattle.ui_machine.specs.Seq.{read}
 use Rattle.ui_machine.specs.State.Config.{World}
+use Rattle.ui_machine.specs.State.Peers.{Peer, first_left}
 use Rattle.engine_world.specs.declared.object_peers.NewPeer.{NewPeer}
 use Rattle.engine_world.specs.declared.object_peers.NewPeer.TheVariants as news
 
@@ -25,3 +27,7 @@ abbrev pub taken : NewPeer → Option ℕ
 taken news.NotWanted = None
 taken (news.Left number) = Some number
 taken news.NoneLeft = None
+
+-- of each place, so many of its peers from the first one on are not left: no object has to look at them again
+abbrev pub AreGot : Definition → List Peer → List ℕ → Type 0
+AreGot d peers got = (place : ℕ) (p : Place) → slice_get d.places place ≡ Some p → first_left peers (take (read 0 got place) p.peers) ≡ None

@@ -19,7 +19,7 @@ use crate::properties::living_class;
 use bitflags::Flags;
 use definition_format::Given;
 use definitions::Definition;
-use g_values::{Kind, Value, has_number};
+use g_values::{Kind, Value};
 use instance_tables::Table;
 use signal_core::SignalFlags;
 use type_tree::{TypeId, TypeTree};
@@ -61,7 +61,7 @@ pub fn fits(table: &Table, types: &TypeTree, value: &Value, kind: Kind) -> bool
         }
         (Value::Text(_), Kind::Text) => true,
         (Value::Enum(t, number), Kind::Enum(u)) => *t == u
-            && has_number(types.enum_members(u), i128::from(*number)),
+            && types.has_number(u, i128::from(*number)),
         (Value::Flags(t, bits), Kind::Flags(u)) => {
             let _bits = *bits;
             *t == u

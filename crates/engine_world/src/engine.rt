@@ -40,11 +40,18 @@ pub enum StepKind {
 }
 
 impl Engine {
-    /// Nothing is built yet, there are these peers, and there is nothing to do.
-    pub fn new(alloc: Global, weak: WeakSlots, limits: Limits, seats: Seats) -> Self
+    /// Nothing is built yet, there are these peers, so many of those of each place are known not to be left, and there is nothing to do.
+    pub fn new(
+        alloc: Global,
+        weak: WeakSlots,
+        limits: Limits,
+        seats: Seats,
+        got_peers: Vec<usize>,
+    ) -> Self
         ensures world { (d : machine.Definition) → world_of result.world ≡ first_world d seats }
         ensures counts { result.world.table.counts ≡ [] }
         ensures marks { result.world.weak ≡ weak }
+        ensures got { result.world.got_peers ≡ got_peers }
         ensures handlers { result.world.handlers ≡ none_connected limits.handlers 0 }
         ensures begun { AllTakeKnownHandlers 0 result.stack }
         ensures closing { result.closing ≡ None }
@@ -59,6 +66,7 @@ impl Engine {
                 context: Context::new(alloc),
                 builder: Vec::new(alloc),
                 seats,
+                got_peers,
                 transcript: Vec::new(alloc),
                 result: None,
             },

@@ -19,6 +19,7 @@ ghost use Rattle.engine_world.specs.Counting.{KeepsCounts};
 use crate::construct_steps::{GivenAt, construction};
 use crate::engine::Engine;
 use crate::lines::Line;
+use crate::object_peers::count_got;
 use crate::places::entry_at;
 use crate::references::push_task;
 use crate::seats::Seats;
@@ -104,6 +105,12 @@ pub fn make(
         entries: entry.given,
     };
     let steps = construction(engine.alloc, definition, class, given)?;
+    count_got(
+        &mut engine.world.got_peers,
+        &engine.world.seats,
+        place,
+        entry.peers,
+    );
     let object = create_object(engine, definition, class, place, values, peer)?;
     let told = Line::Construct {
         object,

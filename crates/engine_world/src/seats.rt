@@ -1,6 +1,6 @@
 //! The peers of a pool, as far as the engine knows them: their names and shapes, whether they are open, and which objects have them.
 
-ghost use Rattle.std.specs.Prelude.{◌≡◌, ◌<◌, ◌∷◌, ◌++◌, [], List, None, Some, IfSome, IsTrue, OnErr, OnOk, length, option_and_then, option_map, slice_get, string_bytes};
+ghost use Rattle.std.specs.Prelude.{◌≡◌, ◌<◌, ◌∷◌, ◌++◌, [], List, None, Some, IfSome, IsTrue, OnErr, OnOk, length, option_and_then, option_map, slice_get, string_bytes, take};
 ghost use Rattle.ui_machine.specs.Definition.Types.{GType};
 ghost use Rattle.ui_machine.specs.Rules.Construction.{lent};
 ghost use Rattle.ui_machine.specs.State.Peers.{Peer, first_left, if_left, is_left, method_of, peer_number};
@@ -157,9 +157,8 @@ impl Seats {
         }
     }
 
-    /// The number of the first peer of these names that no object has got. It goes through the names from the first one on, so that objects
-    /// made of a prototype with many peers take the longer, the more of them are got.
-    pub fn first_left(&self, names: &[String]) -> Option<usize>
+    /// The number of the first peer of these names that no object has got. It goes through the names from the first one on.
+    pub(crate) fn first_left(&self, names: &[String]) -> Option<usize>
         ensures first { result ≡ first_left self.now (name_bytes names.now) }
         ensures within { IfSome result (λ number. number < length self.now) }
     {
@@ -169,6 +168,18 @@ impl Seats {
             }
         }
         None
+    }
+
+    /// How many of these names from the first one on are not of peers that are left, where it is known of so many that they are not.
+    pub(crate) fn got(&self, names: &[String], known: usize) -> usize
+        ensures { first_left self.now (take known (name_bytes names.now)) ≡ None → first_left self.now (take result (name_bytes names.now)) ≡ None }
+    {
+        'names: for number in known..names.len() {
+            if self.find_left(names[number].as_str()).is_some() {
+                return number;
+            }
+        }
+        names.len()
     }
 
     /// The peer of a number becomes an object's.

@@ -32,6 +32,8 @@ pub struct World {
     pub builder: Vec<BuilderEntry>,
     /// The peers of the pool.
     pub seats: Seats,
+    /// Of each place, how many of its peers from the first one on are known not to be left.
+    pub got_peers: Vec<usize>,
     pub transcript: Vec<String>,
     pub result: Option<Value>,
 }

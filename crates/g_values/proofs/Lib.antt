@@ -1,4 +1,3 @@
-pub mod Numbers
 pub mod Wholes
 pub mod Called
 pub mod Bars

@@ -21,7 +21,6 @@ pub use arithmetic::{
 };
 pub use error::{JsonError, JsonFault, TransformError, TransformFault};
 pub use kind::{Kind, is_known};
-pub use members::{has_number, known_bits};
 pub use reading::{MOST_TEXT_BYTES, from_json};
 pub use sameness::is_same;
 pub use transforming::{transform, transformable};

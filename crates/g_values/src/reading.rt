@@ -4,18 +4,20 @@ ghost use Rattle.std.specs.Prelude.{◌≡◌, ◌≤ℤ◌, ℤ, pos, map, opti
 ghost use Rattle.std.specs.Rc.{rc_str_bytes};
 ghost use Rattle.serde_json.specs.View.{view};
 ghost use Rattle.serde_json.specs.Find.{as_null, as_bool, as_str};
-ghost use Rattle.type_tree.specs.Entry.{enum_member, flags_member};
+ghost use Rattle.ui_machine.specs.Definition.Types.{enum};
+ghost use Rattle.ui_machine.specs.Output.Text.{members_of};
+ghost use Rattle.type_tree.specs.Adding.{sort_of};
+ghost use Rattle.type_tree.specs.Entry.{flags_member};
 ghost use Rattle.g_values.specs.View.{kind_view, value_view, value_kind, IsKnown};
 ghost use Rattle.g_values.specs.Reading.{whole_number, number_between, enum_number, flags_bits, text_or_null, expected, json_value, Means};
 
 use crate::error::{JsonError, JsonFault};
 use crate::kind::Kind;
-use crate::members::has_number;
 use crate::naming::{bits_named, enum_called};
 use crate::value::Value;
 use std::alloc::Global;
 use std::rc::RcStr;
-use type_tree::{EnumMember, FlagsMember, TypeTree};
+use type_tree::{FlagsMember, TypeId, TypeTree};
 
 /// The most bytes of a text.
 pub const MOST_TEXT_BYTES: usize = 4_096;
@@ -56,7 +58,7 @@ pub fn from_json(
             Ok(Value::UInt64(number as u64))
         }
         Kind::Text => Ok(Value::Text(text_in(alloc, json)?)),
-        Kind::Enum(t) => Ok(Value::Enum(t, enum_number_in(tree.enum_members(t), json)?)),
+        Kind::Enum(t) => Ok(Value::Enum(t, enum_number_in(tree, t, json)?)),
         Kind::Flags(t) => Ok(Value::Flags(t, bits_in(alloc, tree.flags_members(t), json)?)),
         Kind::Object(t) => {
             null_in(json)?;
@@ -119,14 +121,15 @@ fn text_in(alloc: Global, json: &serde_json::Value) -> Result<Option<RcStr>, Jso
 }
 
 // The number of a member of an enum, which is called or given itself.
-fn enum_number_in(members: &[EnumMember], json: &serde_json::Value) -> Result<i32, JsonFault>
-    ensures { result ≡ enum_number (map enum_member members.now) (as_str (view json.now)) (whole_number (view json.now)) }
+fn enum_number_in(tree: &TypeTree, t: TypeId, json: &serde_json::Value) -> Result<i32, JsonFault>
+    requires { sort_of tree.now t ≡ enum }
+    ensures { result ≡ enum_number (members_of tree.now t) (as_str (view json.now)) (whole_number (view json.now)) }
 {
     if let Some(word) = json.as_str() {
-        return enum_called(members, word).ok_or(JsonFault::UnknownMember);
+        return enum_called(tree.enum_members(t), word).ok_or(JsonFault::UnknownMember);
     }
     let number = number_in(json, i128::from(i32::MIN), i128::from(i32::MAX))?;
-    if has_number(members, number) {
+    if tree.has_number(t, number) {
         Ok(number as i32)
     } else {
         Err(JsonFault::UnknownMember)

@@ -13,7 +13,7 @@ ghost use Rattle.g_values.specs.View.{kind_view, value_view, value_kind, is_whol
 
 use crate::error::{TransformError, TransformFault};
 use crate::kind::Kind;
-use crate::members::{known_flags, member_number};
+use crate::members::known_flags;
 use crate::value::{Value, kind_of};
 use crate::whole::{number_text, wrapped_int, wrapped_int64, wrapped_uint, wrapped_uint64};
 use std::alloc::{AllocError, Global};
@@ -114,7 +114,7 @@ fn enum_value(tree: &TypeTree, t: TypeId, number: i128) -> Option<Value>
     requires { sort_of tree.now t ≡ enum }
     ensures { Becomes result (kinds.enum t) (if_so (has_number (members_of tree.now t) number) (values.enum t number)) }
 {
-    let number = member_number(tree.enum_members(t), number)?;
+    let number = tree.member_number(t, number)?;
     Some(Value::Enum(t, number))
 }
 
@@ -123,7 +123,7 @@ fn flags_value(tree: &TypeTree, t: TypeId, number: i128) -> Option<Value>
     requires { sort_of tree.now t ≡ flags }
     ensures { Becomes result (kinds.flags t) (if_so (is_known (members_of tree.now t) number) (values.flags t (unsigned_abs number))) }
 {
-    let bits = known_flags(tree.flags_members(t), number)?;
+    let bits = known_flags(tree, t, number)?;
     Some(Value::Flags(t, bits))
 }
 

@@ -9,22 +9,17 @@ use crate::stock_lists::StockKind;
 use native_peers::{AddFault, NotAdded, Peer, PeerPool};
 use std::alloc::AllocError;
 
-/// Adds a new peer of a kind at the end of a pool whose peers are all open. Where a peer of the name is there, the new one is passed over.
+/// Adds an open peer at the end of a pool whose peers are all open. Where a peer of the name is there, the new one is passed over.
 ///
 /// # Errors
 ///
 /// `AllocError` if memory is refused.
-pub fn put(
-    pool: &mut PeerPool,
-    name: &str,
-    kind: StockKind,
-    peer: Box<dyn Peer>,
-) -> Result<(), AllocError>
-    requires new { (⟦<dyn Peer as Peer>⟧ peer.vtable).state peer.value ≡ new_state kind }
+pub fn put(pool: &mut PeerPool, name: &str, peer: Box<dyn Peer>) -> Result<(), AllocError>
+    requires open { IsTrue ((⟦<dyn Peer as Peer>⟧ peer.vtable).state peer.value).is_open }
     requires all { All (λ p. IsTrue ((⟦<dyn Peer as Peer>⟧ p.peer.vtable).state p.peer.value).is_open) (entries pool.old) }
     ensures added { OnOk result (number_of (entries pool.old) name.now ≡ None → AppendsOne (λ p. (string_bytes p.name ≡ name.now) × (p.peer ≡ peer)) (entries pool.old) (entries pool.new)) }
     ensures passed_over { IsSome (number_of (entries pool.old) name.now) → entries pool.new ≡ entries pool.old }
-    ensures seen { OnOk result (seen (λ p. (⟦<dyn Peer as Peer>⟧ p.peer.vtable).state p.peer.value) (entries pool.new) ≡ with_peer (seen (λ p. (⟦<dyn Peer as Peer>⟧ p.peer.vtable).state p.peer.value) (entries pool.old)) (new_peer (record { name = name.now; kind = kind }))) }
+    ensures seen { OnOk result (seen (λ p. (⟦<dyn Peer as Peer>⟧ p.peer.vtable).state p.peer.value) (entries pool.new) ≡ with_peer (seen (λ p. (⟦<dyn Peer as Peer>⟧ p.peer.vtable).state p.peer.value) (entries pool.old)) (record { name = name.now; state = (⟦<dyn Peer as Peer>⟧ peer.vtable).state peer.value })) }
     ensures err { OnErr result (entries pool.new ≡ entries pool.old) }
     ensures open { All (λ p. IsTrue ((⟦<dyn Peer as Peer>⟧ p.peer.vtable).state p.peer.value).is_open) (entries pool.new) }
 {
@@ -43,4 +38,24 @@ pub fn put(
             },
         ) => Err(AllocError),
     }
+}
+
+/// Adds a new peer of a kind at the end of a pool whose peers are all open. Where a peer of the name is there, the new one is passed over.
+///
+/// # Errors
+///
+/// `AllocError` if memory is refused.
+pub(crate) fn put_new(
+    pool: &mut PeerPool,
+    name: &str,
+    kind: StockKind,
+    peer: Box<dyn Peer>,
+) -> Result<(), AllocError>
+    requires new { (⟦<dyn Peer as Peer>⟧ peer.vtable).state peer.value ≡ new_state kind }
+    requires all { All (λ p. IsTrue ((⟦<dyn Peer as Peer>⟧ p.peer.vtable).state p.peer.value).is_open) (entries pool.old) }
+    ensures seen { OnOk result (seen (λ p. (⟦<dyn Peer as Peer>⟧ p.peer.vtable).state p.peer.value) (entries pool.new) ≡ with_peer (seen (λ p. (⟦<dyn Peer as Peer>⟧ p.peer.vtable).state p.peer.value) (entries pool.old)) (new_peer (record { name = name.now; kind = kind }))) }
+    ensures open { All (λ p. IsTrue ((⟦<dyn Peer as Peer>⟧ p.peer.vtable).state p.peer.value).is_open) (entries pool.new) }
+{
+    put(pool, name, peer)?;
+    Ok(())
 }

@@ -5,7 +5,7 @@ ghost use Rattle.native_peers.specs.Pool.{entries, seen};
 ghost use Rattle.native_peers.specs.Seen.{Seen};
 ghost use Rattle.host_peers.specs.Stock.{stocked_pool};
 
-use crate::adding::put;
+use crate::adding::put_new;
 use crate::screens::Screen;
 use crate::stock_lists::{StockKind, stock};
 use crate::tallies::Tally;
@@ -45,11 +45,11 @@ pub fn run_with_stock<P: PoolProgram>(
         match peer.kind {
             StockKind::Screen => {
                 let screen = Box::new(alloc, Screen::new(alloc)?)?;
-                put(&mut pool, peer.name, StockKind::Screen, screen)?;
+                put_new(&mut pool, peer.name, StockKind::Screen, screen)?;
             }
             StockKind::Tally => {
                 let tally = Box::new(alloc, Tally::new(alloc)?)?;
-                put(&mut pool, peer.name, StockKind::Tally, tally)?;
+                put_new(&mut pool, peer.name, StockKind::Tally, tally)?;
             }
         }
     }

@@ -8,7 +8,6 @@ ghost use Rattle.host_peers.specs.Tallies.{tally_shape};
 
 use crate::adding::put;
 use crate::screens::{MOST_LINE_BYTES, Screen};
-use crate::stock_lists::StockKind;
 use crate::tallies::Tally;
 use g_values::Value;
 use native_peers::{Peer, PeerFault, PeerPool};
@@ -83,11 +82,11 @@ fn a_screen_keeps_lines(rt: HostRuntime) -> Result<(), Fail> {
 fn a_pool_takes_one_of_a_name(rt: HostRuntime) -> Result<(), Fail> {
     let mut pool = PeerPool::new(rt.alloc());
     let tally = Box::new(rt.alloc(), Tally::new(rt.alloc())?)?;
-    put(&mut pool, "sum", StockKind::Tally, tally)?;
+    put(&mut pool, "sum", tally)?;
     let screen = Box::new(rt.alloc(), Screen::new(rt.alloc())?)?;
-    put(&mut pool, "log", StockKind::Screen, screen)?;
+    put(&mut pool, "log", screen)?;
     let second = Box::new(rt.alloc(), Screen::new(rt.alloc())?)?;
-    put(&mut pool, "sum", StockKind::Screen, second)?;
+    put(&mut pool, "sum", second)?;
     assert_eq!(rt; pool.left(), 2);
     assert_eq!(rt; pool.find("sum"), Some(0));
     assert_eq!(rt; pool.find("log"), Some(1));

@@ -39,6 +39,11 @@ made_object class place vs peer = record {
   peer = peer;
 }
 
+-- how often an object is frozen, if it lives
+abbrev pub freezes_in : Option Object → ℕ
+freezes_in None = 0
+freezes_in (Some o) = o.freezes
+
 -- ** counts by identity
 
 -- how often an object is held

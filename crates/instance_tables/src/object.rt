@@ -1,6 +1,6 @@
 //! One object.
 
-ghost use Rattle.std.specs.Prelude.{◌≡◌, ◌+◌, map, reverse, length, nat_le, false, [], slice_get, OnOk, OnErr};
+ghost use Rattle.std.specs.Prelude.{◌≡◌, ◌+◌, ◌<◌, ◌↔◌, IsTrue, map, reverse, length, nat_le, false, [], slice_get, OnOk, OnErr};
 ghost use Rattle.std.specs.Option.{option_map};
 ghost use Rattle.ui_machine.specs.State.Objects.{value_at, with_value};
 ghost use Rattle.ui_machine.specs.Rules.NotifyQueue.{raised, frozen_more, frozen_less};
@@ -210,6 +210,13 @@ impl Object {
         }
         let old = mem::replace(&mut self.values[slot], value);
         Ok(old)
+    }
+
+    /// Whether its notifications are frozen.
+    pub fn is_frozen(&self) -> bool
+        ensures { IsTrue result ↔ (0 < self.now.freezes) }
+    {
+        self.queue.is_frozen()
     }
 
     /// Adds one freeze, unless there are as many as may be.

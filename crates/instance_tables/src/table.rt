@@ -1,6 +1,6 @@
 //! The objects by their identities.
 
-ghost use Rattle.std.specs.Prelude.{◌≡◌, ℕ, ◌+◌, ◌-◌, ◌<◌, ◌≤◌, ◌^◌, [], IfSome, IsSome, is_some, None, Ok, map, reverse, OnOk, OnErr};
+ghost use Rattle.std.specs.Prelude.{◌≡◌, ℕ, ◌+◌, ◌-◌, ◌<◌, ◌≤◌, ◌^◌, ◌↔◌, [], IfSome, IsSome, IsTrue, is_some, None, Ok, map, reverse, OnOk, OnErr};
 ghost use Rattle.ui_machine.specs.State.Objects.{asked, changed, living, value_at, with_value};
 ghost use Rattle.ui_machine.specs.State.References.{next_unheld};
 ghost use Rattle.ui_machine.specs.Rules.NotifyQueue.{raised, frozen_more, frozen_less};
@@ -10,7 +10,7 @@ ghost use Rattle.ui_machine.specs.Outcome.{Gives, Follows};
 ghost use Rattle.g_values.specs.View.{value_view};
 ghost use Rattle.ui_machine.specs.declared.ids.ObjectId.{ObjectId};
 ghost use Rattle.ui_machine.specs.declared.ids.Place.{Place};
-ghost use Rattle.instance_tables.specs.Store.{Shows, count_of, id_of, with_count, with_objects, has_room, may_hold, so_often, Creates};
+ghost use Rattle.instance_tables.specs.Store.{Shows, count_of, freezes_in, id_of, with_count, with_objects, has_room, may_hold, so_often, Creates};
 
 use crate::error::CreateError;
 use crate::instance::Instance;
@@ -179,6 +179,16 @@ impl Table {
             return Err(Arm::Operand);
         };
         instance.object.write(slot, value)
+    }
+
+    /// Whether an object lives and its notifications are frozen.
+    pub fn is_frozen(&self, id: ObjectId) -> bool
+        ensures { IsTrue result ↔ (0 < freezes_in (living self.now.objects id.0)) }
+    {
+        let Some(instance) = self.instances.get(&id.0) else {
+            return false;
+        };
+        instance.object.is_frozen()
     }
 
     /// Adds one freeze to an object.

@@ -10,10 +10,9 @@ use Rattle.ui_machine.specs.Seq.{read}
 use Rattle.ui_machine.specs.State.Objects.{Object, Objects, asked, changed, living, put, value_at, with_value}
 use Rattle.ui_machine.specs.Rules.NotifyQueue.{frozen_less, frozen_more, less_frozen, raised}
 use Rattle.instance_tables.specs.Release.{values_in}
-use Rattle.instance_tables.specs.Store.{Store, count_of, has_room, with_count, with_object}
+use Rattle.instance_tables.specs.Store.{Store, count_of, freezes_in, has_room, with_count, with_object}
 use Rattle.instance_tables.proofs.Families.{was_made}
 use Rattle.instance_tables.proofs.Moves.{count_here}
-use Rattle.instances.specs.Calls.{freezes_in}
 
 -- ** what is read
 

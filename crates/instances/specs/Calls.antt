@@ -14,11 +14,6 @@ use Rattle.instance_tables.specs.Release.{values_in}
 abbrev pub HasSlot : Store → ℕ → ℕ → Type 0
 HasSlot s id slot = slot < length (values_in (living s.objects id))
 
--- how often an object is frozen, if it lives
-abbrev pub freezes_in : Option Object → ℕ
-freezes_in None = 0
-freezes_in (Some o) = o.freezes
-
 -- how often a value that is written holds an object from then on: a strong slot holds what lives and may be held once more
 abbrev pub newly_held : Store → Bool → Value → ℕ → ℕ
 newly_held s strong v o = cond strong (cond (may_hold_any s (named_by v)) (in_value o v) 0) 0

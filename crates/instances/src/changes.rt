@@ -4,8 +4,8 @@ ghost use Rattle.std.specs.Prelude.{◌≡◌, ◌<◌, ◌^◌, ◌+◌, ◌-�
 ghost use Rattle.ui_machine.specs.Rules.NotifyQueue.{frozen_less, frozen_more, raised};
 ghost use Rattle.ui_machine.specs.State.Objects.{living};
 ghost use Rattle.g_values.specs.View.{value_view};
-ghost use Rattle.instance_tables.specs.Store.{count_of, with_count};
-ghost use Rattle.instances.specs.Calls.{Changes, HasSlot, Writes, freezes_in};
+ghost use Rattle.instance_tables.specs.Store.{count_of, freezes_in, with_count};
+ghost use Rattle.instances.specs.Calls.{Changes, HasSlot, Writes};
 ghost use Rattle.instances.specs.Heaps.{ChangesObjects, marks_of, objects_of};
 
 use crate::heaps::Heap;

@@ -1,13 +1,13 @@
 //! What is read of the objects of a heap.
 
-ghost use Rattle.std.specs.Prelude.{◌≡◌, ◌<◌, ℕ, IfSome, IsSome, Ok, Some, is_some, nat_eq, option_map};
+ghost use Rattle.std.specs.Prelude.{◌≡◌, ◌<◌, ◌↔◌, ℕ, IfSome, IsSome, IsTrue, Ok, Some, is_some, nat_eq, option_map};
 ghost use Rattle.std.specs.List.{list_any};
 ghost use Rattle.ui_machine.specs.Rules.Sets.{is_disposed};
 ghost use Rattle.ui_machine.specs.State.Objects.{asked, class_in, living, value_at};
 ghost use Rattle.ui_machine.specs.State.Objects as machine;
 ghost use Rattle.ui_machine.specs.State.References.{next_unheld};
 ghost use Rattle.g_values.specs.View.{value_view};
-ghost use Rattle.instance_tables.specs.Store.{count_of, id_of, may_hold};
+ghost use Rattle.instance_tables.specs.Store.{count_of, freezes_in, id_of, may_hold};
 ghost use Rattle.instances.specs.Calls.{HasSlot};
 ghost use Rattle.instances.specs.Heaps.{objects_of};
 
@@ -67,6 +67,13 @@ impl Heap<'_> {
         ensures { result ≡ is_disposed (living (objects_of self.now).objects id.0) }
     {
         self.table.is_disposed(id)
+    }
+
+    /// Whether an object lives and its notifications are frozen.
+    pub fn is_frozen(&self, id: ObjectId) -> bool
+        ensures { IsTrue result ↔ (0 < freezes_in (living (objects_of self.now).objects id.0)) }
+    {
+        self.table.is_frozen(id)
     }
 
     /// Whether an object floats.

@@ -2,7 +2,7 @@
 
 ghost use Rattle.std.specs.Prelude.{◌≡◌, IfOk, IsSome};
 ghost use Rattle.ui_machine.specs.State.Objects.{living};
-ghost use Rattle.instances.specs.Calls.{freezes_in};
+ghost use Rattle.instance_tables.specs.Store.{freezes_in};
 ghost use Rattle.instances.specs.Heaps.{classes_of, objects_of};
 
 use crate::call_faults::CallFault;
@@ -133,7 +133,31 @@ fn answer_of_queues(alloc: Global) -> Result<String, CallFault> {
     Ok(format!(in alloc; "{slots:?} {at_once:?}")?)
 }
 
-/// `tally NUMBER [disposed|finalised]`, `family`, `box SIZE`, `queues`, each on a heap of its own.
+// Freezes an object that lives and is not frozen.
+fn freeze(heap: &mut Heap<'_>, id: ObjectId) -> Result<(), CallFault> {
+    if !heap.is_live(id) || heap.is_frozen(id) {
+        return Err(CallFault::Line);
+    }
+    heap.freeze(id);
+    Ok(())
+}
+
+// Whether an object is frozen as it is new, once it is thawed, and once it is frozen again.
+fn answer_of_frozen(alloc: Global) -> Result<String, CallFault> {
+    let tables = HeapTables::new(alloc)?;
+    let mut heap = Heap::new(alloc, tables.classes(), 1, PeerPool::new(alloc));
+    let Ok(id) = create(&mut heap, tables.box_class) else {
+        return Err(CallFault::OutOfMemory);
+    };
+    let new = heap.is_frozen(id);
+    heap.thaw(id);
+    let thawed = heap.is_frozen(id);
+    freeze(&mut heap, id)?;
+    let again = heap.is_frozen(id);
+    Ok(format!(in alloc; "{new} {thawed} {again}")?)
+}
+
+/// `tally NUMBER [disposed|finalised]`, `family`, `box SIZE`, `queues`, `frozen`, each on a heap of its own.
 ///
 /// # Errors
 ///
@@ -147,6 +171,7 @@ pub fn answer_of_heaps(alloc: Global, call: &str, words: &str) -> Result<String,
         "family" => answer_of_family(alloc),
         "box" => answer_of_box(alloc, small_number(words)?),
         "queues" => answer_of_queues(alloc),
+        "frozen" => answer_of_frozen(alloc),
         _ => Err(CallFault::Line),
     }
 }

@@ -15,7 +15,7 @@ ghost use Rattle.param_specs.specs.View.{spec_view};
 ghost use Rattle.param_specs.specs.Validation.{Takes, KnowsClass, IsWithin, Corrects};
 
 use crate::spec::Spec;
-use g_values::{Kind, Value, has_number, kind_of, known_bits};
+use g_values::{Kind, Value, kind_of};
 use type_tree::{TypeId, TypeTree};
 use ui_machine::ObjectId;
 
@@ -188,7 +188,7 @@ fn corrected_enum(tree: &TypeTree, spec: &Spec, t: TypeId, number: i32) -> Optio
     ensures kind { IfSome result (λ w. value_kind w ≡ kinds.enum t) }
     ensures value { Corrects result (cond (has_number (members_of tree.now t) number) (values.enum t number) (value_view spec.now.default)) (values.enum t number) }
 {
-    if has_number(tree.enum_members(t), i128::from(number)) {
+    if tree.has_number(t, i128::from(number)) {
         return None;
     }
     match spec.default {
@@ -207,7 +207,7 @@ fn corrected_flags(tree: &TypeTree, t: TypeId, bits: u32) -> Option<Value>
     ensures kind { IfSome result (λ w. value_kind w ≡ kinds.flags t) }
     ensures value { Corrects result (values.flags t (bit_and bits (known_bits (members_of tree.now t)))) (values.flags t bits) }
 {
-    let known = bits & known_bits(tree.flags_members(t));
+    let known = bits & tree.known_bits(t);
     if known == bits {
         return None;
     }
@@ -312,7 +312,7 @@ fn is_valid_enum(tree: &TypeTree, spec: &Spec, t: TypeId) -> bool
     ensures { result ≡ is_valid (λ id. None) tree.now (spec_view spec.now) (value_view spec.now.default) }
 {
     match spec.default {
-        Value::Enum(u, n) => u == t && has_number(tree.enum_members(t), i128::from(n)),
+        Value::Enum(u, n) => u == t && tree.has_number(t, i128::from(n)),
         _ => false,
     }
 }
@@ -323,7 +323,7 @@ fn is_valid_flags(tree: &TypeTree, spec: &Spec, t: TypeId) -> bool
     ensures { result ≡ is_valid (λ id. None) tree.now (spec_view spec.now) (value_view spec.now.default) }
 {
     match spec.default {
-        Value::Flags(u, bits) => u == t && bits & known_bits(tree.flags_members(t)) == bits,
+        Value::Flags(u, bits) => u == t && bits & tree.known_bits(t) == bits,
         _ => false,
     }
 }

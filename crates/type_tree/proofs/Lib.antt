@@ -5,3 +5,5 @@ pub mod Missing
 pub mod Texts
 pub mod Nicks
 pub mod Dashes
+mod Bits
+mod Numbered

@@ -1,22 +1,13 @@
 -- What the entries of a tree stand for.
-use Rattle.std.specs.Prelude.{ℕ, pos, false, List, [], map, None, Some, string_bytes}
+use Rattle.std.specs.Prelude.{ℕ, false, List, [], map, None, Some}
 use Rattle.ui_machine.specs.Definition.Types.{GType, Member}
 use Rattle.ui_machine.specs.Definition.Types as sorts
-use Rattle.type_tree.specs.declared.member.EnumMember.{EnumMember}
-use Rattle.type_tree.specs.declared.member.FlagsMember.{FlagsMember}
+pub use Rattle.type_tree.specs.Members.{enum_member, flags_member}
 use Rattle.type_tree.specs.declared.entry.TypeFlags.{TypeFlags}
 use Rattle.type_tree.specs.declared.entry.TypeSort.{TypeSort}
 use Rattle.type_tree.specs.declared.entry.TypeSort.TheVariants as words
 use Rattle.type_tree.specs.declared.entry.TypeEntry.{TypeEntry}
 use Rattle.type_tree.specs.declared.entry.TypeEntry.TheVariants.{Class, Interface, Enum, Flags}
-
--- a member of an enum
-abbrev pub enum_member : EnumMember → Member
-enum_member m = record { name = string_bytes m.name; nick = string_bytes m.nick; number = m.number }
-
--- a member of a flags type
-abbrev pub flags_member : FlagsMember → Member
-flags_member m = record { name = string_bytes m.name; nick = string_bytes m.nick; number = pos m.bits }
 
 -- a type that is no class
 abbrev pub plain_type : List ℕ → sorts.Sort → List ℕ → List Member → GType
@@ -37,8 +28,8 @@ abbrev pub type_of : List ℕ → TypeEntry → GType
 type_of name (Class c) =
     record { name = name; sort = sorts.class; parent = c.parent; is_abstract = c.flags.is_abstract; is_final = c.flags.is_final; interfaces = c.interfaces.items; members = [] }
 type_of name (Interface required) = plain_type name sorts.interface required.items []
-type_of name (Enum members) = plain_type name sorts.enum [] (map enum_member members.items)
-type_of name (Flags members) = plain_type name sorts.flags [] (map flags_member members.items)
+type_of name (Enum members) = plain_type name sorts.enum [] (map enum_member members)
+type_of name (Flags members) = plain_type name sorts.flags [] (map flags_member members)
 
 -- the sort that the code's word names
 abbrev pub view_of_sort : TypeSort → sorts.Sort

@@ -7,7 +7,9 @@ ghost use Rattle.type_tree.specs.Adding.{Adds, class_named, interface_named, req
 ghost use Rattle.type_tree.specs.Entry.{class_type, interface_type, enum_member, flags_member};
 
 use crate::entry::{ClassEntry, TypeEntry, TypeFlags, TypeSort};
+use crate::enum_members::EnumMembers;
 use crate::error::{TypeError, TypeFault, TypeLimit};
+use crate::flags_members::FlagsMembers;
 use crate::member::{EnumMember, FlagsMember};
 use crate::name::is_type_name;
 use crate::tree::{MOST_DEPTH, MOST_TYPES, TypeTree, contains};
@@ -299,6 +301,7 @@ impl TypeTree {
         if let Some(fault) = self.members_fault(name) {
             return Err(TypeError::Refused(fault));
         }
+        let members = EnumMembers::new(self.allocator(), members)?;
         self.append(name, TypeEntry::Enum(members))
     }
 
@@ -309,7 +312,7 @@ impl TypeTree {
         if let Some(fault) = self.members_fault(name) {
             return Err(TypeError::Refused(fault));
         }
-        self.append(name, TypeEntry::Flags(members))
+        self.append(name, TypeEntry::Flags(FlagsMembers::new(members)))
     }
 
     /// Adds a class whose name and room were tested: under a parent, with the interfaces that it implements.
@@ -368,6 +371,7 @@ impl TypeTree {
         ensures enumerated { IfOk result (λ t. t ≡ length self.old) }
         ensures err { OnErr result (self.new ≡ self.old) }
     {
+        let members = EnumMembers::new(self.allocator(), members)?;
         let Ok(t) = self.append(name, TypeEntry::Enum(members)) else {
             return Err(AllocError);
         };
@@ -386,7 +390,7 @@ impl TypeTree {
         ensures flags { IfOk result (λ t. t ≡ length self.old) }
         ensures err { OnErr result (self.new ≡ self.old) }
     {
-        let Ok(t) = self.append(name, TypeEntry::Flags(members)) else {
+        let Ok(t) = self.append(name, TypeEntry::Flags(FlagsMembers::new(members))) else {
             return Err(AllocError);
         };
         Ok(t)

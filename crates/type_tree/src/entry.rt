@@ -1,10 +1,13 @@
 //! What a tree keeps of a type beside its name.
 
-ghost use Rattle.std.specs.Prelude.{◌≡◌, ◌↔◌, ℕ, List, map, IsTrue};
+ghost use Rattle.std.specs.Prelude.{◌≡◌, ◌↔◌, ℕ, List, MatchOption, false, map, true, IsTrue};
 ghost use Rattle.ui_machine.specs.Definition.Types.{enum, flags};
 ghost use Rattle.ui_machine.specs.Rules.Ancestry.{implemented};
+ghost use Rattle.ui_machine.specs.Rules.Transform.{has_number, known_bits};
 ghost use Rattle.type_tree.specs.Entry.{type_of, enum_member, flags_member};
 
+use crate::enum_members::EnumMembers;
+use crate::flags_members::FlagsMembers;
 use crate::member::{EnumMember, FlagsMember};
 use crate::type_id::TypeId;
 
@@ -22,8 +25,8 @@ pub struct TypeFlags {
 pub enum TypeEntry {
     Class(ClassEntry),
     Interface(Vec<TypeId>),
-    Enum(Vec<EnumMember>),
-    Flags(Vec<FlagsMember>),
+    Enum(EnumMembers),
+    Flags(FlagsMembers),
 }
 
 /// A class, but for its name.
@@ -122,6 +125,43 @@ impl TypeEntry {
             TypeEntry::Class(_) => &[],
             TypeEntry::Interface(_) => &[],
             TypeEntry::Enum(_) => &[],
+        }
+    }
+
+    /// Whether a member of an enum has this number.
+    pub fn has_number(&self, number: i128) -> bool
+        ensures { (name : List ℕ) → (type_of name self.now).sort ≡ enum → result ≡ has_number (type_of name self.now).members number }
+    {
+        match self {
+            TypeEntry::Enum(members) => members.has_number(number),
+            TypeEntry::Class(_) => false,
+            TypeEntry::Interface(_) => false,
+            TypeEntry::Flags(_) => false,
+        }
+    }
+
+    /// A number as that of a member of an enum, if one has it.
+    pub fn member_number(&self, number: i128) -> Option<i32>
+        ensures { (name : List ℕ) → (type_of name self.now).sort ≡ enum → MatchOption result (has_number (type_of name self.now).members number ≡ false)
+            (λ n. (n ≡ number) × (has_number (type_of name self.now).members number ≡ true)) }
+    {
+        match self {
+            TypeEntry::Enum(members) => members.member_number(number),
+            TypeEntry::Class(_) => None,
+            TypeEntry::Interface(_) => None,
+            TypeEntry::Flags(_) => None,
+        }
+    }
+
+    /// All bits of all members of a flags type.
+    pub fn known_bits(&self) -> u32
+        ensures { (name : List ℕ) → (type_of name self.now).sort ≡ flags → result ≡ known_bits (type_of name self.now).members }
+    {
+        match self {
+            TypeEntry::Flags(members) => members.known_bits(),
+            TypeEntry::Class(_) => 0,
+            TypeEntry::Interface(_) => 0,
+            TypeEntry::Enum(_) => 0,
         }
     }
 

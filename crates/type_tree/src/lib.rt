@@ -5,7 +5,9 @@
 
 mod adding;
 mod entry;
+mod enum_members;
 mod error;
+mod flags_members;
 mod member;
 mod member_name;
 mod name;

@@ -2,10 +2,10 @@
 
 ghost use Rattle.std.specs.Prelude.{◌≡◌, ℕ, List, map, pos};
 ghost use Rattle.ui_machine.specs.Output.Text.{members_of, nick_of};
-ghost use Rattle.type_tree.specs.Entry.{type_of, enum_member, flags_member};
+ghost use Rattle.type_tree.specs.Entry.{type_of, flags_member};
 
 use crate::entry::TypeEntry;
-use crate::member::{EnumMember, FlagsMember};
+use crate::member::FlagsMember;
 use crate::tree::TypeTree;
 use crate::type_id::TypeId;
 
@@ -15,24 +15,13 @@ impl TypeTree {
         ensures { result.now ≡ nick_of (members_of self.now t) number }
     {
         match self.entry(t) {
-            Some(TypeEntry::Enum(members)) => enum_nick(members, number),
-            Some(TypeEntry::Flags(members)) => flags_nick(members, number),
+            Some(TypeEntry::Enum(members)) => members.nick(number),
+            Some(TypeEntry::Flags(members)) => flags_nick(members.as_slice(), number),
             Some(TypeEntry::Class(_)) => "",
             Some(TypeEntry::Interface(_)) => "",
             None => "",
         }
     }
-}
-
-fn enum_nick(members: &[EnumMember], number: i32) -> &str
-    ensures { result.now ≡ nick_of (map enum_member members.now) number }
-{
-    for member in members {
-        if member.number == number {
-            return member.nick.as_str();
-        }
-    }
-    ""
 }
 
 fn flags_nick(members: &[FlagsMember], number: i32) -> &str

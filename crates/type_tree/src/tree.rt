@@ -1,11 +1,12 @@
 //! The tree, and what it tells of its types.
 
-ghost use Rattle.std.specs.Prelude.{◌≡◌, ℕ, ◌+◌, ◌<◌, ◌≤◌, List, [], ◌∷◌, ◌++◌, length, map, string_bytes, Option, None, Some, option_map, IsSome, IfSome, IfNone, ◌↔◌, nat_eq, IsTrue};
+ghost use Rattle.std.specs.Prelude.{◌≡◌, ℕ, ◌+◌, ◌<◌, ◌≤◌, List, [], ◌∷◌, ◌++◌, length, map, string_bytes, Option, None, Some, option_map, IsSome, IfSome, IfNone, MatchOption, ◌↔◌, false, nat_eq, true, IsTrue};
 ghost use Rattle.std.specs.List.{list_any};
 ghost use Rattle.std.specs.Option.{ForSome};
 ghost use Rattle.ui_machine.specs.Seq.{read};
 ghost use Rattle.ui_machine.specs.Definition.Types.{GType, enum, flags};
 ghost use Rattle.ui_machine.specs.Output.Text.{no_type, members_of};
+ghost use Rattle.ui_machine.specs.Rules.Transform.{has_number, known_bits};
 ghost use Rattle.ui_machine.specs.Rules.Ancestry.{is_a, depth, parent_of, implemented_by, is_or_implements};
 ghost use Rattle.type_tree.specs.Entry.{type_of, enum_member, flags_member, view_of_sort};
 ghost use Rattle.type_tree.specs.Adding.{Adds, find_type, sort_of};
@@ -166,6 +167,37 @@ impl TypeTree {
         match self.entry(t) {
             Some(entry) => entry.flags_members(),
             None => &[],
+        }
+    }
+
+    /// Whether a member of an enum has this number.
+    pub fn has_number(&self, t: TypeId, number: i128) -> bool
+        ensures { sort_of self.now t ≡ enum → result ≡ has_number (members_of self.now t) number }
+    {
+        match self.entry(t) {
+            Some(entry) => entry.has_number(number),
+            None => false,
+        }
+    }
+
+    /// A number as that of a member of an enum, if one has it.
+    pub fn member_number(&self, t: TypeId, number: i128) -> Option<i32>
+        ensures { sort_of self.now t ≡ enum → MatchOption result (has_number (members_of self.now t) number ≡ false)
+            (λ n. (n ≡ number) × (has_number (members_of self.now t) number ≡ true)) }
+    {
+        match self.entry(t) {
+            Some(entry) => entry.member_number(number),
+            None => None,
+        }
+    }
+
+    /// All bits of all members of a flags type.
+    pub fn known_bits(&self, t: TypeId) -> u32
+        ensures { sort_of self.now t ≡ flags → result ≡ known_bits (members_of self.now t) }
+    {
+        match self.entry(t) {
+            Some(entry) => entry.known_bits(),
+            None => 0,
         }
     }
 

@@ -13,4 +13,5 @@ mod starts;
 pub use cores::Core;
 pub use engine_pools::Reply;
 pub use faults::{SessionFault, StartFault};
+pub use frame_stacks::{Frame, Frames};
 pub use session::{Finished, Refused, Session, Started};

@@ -48,7 +48,8 @@ fn first_engine(alloc: Global, definition: &Definition, seats: Seats) -> Result<
     ensures world { IfOk result (λ engine. world_of engine.world ≡ said definition.now (first_world definition.now seats) lines.build) }
 {
     let weak = weak_slots(alloc, definition)?;
-    let mut engine = Engine::new(alloc, weak, definition.limits(), seats);
+    let got_peers = vec![in alloc; 0; definition.place_count()]?;
+    let mut engine = Engine::new(alloc, weak, definition.limits(), seats, got_peers);
     announce(&mut engine)?;
     Ok(engine)
 }

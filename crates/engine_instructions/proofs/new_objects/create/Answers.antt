@@ -23,7 +23,7 @@ returns-in_default-clause-step c =
     let w = world_of e.world in
     let f = frame_view c.args.frame in
     stuck_left d e (creating d w (agenda_of d e) f c.args.to.0 c.args.id.now) arms.Code
-    (creates_none d w (agenda_of d e) f c.args.to.0 c.args.id.now arms.Code (sym c.in_default.ensures))
+    (creates_none d w (agenda_of d e) f c.args.to.0 c.args.id.now arms.Code (sym c.in_default.ensures.named))
 
 pub returns-then-not-may_create-clause-step : goal.returns-then-not-may_create-clause-step
 returns-then-not-may_create-clause-step c =
@@ -34,7 +34,7 @@ returns-then-not-may_create-clause-step c =
     let q = prototype_of c.in-Some.prototype in
     let there = is_there c.new_peer-peer.result in
     let full : (has_room d w (to_make (agenda_of d e)) && there) ≡ false = sym c.if-not-may_create.ensures in
-    let refused = creates d w (agenda_of d e) f c.args.to.0 c.args.id.now q false there (taken c.new_peer-peer.result) (sym c.in-Some.ensures) full c.new_peer-peer.ensures.there c.new_peer-peer.ensures.taken
+    let refused = creates d w (agenda_of d e) f c.args.to.0 c.args.id.now q false there (taken c.new_peer-peer.result) (sym c.in-Some.ensures.named) full c.new_peer-peer.ensures.there c.new_peer-peer.ensures.taken
     ∙ ap (λ (v : Value). gives (said d w (lines.limit (codes "new"))) c.args.to.0 v f) (sym c.object_or_null.ensures) in
     rw refused c.write_null_and_say_limit.ensures.step
 
@@ -53,6 +53,6 @@ returns-clause-step c =
     let q = prototype_of c.in-Some.prototype in
     let there = is_there c.new_peer-peer.result in
     let room : (has_room d w (to_make (agenda_of d e)) && there) ≡ true = sym c.if-not-may_create.ensures in
-    let made = creates d w (agenda_of d e) f c.args.to.0 c.args.id.now q true there (taken c.new_peer-peer.result) (sym c.in-Some.ensures) room c.new_peer-peer.ensures.there c.new_peer-peer.ensures.taken
+    let made = creates d w (agenda_of d e) f c.args.to.0 c.args.id.now q true there (taken c.new_peer-peer.result) (sym c.in-Some.ensures.named) room c.new_peer-peer.ensures.there c.new_peer-peer.ensures.taken
     ∙ ap (λ (p : Option ℕ). created d w f c.args.to.0 q.number p) (sym c.number.ensures) in
     rw made c.create_at.ensures.step

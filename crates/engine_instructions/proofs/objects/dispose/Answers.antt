@@ -51,7 +51,7 @@ returns-clause-counted c =
     let left = finalised_agenda d e c.disconnect_object.new.self new.world c.args.object.0 c.disconnect_object.ensures.left handlers c.last-last.ensures.rises in
     let whole = beside ∙ ap (λ (w : World). record e { world = w; closing = new.closing }) (sym world) in
     subst (λ (g : Engine). KeepsCounts d e g) (sym whole)
-    (keeps_disposed d e c.dispose.new.self c.disconnect_object.new.self c.end_of.new.self new.world (gone_handlers (world_of new.world)) c.args.object.0 new.closing (c.dispose.ensures.disposes d)
+    (keeps_disposed d e c.dispose.new.self c.disconnect_object.new.self c.end_of.new.self new.world (gone_handlers (world_of new.world)) c.args.object.0 new.closing (c.dispose.ensures.disposes d) c.say_and_close.ensures.left
     (only_list c.disconnect_object.new.self e.world.handlers (without_object c.args.object.0 e.world.handlers.handlers) c.disconnect_object.ensures.left)
     world (ap (λ (h : Connected). tasks_of d h.handlers e.stack) (sym handlers) ∙ left))
 

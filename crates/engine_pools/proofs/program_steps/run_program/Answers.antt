@@ -12,6 +12,7 @@ use Rattle.ui_machine.specs.State.Tasks.{Registers}
 use Rattle.ui_machine.specs.Steps.{left}
 use Rattle.frames.specs.FrameView.{Taken, frame_view}
 use Rattle.bytecode.specs.View.{instruction_view, program_view}
+use Rattle.engine_world.specs.Counting.{PassesGot}
 use Rattle.engine_world.specs.EngineView.{config_of}
 use Rattle.engine_world.specs.Standing.{GoesWithoutGone}
 use Rattle.engine_world.specs.TaskView.{agenda_of}
@@ -48,7 +49,7 @@ execute-requires c =
     let is = c.in_ok-count.ensures.ok.1 in
     let t : Taken = record { instruction = instruction_view c.in-Some-take.instruction.now; frame = frame_view c.take.new.self } in
     let kept = taken_keeps (program_view c.in-Some.program.now) (frame_view c.args.frame) t c.in-Some-take.ensures in
-    let same = keeps_same d e b (ap (λ (g : Engine). g.world.table) is) (ap (λ (g : Engine). g.world.weak) is) (ap (λ (g : Engine). g.world.context) is) (ap (λ (g : Engine). g.world.builder) is) (ap (λ (g : Engine). g.stack) is) (ap (λ (g : Engine). g.world.handlers) is) in
+    let same = keeps_same d e b (ap (λ (g : Engine). g.world.table) is) (ap (λ (g : Engine). g.world.weak) is) (subst (λ (g : Engine). PassesGot d g) (sym is)) (ap (λ (g : Engine). g.world.context) is) (ap (λ (g : Engine). g.world.builder) is) (ap (λ (g : Engine). g.stack) is) (ap (λ (g : Engine). g.world.handlers) is) in
     record {
       program = ap (program_at d) kept.1 ∙ sym c.in-Some.ensures.program;
       result = c.in-Some.ensures.known.2;

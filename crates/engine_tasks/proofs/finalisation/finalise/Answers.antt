@@ -9,7 +9,7 @@ use Rattle.ui_machine.specs.State.Objects.{living}
 use Rattle.ui_machine.specs.Steps.{uncounted, finalising}
 use Rattle.instance_tables.specs.Weak.{Knows}
 use Rattle.engine_world.specs.ClosingView.{closed_with, or_number}
-use Rattle.engine_world.specs.Counting.{KeepsCounts}
+use Rattle.engine_world.specs.Counting.{KeepsCounts, PassesGot}
 use Rattle.engine_world.specs.declared.engine.Engine.{Engine}
 use Rattle.engine_world.specs.declared.task.Stack.{Stack}
 use Rattle.engine_world.specs.declared.world.World.{World}
@@ -80,12 +80,12 @@ returns-clause-counted c =
     let beside = c.say_and_close.ensures.beside in
     let world = ap (λ (g : Engine). g.world) beside in
     let handlers = ap (λ (w : World). w.handlers) world in
-    let same = keeps_same d e f (ap (λ (g : Engine). g.world.table) is) (ap (λ (g : Engine). g.world.weak) is) (ap (λ (g : Engine). g.world.context) is) (ap (λ (g : Engine). g.world.builder) is) (ap (λ (g : Engine). g.stack) is) (ap (λ (g : Engine). g.world.handlers) is) in
+    let same = keeps_same d e f (ap (λ (g : Engine). g.world.table) is) (ap (λ (g : Engine). g.world.weak) is) (subst (λ (g : Engine). PassesGot d g) (sym is)) (ap (λ (g : Engine). g.world.context) is) (ap (λ (g : Engine). g.world.builder) is) (ap (λ (g : Engine). g.stack) is) (ap (λ (g : Engine). g.world.handlers) is) in
     let left = finalised_agenda d f c.disconnect_object.new.self new.world c.args.object.0 c.disconnect_object.ensures.left handlers c.last-last.ensures.rises in
     let whole = beside ∙ ap (λ (w : World). record f { world = w; closing = new.closing }) (sym world) in
     keeps_on d _ _ _ same
     (subst (λ (g : Engine). KeepsCounts d f g) (sym whole)
-    (keeps_finalised d f c.finalise.new.self c.disconnect_object.new.self c.end_of.new.self new.world (gone_handlers (world_of new.world)) c.args.object.0 f.counted new.closing (c.finalise.ensures.finalises d)
+    (keeps_finalised d f c.finalise.new.self c.disconnect_object.new.self c.end_of.new.self new.world (gone_handlers (world_of new.world)) c.args.object.0 f.counted new.closing (c.finalise.ensures.finalises d) c.say_and_close.ensures.left
     (only_list c.disconnect_object.new.self f.world.handlers (without_object c.args.object.0 f.world.handlers.handlers) c.disconnect_object.ensures.left)
     world (ap (λ (h : Connected). tasks_of d h.handlers f.stack) (sym handlers) ∙ left)))
 

@@ -18,6 +18,7 @@ use Rattle.signal_core.specs.Emission.{begun}
 use Rattle.signal_core.specs.Laws.{walk_for}
 use Rattle.signal_core.specs.declared.emission.Emission.{Emission}
 use Rattle.definition_format.specs.Meaning.{planned}
+use Rattle.engine_world.specs.Counting.{PassesGot}
 use Rattle.engine_world.specs.View.{with_line, world_of}
 use Rattle.engine_world.specs.TaskView.{agenda_of, emission_of, entries_to_come}
 use Rattle.engine_world.specs.declared.engine.Engine.{Engine}
@@ -92,6 +93,6 @@ returns-clause-counted c =
     let d = c.args.definition.now in
     let e = c.args.engine.now in
     let is = c.in_ok-count.ensures.ok.1 in
-    let same = keeps_same d e c.count.new.engine (ap (λ (f : Engine). f.world.table) is) (ap (λ (f : Engine). f.world.weak) is) (ap (λ (f : Engine). f.world.context) is) (ap (λ (f : Engine). f.world.builder) is) (ap (λ (f : Engine). f.stack) is)
+    let same = keeps_same d e c.count.new.engine (ap (λ (f : Engine). f.world.table) is) (ap (λ (f : Engine). f.world.weak) is) (subst (λ (f : Engine). PassesGot d f) (sym is)) (ap (λ (f : Engine). f.world.context) is) (ap (λ (f : Engine). f.world.builder) is) (ap (λ (f : Engine). f.stack) is)
     (ap (λ (f : Engine). f.world.handlers) is) in
     record { at = λ taken h. c.in_ok-start_emission.ensures.counted d taken (taken_alike d c.count.new.engine _ _ (λ o. omega (arith, ap (λ (vs : List Value). total (in_value o) (map value_view vs)) c.new-args.ensures.items)) (same.at taken h)) }

@@ -19,4 +19,4 @@ returns-clause-step c =
 pub returns-clause-counted : goal.returns-clause-counted
 returns-clause-counted c =
     let d = c.args.definition.now in
-    keeps_on d _ _ _ (keeps_same d c.args.engine.now _ refl refl refl refl refl refl) (keeps_on d _ _ _ (c.in_ok-push_task.ensures.counted d) (c.in_ok-push_task-2.ensures.counted d))
+    keeps_on d _ _ _ (keeps_same d c.args.engine.now _ refl refl (λ g. g) refl refl refl refl) (keeps_on d _ _ _ (c.in_ok-push_task.ensures.counted d) (c.in_ok-push_task-2.ensures.counted d))

@@ -5,6 +5,7 @@ use Rattle.ui_machine.specs.Rules.Transfers.{set_by, transferring}
 use Rattle.ui_machine.specs.State.Config.{Config, Started}
 use Rattle.ui_machine.specs.Steps.{before, counted, uncounted}
 use Rattle.g_values.specs.View.{value_view}
+use Rattle.engine_world.specs.Counting.{PassesGot}
 use Rattle.engine_world.specs.EngineView.{config_of}
 use Rattle.engine_world.specs.TaskView.{agenda_of}
 use Rattle.engine_world.specs.View.{world_of}
@@ -55,5 +56,5 @@ returns-clause-counted c =
     let e = c.args.engine.now in
     let f = c.count.new.engine in
     let is = c.in_ok-count.ensures.ok.1 in
-    let same = keeps_same d e f (ap (λ (x : Engine). x.world.table) is) (ap (λ (x : Engine). x.world.weak) is) (ap (λ (x : Engine). x.world.context) is) (ap (λ (x : Engine). x.world.builder) is) (ap (λ (x : Engine). x.stack) is) (ap (λ (x : Engine). x.world.handlers) is) in
+    let same = keeps_same d e f (ap (λ (x : Engine). x.world.table) is) (ap (λ (x : Engine). x.world.weak) is) (subst (λ (x : Engine). PassesGot d x) (sym is)) (ap (λ (x : Engine). x.world.context) is) (ap (λ (x : Engine). x.world.builder) is) (ap (λ (x : Engine). x.stack) is) (ap (λ (x : Engine). x.world.handlers) is) in
     on_ok c.set_by.result (λ kept. keeps_on d _ _ _ same kept) c.set_by.ensures.counted

@@ -11,6 +11,7 @@ use Rattle.definitions.specs.EntryView.{entry_view}
 use Rattle.instance_tables.specs.Store.{made_object}
 use Rattle.instance_tables.proofs.Created.{made_holds}
 use Rattle.engine_world.specs.View.{with_line, world_of}
+use Rattle.engine_world.proofs.Counts.{keeps_by, keeps_on, stays}
 use Rattle.engine_world.proofs.Building.{made_there, valid_defaults}
 use Rattle.engine_world.proofs.objects.make.Goals as goal
 
@@ -38,5 +39,8 @@ returns-clause-counted c =
     let place = entry_view c.in-Some.entry in
     let at : slice_get d.places c.args.place.0 ≡ Some place = sym c.in-Some.ensures in
     let valid = valid_defaults d c.types-types.ensures.basic (world_of c.args.engine.now.world) c.args.place.0 place at in
-    c.in_ok-object.ensures.counted
-    (λ o. omega (arith, ap (in_values o (specs_of d class)) c.in_ok-values.ensures, made_holds d c.args.place.0 place c.args.peer o valid))
+    let e = c.args.engine.now in
+    let b = record e { world = record e.world { got_peers = c.count_got.new.got } } in
+    keeps_on d e b _ (keeps_by d e b refl (c.count_got.ensures d place at refl) refl (stays d e b refl refl) (λ taken _ h. h))
+    (c.in_ok-object.ensures.counted
+    (λ o. omega (arith, ap (in_values o (specs_of d class)) c.in_ok-values.ensures, made_holds d c.args.place.0 place c.args.peer o valid)))

@@ -1,4 +1,4 @@
-use Rattle.std.proofs.Common.{ap, subst, sym, ◌∙◌}
+use Rattle.std.proofs.Common.{ℕ, Global, Vec, ap, subst, sym, ◌∙◌}
 use Rattle.ui_machine.specs.Output.Lines as lines
 use Rattle.ui_machine.specs.State.Config.{World, said}
 use Rattle.signal_core.specs.Connected.{Connected}
@@ -6,6 +6,7 @@ use Rattle.engine_world.specs.declared.engine.Engine.{Engine}
 use Rattle.engine_world.specs.Counting.{Connects}
 use Rattle.engine_world.specs.KnownHandlers.{AllTakeKnownHandlers}
 use Rattle.engine_world.specs.TaskView.{agenda_of}
+use Rattle.engine_world.proofs.GotPeers.{zeros_got}
 use Rattle.ui_engine.proofs.Beginning.{none_counted_with}
 use Rattle.ui_engine.proofs.starts.first_engine.Goals as goal
 
@@ -22,6 +23,8 @@ returns-clause-rests c =
     let idle = ap (λ (e : Engine). agenda_of d e) beside ∙ c.new-engine.ensures.idle d in
     let marks = ap (λ (e : Engine). e.world.weak) beside ∙ c.new-engine.ensures.marks in
     let same = ap (λ (e : Engine). e.world.handlers) beside ∙ c.new-engine.ensures.handlers in
+    let got = ap (λ (e : Engine). e.world.got_peers) beside ∙ c.new-engine.ensures.got in
+    let passes = zeros_got d c.announce.new.engine.world.seats c.announce.new.engine.world.got_peers.items _ (ap (λ (ns : Vec ℕ Global). ns.items) got ∙ c.in_ok-got_peers.ensures.items_if_clones_equal (λ y same. same)) in
     let connects : Connects d c.announce.new.engine = record {
       most = ap (λ (h : Connected). h.most) same ∙ c.limits.ensures.handlers;
       to_come = ap (λ (h : Connected). h.to_come) same;
@@ -30,4 +33,4 @@ returns-clause-rests c =
           (subst (λ (e : Engine). AllTakeKnownHandlers 0 e.stack) (sym beside) c.new-engine.ensures.begun);
     } in
     let counts = ap (λ (e : Engine). e.world.table.counts) beside ∙ c.new-engine.ensures.counts in
-    record { counts = none_counted_with d c.args.seats c.announce.new.engine c.in_ok-weak.weak c.in_ok-weak.ensures connects marks counts world idle; idle = idle }
+    record { counts = none_counted_with d c.args.seats c.announce.new.engine c.in_ok-weak.weak c.in_ok-weak.ensures passes connects marks counts world idle; idle = idle }

@@ -13,6 +13,7 @@ invariant_of-self c goes_on =
       record {
         counts = record {
           knows = kept.0.counts.knows;
+          passes = kept.0.counts.passes;
           connects = stays c.self.inside.verified c.self.inside.engine _ refl refl kept.0.counts.connects;
           exact = kept.0.counts.exact;
         };

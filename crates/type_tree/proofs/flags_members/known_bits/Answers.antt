@@ -1,6 +1,6 @@
 use Rattle.std.proofs.Common.{◌∙◌, sym}
-use Rattle.g_values.proofs.Numbers.{bits_more, no_more}
-use Rattle.g_values.proofs.members.known_bits.Goals as goal
+use Rattle.type_tree.proofs.Bits.{bits_more, no_more}
+use Rattle.type_tree.proofs.flags_members.known_bits.Goals as goal
 
 pub loop-member-preserved : goal.loop-member-preserved
 loop-member-preserved c =

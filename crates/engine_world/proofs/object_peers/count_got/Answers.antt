@@ -1,0 +1,21 @@
+use Rattle.std.proofs.Common.{◌≡◌, ◌<◌, ℕ, List, None, length, slice_get, take, sym, ap, arith, ◌∙◌}
+use Rattle.ui_machine.specs.Definition.Places.{Place}
+use Rattle.ui_machine.specs.Seq.{read}
+use Rattle.ui_machine.specs.State.Peers.{first_left}
+use Rattle.definition_format.specs.Meaning.{name_bytes}
+use Rattle.engine_world.specs.PeerPlaces.{AreGot}
+use Rattle.engine_world.proofs.GotPeers.{counted_got}
+use Rattle.engine_world.proofs.object_peers.count_got.Goals as goal
+
+pub returns-then-place-len : goal.returns-then-place-len
+returns-then-place-len c d p at names are =
+    let peers = c.args.seats.now in
+    let got = c.args.got.now.items in
+    let k = c.from-place.result in
+    let number = c.number_at.ensures ∙ ap (λ (ns : List ℕ). read 0 ns c.args.place.0) c.deref.ensures.value ∙ ap (read 0 got) (sym c.from-place.ensures) in
+    let within : k < length got = omega (arith, c.deref.ensures.len, ap (λ (ns : List ℕ). length ns) c.deref.ensures.value, c.len.ensures, c.if-place-len.true) in
+    counted_got d peers got k c.got-number.result p within (ap (slice_get d.places) c.from-place.ensures ∙ at)
+    (λ known.
+    ap (λ (ns : List (List ℕ)). first_left peers (take c.got-number.result ns)) names
+    ∙ c.got-number.ensures (ap (λ n. first_left peers (take n (name_bytes c.args.names.now))) number ∙ ap (λ (ns : List (List ℕ)). first_left peers (take (read 0 got k) ns)) (sym names) ∙ known))
+    are
