@@ -1,0 +1,94 @@
+//! Whether an event is such as reading gives for a definition.
+
+ghost use Rattle.std.specs.Prelude.{◌≡◌, ◌↔◌, ◌&&◌, IfNone, IfSome, IsTrue, None, Some, not};
+ghost use Rattle.ui_machine.specs.Definition.Properties.{is_construct_only, is_writable};
+ghost use Rattle.ui_machine.specs.State.Tasks.{get, set};
+ghost use Rattle.law_typing.specs.Good.Requests.{RequestRead};
+ghost use Rattle.law_typing.specs.Graph.Channels.{spec_at};
+ghost use Rattle.law_typing.specs.Laws.WellRead.{IsObject};
+ghost use Rattle.law_sessions.specs.Sessions.{EventRead};
+ghost use Rattle.g_values.specs.View.{kind_view};
+ghost use Rattle.param_specs.specs.View.{spec_view};
+ghost use Rattle.definition_format.specs.Meaning.{IsKnownKind, event_of, given_view, request_of};
+
+use crate::emissions::is_emission;
+use crate::givens::is_given_of_kind;
+use crate::objects::{is_object, object_class};
+use definition_format::{Event, Given, Request};
+use definitions::Definition;
+use param_specs::Spec;
+use ui_machine::{Place, Slot};
+
+// The property of the object at a place, by its slot.
+fn property(definition: &Definition, place: Place, slot: Slot) -> Option<&Spec>
+    ensures object { IfSome result (λ _. IsObject definition.now place.0) }
+    ensures spec { IfSome result (λ spec. spec_at definition.now place.0 slot ≡ Some (spec_view spec.now)) }
+    ensures known { IfSome result (λ spec. IsKnownKind definition.now.types (kind_view spec.now.kind)) }
+    ensures none { IfNone result (IsObject definition.now place.0 → spec_at definition.now place.0 slot ≡ None) }
+{
+    // For the proof: what is known of a definition's properties.
+    let _types = definition.types();
+    let class = object_class(definition, place)?;
+    definition.spec(class, slot)
+}
+
+// Whether a property may be set while its object lives.
+fn may_be_set(spec: &Spec) -> bool
+    ensures { result ≡ (is_writable (spec_view spec.now) && not (is_construct_only (spec_view spec.now))) }
+{
+    spec.is_writable() && !spec.is_construct_only()
+}
+
+// Whether the object at a place has a property that may be set to what is given.
+fn is_set(definition: &Definition, place: Place, slot: Slot, given: &Given) -> bool
+    ensures { IsTrue result ↔ RequestRead definition.now (set place.0 slot (given_view given.now)) }
+{
+    let Some(spec) = property(definition, place, slot) else {
+        return false;
+    };
+    if !may_be_set(spec) {
+        return false;
+    }
+    is_given_of_kind(definition, given, spec.kind)
+}
+
+// Whether the object at a place has a property that may be read.
+fn is_get(definition: &Definition, place: Place, slot: Slot) -> bool
+    ensures { IsTrue result ↔ RequestRead definition.now (get place.0 slot) }
+{
+    match property(definition, place, slot) {
+        Some(spec) => spec.is_readable(),
+        None => false,
+    }
+}
+
+// Whether a request is such as reading gives.
+fn is_request_of(definition: &Definition, request: &Request) -> bool
+    ensures { IsTrue result ↔ RequestRead definition.now (request_of request.now) }
+{
+    match request {
+        Request::Set { place, slot, given } => is_set(definition, *place, *slot, given),
+        Request::Get { place, slot } => is_get(definition, *place, *slot),
+        Request::Release { place } => is_object(definition, *place),
+        Request::Emit {
+            place,
+            signal,
+            args,
+            detail,
+        } => is_emission(definition, *place, *signal, args.as_slice(), detail),
+    }
+}
+
+/// Whether an event is such as reading gives for a definition, so that a session of the definition may be asked to carry it out. What it names
+/// is there: an object and no prototype, a property of the object's class, a signal of it other than `notify`. The property may be read, or
+/// set while the object lives. Each value is of the kind that is wanted, and each object that stands for a value is one of the type. An
+/// emission gives as many arguments as the signal has parameters, and a detail only where the signal takes details. A turn may be of any
+/// moment, and a detail any text.
+pub fn is_event_of(definition: &Definition, event: &Event) -> bool
+    ensures { IsTrue result ↔ EventRead definition.now (event_of event.now) }
+{
+    match event {
+        Event::Request(request) => is_request_of(definition, request),
+        Event::Turn(_) => true,
+    }
+}
