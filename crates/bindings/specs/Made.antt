@@ -1,4 +1,4 @@
--- What a list of bindings stands for.
+-- What a list of bindings denotes.
 use Rattle.std.specs.Prelude.{ℕ, ◌+◌, ◌^◌, ◌<◌, All, Bool, false, cond, not, ◌&&◌, nat_le, max, List, [], ◌∷◌, ◌++◌, option_map, string_bytes}
 use Rattle.ui_machine.specs.Definition.Properties.{has_flags}
 use Rattle.ui_machine.specs.State.Bindings.{listens, goes_back}
@@ -7,7 +7,7 @@ use Rattle.ui_machine.specs.declared.ids.ObjectId.{ObjectId}
 use Rattle.bindings.specs.declared.binding.Binding.{Binding}
 use Rattle.bindings.specs.declared.binding.Transfer.{Transfer}
 
--- the bindings that stand, in order of their numbers, and the number of the next one
+-- the bindings that have not ended, in order of their numbers, and the number of the next one
 pub record Made : Type 0 where
   pub bindings : List config.Binding
   pub next : ℕ

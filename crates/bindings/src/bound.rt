@@ -1,7 +1,7 @@
-//! A binding that stands.
+//! A binding that has not ended.
 
-ghost use Rattle.std.specs.Prelude.{◌≡◌, false, nat_eq};
-ghost use Rattle.ui_machine.specs.State.Bindings.{listens, is_source, is_called, is_end};
+ghost use Rattle.std.specs.Prelude.{◌≡◌, false, nat_eq, option_map, string_bytes};
+ghost use Rattle.ui_machine.specs.State.Bindings.{listens, is_bidirectional, is_source, is_called, is_end};
 
 use crate::binding::{Binding, Transfer};
 use crate::due::DueTransfer;
@@ -29,7 +29,7 @@ impl Model for Bound {
 }
 
 impl Bound {
-    ghost use Rattle.bindings.specs.Made.{binding_of, transfer_by, transfer_of};
+    ghost use Rattle.bindings.specs.Made.{binding_of, is_next, transfer_by, transfer_of};
     ghost use Rattle.bindings.specs.Due.{due_of};
 
     /// A binding that does not set.
@@ -55,6 +55,33 @@ impl Bound {
         self.number == number
     }
 
+    pub(crate) fn name(&self) -> &Option<String>
+        ensures { option_map (λ name. string_bytes name) result.now ≡ self.now.name }
+    {
+        &self.binding.name
+    }
+
+    /// The object and the slot of its source.
+    pub(crate) fn source(&self) -> (u64, u64)
+        ensures { result ≡ (self.now.source, self.now.source_slot) }
+    {
+        (self.binding.source.0, u64::from(self.binding.source_slot))
+    }
+
+    /// The object and the slot of its target.
+    pub(crate) fn target(&self) -> (u64, u64)
+        ensures { result ≡ (self.now.target, self.now.target_slot) }
+    {
+        (self.binding.target.0, u64::from(self.binding.target_slot))
+    }
+
+    /// Whether it goes both ways.
+    pub(crate) fn is_bidirectional(&self) -> bool
+        ensures { result ≡ is_bidirectional self.now }
+    {
+        self.binding.flags.contains(BindingFlags::BIDIRECTIONAL)
+    }
+
     pub(crate) fn is_setting(&self) -> bool
         ensures { result ≡ self.now.busy }
     {
@@ -78,8 +105,14 @@ impl Bound {
         ensures { result ≡ listens object.0 slot self.now }
     {
         let is_target = self.binding.target == object && self.binding.target_slot == slot;
-        self.is_source(object, slot)
-            || self.binding.flags.contains(BindingFlags::BIDIRECTIONAL) && is_target
+        self.is_source(object, slot) || self.is_bidirectional() && is_target
+    }
+
+    /// Whether it may be the next to act on a notification of the property, among those numbered `from` or above: it does not set.
+    pub(crate) fn is_next(&self, object: ObjectId, slot: Slot, from: u64) -> bool
+        ensures { result ≡ is_next object.0 slot from self.now }
+    {
+        self.number >= from && self.listens(object, slot) && !self.setting
     }
 
     pub(crate) fn is_called(&self, name: &str) -> bool

@@ -3,7 +3,7 @@
 ghost use Rattle.std.specs.Prelude.{◌≡◌};
 ghost use Rattle.bindings.specs.declared.fault.BindError.TheVariants.{OutOfMemory};
 
-use std::alloc::AllocFailed;
+use std::alloc::{AllocError, AllocFailed};
 use thiserror::Error;
 
 /// Why a binding is not made.
@@ -13,6 +13,14 @@ pub enum BindError {
     BindingLimit,
     #[error("out of memory")]
     OutOfMemory,
+}
+
+impl From<AllocError> for BindError {
+    ghost from_gives = { λ _ e. e ≡ OutOfMemory };
+
+    fn from(_error: AllocError) -> BindError {
+        BindError::OutOfMemory
+    }
 }
 
 impl<T: Drop> From<AllocFailed<T>> for BindError {

@@ -1,4 +1,4 @@
-//! The bindings between properties that stand, in document order.
+//! The bindings between properties, in document order.
 //!
 //! A binding copies its source property into its target property when the source is notified, and where it is bidirectional
 //! also the other way (GObject manual, GBinding). While it sets, it ignores notifications. It ends by its name or with one of
@@ -12,6 +12,10 @@ mod due;
 mod fault;
 mod flags;
 mod list;
+mod listing;
+mod listings;
+mod names;
+mod rising;
 
 pub use binding::{Binding, Transfer};
 pub use due::{DueTransfer, DueTransfers};

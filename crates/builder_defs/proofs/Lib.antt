@@ -4,3 +4,4 @@ pub mod CodeNames
 pub mod PlaceLists
 pub mod Whole
 mod EventsRead
+pub mod PlainEvents

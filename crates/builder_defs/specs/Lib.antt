@@ -1,3 +1,4 @@
+pub mod SaidWords
 pub use Rattle.definition_format.specs.Meaning
 pub use Rattle.definition_format.specs.Causes
 pub use Rattle.definition_format.specs.Refusals

@@ -10,6 +10,7 @@ ghost use Rattle.ui_machine.specs.Rules.EmissionPlan.{signal_of};
 ghost use Rattle.signal_core.specs.SignalView.{declared_view};
 ghost use Rattle.definition_format.specs.Meaning.{IsKnownKind, class_at, event_of, given_view};
 ghost use Rattle.definition_format.specs.EventMeaning.{Gives, Leads, detail_word, emitted, words_of_emit, but_notify, signal_target, count, check_count, check_detail, each_of, id_known, argument, emit_event};
+ghost use Rattle.builder_defs.specs.SaidWords.{emit_of};
 
 use crate::event_reading::{given_by, object_named};
 use bitflags::Flags;
@@ -260,6 +261,34 @@ fn check_count(signal: &DeclaredSignal<'_>, args: &[Value]) -> Result<(), EventE
     Ok(())
 }
 
+// The emission of a signal of the object of an id.
+pub(crate) fn emit_of(
+    alloc: Global,
+    definition: &Definition,
+    id: &str,
+    name: &str,
+    values: &[Value],
+    detail: Option<&str>,
+) -> Result<Event, EventError>
+    ensures { Gives event_of result (emit_of definition.now (record { id = id.now; name = name.now; args = items_view values.now; detail = option_map (λ s. s.now) detail.entry })) }
+{
+    // For the proof: what is known of a definition's signals.
+    let _types = definition.types();
+    let target = target_of(alloc, definition, id, name)?;
+    let signal = target.signal;
+    check_count(&signal, values)?;
+    check_ids(alloc, definition, signal.params, values)?;
+    check_detail(alloc, &signal, detail)?;
+    let args = arguments_of(alloc, definition, signal.params, values)?;
+    let detail = copied(alloc, detail)?;
+    Ok(Event::Request(Request::Emit {
+        place: target.place,
+        signal: target.number,
+        args,
+        detail,
+    }))
+}
+
 // The emission that a list of words asks for.
 #[tactic(auto, unfolding(definition_format::specs::EventMeaning::emit_event))]
 pub(crate) fn emit_in(
@@ -275,19 +304,13 @@ pub(crate) fn emit_in(
     let Some(said) = words_of_emit(items.as_slice()) else {
         return Err(EventError::Refused(EventFault::Shape));
     };
-    // For the proof: what is known of a definition's signals.
-    let _types = definition.types();
-    let target = target_of(alloc, definition, said.id, said.name)?;
-    let signal = target.signal;
-    check_count(&signal, said.args)?;
-    check_ids(alloc, definition, signal.params, said.args)?;
-    check_detail(alloc, &signal, said.detail)?;
-    let args = arguments_of(alloc, definition, signal.params, said.args)?;
-    let detail = copied(alloc, said.detail)?;
-    Ok(Event::Request(Request::Emit {
-        place: target.place,
-        signal: target.number,
-        args,
-        detail,
-    }))
+    let event = emit_of(
+        alloc,
+        definition,
+        said.id,
+        said.name,
+        said.args,
+        said.detail,
+    )?;
+    Ok(event)
 }

@@ -11,6 +11,7 @@ ghost use Rattle.definition_format.specs.Denoted.Given.{reference};
 ghost use Rattle.param_specs.specs.View.{spec_view};
 ghost use Rattle.law_sessions.specs.Sessions.{EventRead};
 ghost use Rattle.definition_format.specs.EventMeaning.{Gives, event_denoted, event_meant, line_value, has_one_member, words_of_set, words_of_get, set_event, get_event, release_event, moment_if, turn_event, target, object_of, object_named, is_of_kind, object_given, given_by, readable, writable, or_value_fault};
+ghost use Rattle.builder_defs.specs.SaidWords.{set_of, get_of, release_of};
 
 use crate::emit_reading::emit_in;
 use bitflags::Flags;
@@ -46,7 +47,11 @@ pub fn read_event(alloc: Global, definition: &Definition, bytes: &[u8]) -> Resul
 
 // The event that a line denotes.
 #[tactic(auto, unfolding(definition_format::specs::EventMeaning::event_denoted))]
-fn event_of_line(alloc: Global, definition: &Definition, bytes: &[u8]) -> Result<Event, EventError>
+pub(crate) fn event_of_line(
+    alloc: Global,
+    definition: &Definition,
+    bytes: &[u8],
+) -> Result<Event, EventError>
     ensures { Gives event_of result (event_denoted definition.now bytes.now) }
 {
     let value = parsed_line(alloc, bytes)?;
@@ -139,6 +144,29 @@ fn words_of_get(items: &[Value]) -> Option<(&str, &str)>
     }
 }
 
+// The set of a property of the object of an id.
+pub(crate) fn set_of(
+    alloc: Global,
+    definition: &Definition,
+    id: &str,
+    name: &str,
+    value: &Value,
+) -> Result<Event, EventError>
+    ensures { Gives event_of result (set_of definition.now id.now name.now (view value.now)) }
+{
+    // For the proof: what is known of a definition's types.
+    let _types = definition.types();
+    let target = target_of(alloc, definition, id, name)?;
+    let object = object_named(alloc, definition, target.spec.kind, value)?;
+    check_writable(target.spec)?;
+    let given = given_by(alloc, definition, target.spec.kind, value, object)?;
+    Ok(Event::Request(Request::Set {
+        place: target.place,
+        slot: target.slot,
+        given,
+    }))
+}
+
 // The set that a list of words asks for.
 #[tactic(auto, unfolding(definition_format::specs::EventMeaning::set_event))]
 fn set_in(alloc: Global, definition: &Definition, words: &Value) -> Result<Event, EventError>
@@ -150,16 +178,24 @@ fn set_in(alloc: Global, definition: &Definition, words: &Value) -> Result<Event
     let Some((id, name, value)) = words_of_set(items.as_slice()) else {
         return Err(EventError::Refused(EventFault::Shape));
     };
-    // For the proof: what is known of a definition's types.
-    let _types = definition.types();
+    let event = set_of(alloc, definition, id, name, value)?;
+    Ok(event)
+}
+
+// The get of a property of the object of an id.
+pub(crate) fn get_of(
+    alloc: Global,
+    definition: &Definition,
+    id: &str,
+    name: &str,
+) -> Result<Event, EventError>
+    ensures { Gives event_of result (get_of definition.now id.now name.now) }
+{
     let target = target_of(alloc, definition, id, name)?;
-    let object = object_named(alloc, definition, target.spec.kind, value)?;
-    check_writable(target.spec)?;
-    let given = given_by(alloc, definition, target.spec.kind, value, object)?;
-    Ok(Event::Request(Request::Set {
+    check_readable(target.spec)?;
+    Ok(Event::Request(Request::Get {
         place: target.place,
         slot: target.slot,
-        given,
     }))
 }
 
@@ -174,12 +210,22 @@ fn get_in(alloc: Global, definition: &Definition, words: &Value) -> Result<Event
     let Some((id, name)) = words_of_get(items.as_slice()) else {
         return Err(EventError::Refused(EventFault::Shape));
     };
-    let target = target_of(alloc, definition, id, name)?;
-    check_readable(target.spec)?;
-    Ok(Event::Request(Request::Get {
-        place: target.place,
-        slot: target.slot,
-    }))
+    let event = get_of(alloc, definition, id, name)?;
+    Ok(event)
+}
+
+// The release of the object of an id.
+pub(crate) fn release_of(
+    alloc: Global,
+    definition: &Definition,
+    id: &str,
+) -> Result<Event, EventError>
+    ensures { Gives event_of result (release_of definition.now id.now) }
+{
+    match definition.object_place(id) {
+        Some(place) => Ok(Event::Request(Request::Release { place })),
+        None => Err(EventError::Refused(EventFault::Unknown(String::from_str(alloc, id)?))),
+    }
 }
 
 // The release that a word asks for.
@@ -190,10 +236,8 @@ fn release_in(alloc: Global, definition: &Definition, word: &Value) -> Result<Ev
     let Some(id) = word.as_str() else {
         return Err(EventError::Refused(EventFault::Shape));
     };
-    match definition.object_place(id) {
-        Some(place) => Ok(Event::Request(Request::Release { place })),
-        None => Err(EventError::Refused(EventFault::Unknown(String::from_str(alloc, id)?))),
-    }
+    let event = release_of(alloc, definition, id)?;
+    Ok(event)
 }
 
 // The turn that a word asks for.
@@ -324,7 +368,7 @@ pub(crate) fn given_by(
     }
 }
 
-// The value of a kind that a JSON value stands for, or the fault.
+// The value of a kind that a JSON value denotes, or the fault.
 fn value_for(
     alloc: Global,
     types: &TypeTree,

@@ -1,9 +1,10 @@
 //! Definitions and events, read from bytes.
 //!
-//! A definition is what the JSON text of an interface's description says; an event is a line that is told to a running one.
+//! A definition is what the JSON text of an interface's description says; an event is a line that is given to a running one.
 #![tactic(auto)]
 
 mod emit_reading;
+mod event_reader;
 mod event_reading;
 mod limits;
 mod reading;
@@ -14,6 +15,7 @@ pub use definition_format::{
 };
 pub use definition_parts::document::MAX_BYTES;
 pub use definitions::{Definition, ObjectEntry};
+pub use event_reader::EventReader;
 pub use event_reading::{MAX_LINE_BYTES, read_event};
 pub use named_peers::peers;
 pub use reading::read_definition;

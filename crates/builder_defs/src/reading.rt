@@ -306,6 +306,10 @@ fn parts_in(alloc: Global, value: &Value) -> Result<Parts, ReadError>
 }
 
 /// Reads a definition. A fault is the first one in document order.
+///
+/// # Errors
+///
+/// `Refused` with the first fault in document order, and `OutOfMemory` if memory is refused.
 #[tactic(auto, unfolding(definition_format::specs::Denoted::denoted))]
 pub fn read_definition(alloc: Global, bytes: &[u8]) -> Result<Definition, ReadError>
     ensures exact { Gives (λ d. d) result (denoted bytes.now) }

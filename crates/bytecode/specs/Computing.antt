@@ -29,7 +29,7 @@ use Rattle.bytecode.specs.declared.computations.Computation.TheVariants as compu
 use Rattle.bytecode.specs.declared.computations.Computed.{Computed}
 use Rattle.bytecode.specs.declared.computations.Computed.TheVariants as computed
 
--- the machine's registers that these values stand for
+-- the machine's registers that these values denote
 abbrev pub registers_of : List (Option Value) → Registers
 registers_of registers = map (option_map value_view) registers
 

@@ -1,4 +1,4 @@
--- How JSON stands for programs.
+-- How JSON denotes programs.
 pub mod Views
 pub mod Each
 pub mod KindWords

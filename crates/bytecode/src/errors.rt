@@ -37,7 +37,7 @@ impl<T: Drop> From<AllocFailed<T>> for InstructionError {
 pub enum ProgramError {
     /// No memory was found.
     OutOfMemory,
-    /// The value stands for no program.
+    /// The value denotes no program.
     Refused(ProgramFault),
 }
 

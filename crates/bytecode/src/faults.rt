@@ -13,10 +13,10 @@ pub enum ProgramLimit {
     Instructions,
 }
 
-/// Why a value stands for no program.
+/// Why a value denotes no program.
 #[derive(Clone, Copy, Debug, PartialEq, Eq)]
 pub enum ProgramFault {
-    /// The entry of this number in this block's code is no instruction, or stands behind the last.
+    /// The entry of this number in this block's code is no instruction, or comes after the last.
     BadInstruction(BlockNumber, usize),
     /// This block leads to itself or to an earlier one.
     BackwardJump(BlockNumber),

@@ -1,7 +1,7 @@
-//! Programs as they are kept: their instructions and blocks, what is wrong with them, and which of them JSON stands for.
+//! Programs as they are kept: their instructions and blocks, what is wrong with them, and which of them JSON denotes.
 //!
 //! A program is a handler in bytecode. It has up to 32 registers, each unset or with a value, and its instructions read and write them.
-//! A contract sees a program as the machine's. The specs of this crate also say which program a JSON value stands for, or why it stands for
+//! A contract sees a program as the machine's. The specs of this crate also say which program a JSON value denotes, or why it denotes
 //! none; the crate that reads programs has them as its contracts.
 #![tactic(auto)]
 

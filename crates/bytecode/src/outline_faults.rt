@@ -13,7 +13,7 @@ use std::alloc::{AllocError, AllocFailed};
 pub struct ProgramPart<'a> {
     /// The block that it belongs to, by its number.
     pub block: Option<usize>,
-    /// The key of the member, as it stands: a path escapes it.
+    /// The key of the member, as it is: a path escapes it.
     pub member: Option<&'a str>,
     /// The entry of the member's list, by its number.
     pub index: Option<usize>,

@@ -1,4 +1,4 @@
-//! Where a program stands: its blocks, and the instructions in them.
+//! Where a program is: its blocks, and the instructions in them.
 
 ghost use Rattle.std.specs.Prelude.{◌≡◌, length, nat_eq, option_map, slice_get, suc};
 ghost use Rattle.ui_machine.specs.Definition.Programs.{passes_in};

@@ -15,7 +15,7 @@ use Rattle.law_typing.specs.Good.Requests.{RequestRead}
 use Rattle.law_typing.specs.Laws.WellRead.{GivenFits, IsObject}
 use Rattle.law_typing.specs.Rules.RegisterKinds.{class_at}
 
--- whether a detail may stand at a signal other than `notify`
+-- whether a detail may be at a signal other than `notify`
 stands : {T : Type 0} (f : T → List ℕ) (d : Definition) (class number : ℕ) (s : Signal) (detail : Option T) → 0 < number
     → may_stand d class number s (option_map f detail) ≡ (is_none detail || has_flags 16 s.flags)
 stands f d class number s None above = refl

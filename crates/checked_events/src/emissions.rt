@@ -24,7 +24,7 @@ fn takes_detail(signal: &DeclaredSignal<'_>, detail: &Option<String>) -> bool
     detail.is_none() || signal.flags.contains(SignalFlags::DETAILED)
 }
 
-/// Whether an object stands at a place and its class has a signal of the number, other than `notify`, that takes these arguments and this
+/// Whether an object is at a place and its class has a signal of the number, other than `notify`, that takes these arguments and this
 /// detail.
 pub(crate) fn is_emission(
     definition: &Definition,

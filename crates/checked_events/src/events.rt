@@ -81,7 +81,7 @@ fn is_request_of(definition: &Definition, request: &Request) -> bool
 
 /// Whether an event is such as reading gives for a definition, so that a session of the definition may be asked to carry it out. What it names
 /// is there: an object and no prototype, a property of the object's class, a signal of it other than `notify`. The property may be read, or
-/// set while the object lives. Each value is of the kind that is wanted, and each object that stands for a value is one of the type. An
+/// set while the object lives. Each value is of the kind that is wanted, and each object that is given as a value is one of the type. An
 /// emission gives as many arguments as the signal has parameters, and a detail only where the signal takes details. A turn may be of any
 /// moment, and a detail any text.
 pub fn is_event_of(definition: &Definition, event: &Event) -> bool

@@ -63,7 +63,7 @@ fn is_class_of_kind(types: &TypeTree, class: TypeId, kind: Kind) -> bool
     }
 }
 
-// Whether an object stands at a place and is of a kind.
+// Whether an object is at a place and is of a kind.
 fn is_object_of_kind(definition: &Definition, place: Place, kind: Kind) -> bool
     ensures { IsTrue result ↔ GivenFits definition.now (kind_view kind) (named place.0) }
 {

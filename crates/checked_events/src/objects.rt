@@ -8,7 +8,7 @@ use definitions::Definition;
 use type_tree::TypeId;
 use ui_machine::Place;
 
-/// The class of the object at a place, if an object stands there: a prototype is none.
+/// The class of the object at a place, if an object is there: a prototype is none.
 pub(crate) fn object_class(definition: &Definition, place: Place) -> Option<TypeId>
     ensures { MatchOption result (¬ IsObject definition.now place.0) (λ class. IsObject definition.now place.0 × (class_at definition.now place.0 ≡ Some class)) }
 {
@@ -21,7 +21,7 @@ pub(crate) fn object_class(definition: &Definition, place: Place) -> Option<Type
     Some(entry.class)
 }
 
-/// Whether an object stands at a place.
+/// Whether an object is at a place.
 pub(crate) fn is_object(definition: &Definition, place: Place) -> bool
     ensures { IsTrue result ↔ IsObject definition.now place.0 }
 {

@@ -84,7 +84,7 @@ module _ (ps : List Prototype) where
   each_place P all every (o ∷ os) zero place h = let e : plain_object o ≡ place = cc in subst P e (all o)
   each_place P all every (o ∷ os) (suc i) place h = each_place P all every os i place h
 
-  -- prototypes are what stands behind the objects
+  -- prototypes are what comes after the objects
   behind_objects : (os : List Entry) (i : ℕ) (place : Place) → slice_get (places_of os ps) i ≡ Some place → place.is_prototype ≡ nat_le (length os) i
   behind_objects [] i place h = each_prototype (λ (p : Place). p.is_prototype ≡ true) (λ q. refl) ps i place h ∙ grind (arith, nat_tests)
   behind_objects (o ∷ os) zero place h =

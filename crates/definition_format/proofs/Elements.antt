@@ -21,7 +21,7 @@ pub all_map : {A : Type 0} (P Q : A → Type 0) → ((x : A) → P x → Q x) �
 all_map P Q f [] p = tt
 all_map P Q f (x ∷ xs) p = (f x p.0, all_map P Q f xs p.1)
 
--- what stands at a place of a slice
+-- what is at a place of a slice
 pub read-index : {A : Type 0} (d : A) (xs : List A) (i : ℕ) → slice_index_or xs i d ≡ read d xs i
 read-index d [] i = refl
 read-index d (x ∷ xs) zero = refl

@@ -22,7 +22,7 @@ kept [] g t h = absurd (omega arith)
 kept (x ∷ xs) g zero h = refl
 kept (x ∷ xs) g (suc t) h = kept xs g t (omega arith)
 
--- a type that is no class stands among the types
+-- a type that is no class is among the types
 pub kept_but_class : (types : List GType) (g : GType) (t : ℕ) (s : sorts.Sort) → sort_of types t ≡ s → (s ≡ sorts.class → ⊥)
     → read no_type (types ++ g ∷ []) t ≡ read no_type types t
 kept_but_class types g t s is other = elim (cases_lt t (length types)) [

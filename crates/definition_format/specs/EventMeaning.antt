@@ -233,7 +233,7 @@ release_event d word = do
   place ← or_refused (unknown id) (object_place d id)
   Ok (config.request (config.release place))
 
--- The signal must be there, and the values as many as it has parameters. Then all ids among them are known, and the detail may stand.
+-- The signal must be there, and the values as many as it has parameters. Then all ids among them are known, and the detail may be.
 unfoldable pub emit_event : machine.Definition → Data → Result config.Event EventRefusal
 emit_event d words = do
   said ← or_refused shape (option_and_then words_of_emit (as_array words))

@@ -78,7 +78,7 @@ program_limit_name program_limits.Registers = codes "registers"
 program_limit_name program_limits.Blocks = codes "blocks"
 program_limit_name program_limits.Instructions = codes "instructions"
 
--- why JSON stands for no program: the name of the cause, and the numbers of the block and of the instruction
+-- why JSON denotes no program: the name of the cause, and the numbers of the block and of the instruction
 abbrev pub program_cause_text : ProgramFault → List ℕ
 program_cause_text (programs.BadInstruction block at) = codes "BadInstruction " ++ (decimal block.0 ++ (codes " " ++ decimal at))
 program_cause_text (programs.BackwardJump block) = codes "BackwardJump " ++ decimal block.0
@@ -86,7 +86,7 @@ program_cause_text (programs.NoReturn block) = codes "NoReturn " ++ decimal bloc
 program_cause_text (programs.Limit l) = codes "Limit " ++ program_limit_name l
 program_cause_text (programs.BadRepeat block) = codes "BadRepeat " ++ decimal block.0
 
--- why JSON stands for no value
+-- why JSON denotes no value
 abbrev pub value_cause_text : JsonFault → List ℕ
 value_cause_text values.WrongJson = codes "WrongJson"
 value_cause_text values.OutOfRange = codes "OutOfRange"

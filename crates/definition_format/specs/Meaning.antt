@@ -1,4 +1,4 @@
--- Which definition and event of the machine the code's stand for.
+-- Which definition and event of the machine the code's denote.
 use Rattle.std.specs.Prelude.{◌≡◌, ℕ, ◌<◌, ◌≤◌, ◌+◌, ◌≤ℤ◌, Bool, true, false, not, nat_le, List, [], ◌++◌, map, length, count_by, if◌then◌else◌, Option, None, Some, option_map, option_and_then, String, string_bytes, slice_get, IfSome}
 use Rattle.std.specs.Global.{Global}
 use Rattle.std.specs.List.{AllByRecursion}
@@ -228,7 +228,7 @@ pub record AreLimits (limits : Limits) : Type 0 where
   pub most_objects : limits.objects ≤ 4096
   pub most_handlers : limits.handlers ≤ 16
 
--- a program stands under its own name
+-- a program is under its own name
 abbrev pub HasOwnName : NamedProgram → Type 0
 HasOwnName entry = string_bytes entry.0 ≡ string_bytes entry.1.name
 

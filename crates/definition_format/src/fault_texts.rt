@@ -16,6 +16,10 @@ use type_tree::TypeLimit;
 impl DefinitionFault {
     /// The fault's name and fields, with one blank between them: what the program writes behind `refused: `. In paths and names each byte
     /// outside 33 to 126 is written as `%` and two upper case hexadecimal digits.
+    ///
+    /// # Errors
+    ///
+    /// `AllocError` if memory is refused.
     pub fn text(&self, alloc: Global) -> Result<String, AllocError>
         ensures exact { IfOk result (λ text. string_bytes text ≡ refusal_text (refusal self.now)) }
     {
@@ -171,7 +175,7 @@ fn program_limit_name(limit: ProgramLimit) -> &'static str
     }
 }
 
-// Why JSON stands for no program: the name of the cause, and the numbers of the block and of the instruction.
+// Why JSON denotes no program: the name of the cause, and the numbers of the block and of the instruction.
 fn program_cause_text(alloc: Global, cause: ProgramFault) -> Result<String, AllocError>
     ensures { IfOk result (λ text. string_bytes text ≡ program_cause_text cause) }
 {
@@ -199,7 +203,7 @@ fn program_cause_text(alloc: Global, cause: ProgramFault) -> Result<String, Allo
     }
 }
 
-// Why JSON stands for no value.
+// Why JSON denotes no value.
 fn value_cause_text(cause: JsonFault) -> &'static str
     ensures { result.now ≡ value_cause_text cause }
 {

@@ -15,7 +15,7 @@ use type_tree::TypeLimit;
 pub enum DefinitionLimit {
     /// More than 256 types, with the two that are there from the beginning.
     Types,
-    /// A class that would stand more than 16 deep under `GObject`, which stands 1 deep.
+    /// A class that would be more than 16 deep under `GObject`, which is 1 deep.
     Depth,
     /// More than 64 properties of one class, the inherited ones among them.
     Properties,
@@ -44,7 +44,7 @@ pub enum TypeCause {
     FinalParent,
     /// An interface requires the type of this name, and the class would not be one.
     Prerequisite(String),
-    /// The tree is full, or the class would stand too deep.
+    /// The tree is full, or the class would be too deep.
     Limit(TypeLimit),
     /// An object is of a class that has none.
     Abstract,
@@ -77,7 +77,7 @@ pub enum DefinitionFault {
     NotJson,
     /// A member is missing, unknown or of the wrong sort.
     Shape(String),
-    /// At the path stands a name that nothing has.
+    /// At the path there is a name that nothing has.
     Unknown(String, String),
     /// An earlier entry of the section has the name, an ancestor has the property, the object's property is named already, or a signal's name is
     /// declared more than once among a class, its ancestors and the interfaces that it is.
@@ -86,9 +86,9 @@ pub enum DefinitionFault {
     BadType(String, TypeCause),
     /// A property is not installed or given no value, the class does not have it as its interface has it, or a signal is not declared.
     BadSpec(String, SpecCause),
-    /// At the path stands no program.
+    /// At the path there is no program.
     BadProgram(String, ProgramFault),
-    /// At the path stands no value of the kind.
+    /// At the path there is no value of the kind.
     ValueFault(String, JsonFault),
     /// An object is given to a property that constructions alone set, before it is built.
     ForwardConstructOnly(String),

@@ -17,7 +17,11 @@ use param_specs::{Spec, SpecFault, is_valid_default};
 use serde_json::Value;
 use type_tree::TypeTree;
 
-/// The value of a kind that stands at a member.
+/// The value of a kind that is at a member.
+///
+/// # Errors
+///
+/// `Refused` with the first fault in document order, and `OutOfMemory` if memory is refused.
 pub fn value_of(
     part: Part<'_>,
     key: &str,
@@ -35,7 +39,11 @@ pub fn value_of(
     }
 }
 
-// The default of a property of this kind: the kind's zero value where none is given.
+/// The default of a property of this kind: the kind's zero value where none is given.
+///
+/// # Errors
+///
+/// `Refused` with the first fault in document order, and `OutOfMemory` if memory is refused.
 pub fn default_of(
     part: Part<'_>,
     types: &TypeTree,
@@ -50,7 +58,11 @@ pub fn default_of(
     }
 }
 
-// Tests that the default of a property may stand in it.
+/// Tests that the default of a property may be in it.
+///
+/// # Errors
+///
+/// `Refused` with the first fault in document order, and `OutOfMemory` if memory is refused.
 pub fn check_default(part: Part<'_>, types: &TypeTree, spec: &Spec) -> Result<(), ReadError>
     requires { IsKnown types.now spec.now.kind }
     ensures { Gives (λ _. tt) result (check_default (under (path_of part.entry.path) (codes "default")) types.now (spec_view spec.now)) }
@@ -65,7 +77,11 @@ pub fn check_default(part: Part<'_>, types: &TypeTree, spec: &Spec) -> Result<()
     Ok(())
 }
 
-// The same of a property whose kind has no range.
+/// The same of a property whose kind has no range.
+///
+/// # Errors
+///
+/// `Refused` with the first fault in document order, and `OutOfMemory` if memory is refused.
 pub fn check_unranged(part: Part<'_>, types: &TypeTree, spec: &Spec) -> Result<(), ReadError>
     requires { IsKnown types.now spec.now.kind }
     ensures { Gives (λ _. tt) result (check_unranged (under (path_of part.entry.path) (codes "default")) types.now (spec_view spec.now)) }

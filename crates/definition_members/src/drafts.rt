@@ -72,7 +72,11 @@ fn give_signals(
     Ok(())
 }
 
-// Gives a type the properties and signals of its entry.
+/// Gives a type the properties and signals of its entry.
+///
+/// # Errors
+///
+/// `Refused` with the first fault in document order, and `OutOfMemory` if memory is refused.
 #[tactic(auto, unfolding(definition_format::specs::Denoted::Drafts::given_at))]
 pub fn give_members(
     part: Part<'_>,

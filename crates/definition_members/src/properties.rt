@@ -154,7 +154,11 @@ fn weak_of(part: Part<'_>, kind: &Kind) -> Result<bool, ReadError>
     part.truth("weak")
 }
 
-// The spec of a property that a class has not yet.
+/// The spec of a property that a class has not yet.
+///
+/// # Errors
+///
+/// `Refused` with the first fault in document order, and `OutOfMemory` if memory is refused.
 #[tactic(auto, unfolding(definition_format::specs::Denoted::Properties::spec_at))]
 pub fn spec_in(
     part: Part<'_>,
@@ -246,7 +250,11 @@ impl<'a> Reads<SpecTable> for PropertyEntries<'a> {
     }
 }
 
-// Gives a class the properties of a list.
+/// Gives a class the properties of a list.
+///
+/// # Errors
+///
+/// `Refused` with the first fault in document order, and `OutOfMemory` if memory is refused.
 pub fn read_properties(
     list: Entries<'_>,
     types: &TypeTree,

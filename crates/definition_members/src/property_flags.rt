@@ -119,7 +119,11 @@ fn listed_flags(part: Part<'_>, value: &Value) -> Result<PropertyFlags, ReadErro
     Ok(flags)
 }
 
-// The flags of a property: readable and writable where nothing is said.
+/// The flags of a property: readable and writable where nothing is said.
+///
+/// # Errors
+///
+/// `Refused` with the first fault in document order, and `OutOfMemory` if memory is refused.
 pub fn flags_of(part: Part<'_>) -> Result<PropertyFlags, ReadError>
     ensures { Gives (λ p. p.0) result (flags_at (path_of part.entry.path) (view part.entry.value.now)) }
 {

@@ -25,7 +25,7 @@ pub struct NumberRange {
     pub max: i128,
 }
 
-// The range of a kind: all of its numbers.
+/// The range of a kind: all of its numbers.
 pub fn whole_range(kind: &Kind) -> NumberRange
     ensures { record { low = result.min; high = result.max } ≡ whole_range (kind_view kind.now) }
 {
@@ -48,7 +48,7 @@ fn number_between(value: &Value, low: i128, high: i128) -> Result<i128, JsonFaul
     Ok(number)
 }
 
-// The number of a kind that stands at a member.
+// The number of a kind that is at a member.
 fn number_of(part: Part<'_>, key: &str, kind: &Kind, value: &Value) -> Result<i128, ReadError>
     ensures { Gives (λ n. n) result (or_value_fault (under (path_of part.entry.path) key.now) (number_between (lowest (kind_view kind.now)) (highest (kind_view kind.now)) (whole_number (view value.now)))) }
 {
@@ -92,7 +92,11 @@ fn check_filled(part: Part<'_>, min: i128, max: i128) -> Result<(), ReadError>
     Ok(())
 }
 
-// The range of a property of this kind.
+/// The range of a property of this kind.
+///
+/// # Errors
+///
+/// `Refused` with the first fault in document order, and `OutOfMemory` if memory is refused.
 #[tactic(auto, unfolding(definition_format::specs::Denoted::Ranges::range_at))]
 pub fn range_of(part: Part<'_>, kind: &Kind) -> Result<NumberRange, ReadError>
     ensures { Gives (λ r. record { low = r.min; high = r.max }) result (range_at (path_of part.entry.path) (kind_view kind.now) (view part.entry.value.now)) }

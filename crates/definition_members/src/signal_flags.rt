@@ -92,7 +92,11 @@ fn listed_flags(part: Part<'_>, value: &Value) -> Result<SignalFlags, ReadError>
     Ok(flags)
 }
 
-// The flags of a signal: its class handler runs last where nothing is said.
+/// The flags of a signal: its class handler runs last where nothing is said.
+///
+/// # Errors
+///
+/// `Refused` with the first fault in document order, and `OutOfMemory` if memory is refused.
 pub fn signal_flags_of(part: Part<'_>) -> Result<SignalFlags, ReadError>
     ensures { Gives (λ p. p.0) result (flags_at (path_of part.entry.path) (view part.entry.value.now)) }
 {

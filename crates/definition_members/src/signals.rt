@@ -345,7 +345,11 @@ impl<'a> Reads<SignalTable> for SignalEntries<'a> {
     }
 }
 
-// Gives a type the signals of a list.
+/// Gives a type the signals of a list.
+///
+/// # Errors
+///
+/// `Refused` with the first fault in document order, and `OutOfMemory` if memory is refused.
 pub fn read_signals(
     list: Entries<'_>,
     types: &TypeTree,

@@ -1,4 +1,4 @@
--- What the format says of a program's value, and the program that it stands for.
+-- What the format says of a program's value, and the program that it denotes.
 use Rattle.std.proofs.Common.{◌≡◌, ◌∙◌, ℕ, Bool, true, false, List, codes, Option, None, Some, option_and_then, Result, Ok, Err, if◌then◌else◌, refl, sym, ap}
 use Rattle.serde_json.specs.Data.{Data}
 use Rattle.serde_json.specs.Find.{get, as_str, as_object}
@@ -97,7 +97,7 @@ ahead_is path names d q h = by (outline_in names d) refl h
     by (Ok o) e is = (o, e, of_code (program_of names o) is)
     by (Err fault) e is = absurd (cc)
 
--- so it has the name that stands in its entry
+-- so it has the name that is in its entry
 pub named_ahead : (path : List ℕ) (names : Names) (d : Data) (q : Program) (r : Refusal) (name : List ℕ) → read_ahead path names (outline_in names d) ≡ Ok (Ok q)
     → or_refused r (option_and_then as_str (get (codes "name") d)) ≡ Ok name → name ≡ q.name
 named_ahead path names d q r name ahead text = let a = ahead_is path names d q ahead in name_is names d a.0 q r name a.1 a.2 text

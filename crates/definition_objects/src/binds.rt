@@ -146,7 +146,7 @@ fn slot_called(
     Ok(property.slot)
 }
 
-// The same of the object at a place. Where its class is not known, that is told of the object itself.
+// The same of the object at a place. Where its class is not known, that is reported of the object itself.
 fn source_slot(
     part: Part<'_>,
     target: &Target<'_>,

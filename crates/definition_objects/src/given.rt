@@ -140,7 +140,7 @@ fn object_of_type(
     Ok(Given::Object(Place(at_most(512, place))))
 }
 
-/// The type of the object and the id, where a text stands for an object.
+/// The type of the object and the id, where a text denotes an object.
 pub fn reference<'a>(kind: &Kind, value: &'a serde_json::Value) -> Option<(TypeId, &'a str)>
     ensures { option_map (λ r. (r.0, r.1.now)) result ≡ reference (kind_view kind.now) (as_str (view value.now)) }
 {

@@ -379,6 +379,10 @@ fn read_named<'a, 'b>(
 }
 
 /// The objects of a list beside these prototypes, where so many may live, and the bindings among them.
+///
+/// # Errors
+///
+/// `Refused` with the first fault in document order, and `OutOfMemory` if memory is refused.
 pub fn read_objects<'a>(
     list: Entries<'a>,
     classes: Classes<'a>,

@@ -45,6 +45,10 @@ fn places_of(alloc: Global, entries: &[&Value]) -> Result<BTreeMap<String, Place
 }
 
 /// The places of a document: its objects in document order, behind each its children, and then its prototypes.
+///
+/// # Errors
+///
+/// `AllocError` if memory is refused.
 pub fn read_places(alloc: Global, value: &Value) -> Result<BTreeMap<String, Place>, AllocError>
     ensures { (id : List ℕ) → IfOk result (λ places. number_of_place (get_by_text places id) ≡ place_with_id (view value.now) id) }
 {

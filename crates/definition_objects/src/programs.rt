@@ -238,6 +238,10 @@ fn read_entry(part: Part<'_>, names: &Names<'_>, programs: &mut Programs) -> Res
 }
 
 /// The programs of a list, where their kinds may name these types and places.
+///
+/// # Errors
+///
+/// `Refused` with the first fault in document order, and `OutOfMemory` if memory is refused.
 pub fn read_programs(list: Entries<'_>, names: &Names<'_>) -> Result<Programs, ReadError>
     ensures read { Gives (λ programs. map plain_program programs.entries) result (each (at_entry (λ path. program_at path (names_view names.now)) list.entry.path.now) 0 [] (items_view list.entry.items.now)) }
     ensures named { IfOk result (λ programs. AllByRecursion HasOwnName programs.entries) }

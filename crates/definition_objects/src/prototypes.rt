@@ -288,6 +288,10 @@ impl<'a> Reads<PrototypeDraft> for PrototypeEntries<'a> {
 }
 
 /// The prototypes of a list, where classes have these properties and shapes, and the names of their peers.
+///
+/// # Errors
+///
+/// `Refused` with the first fault in document order, and `OutOfMemory` if memory is refused.
 pub fn read_prototypes(list: Entries<'_>, known: Classes<'_>) -> Result<ReadPrototypes, ReadError>
     requires { ArePlain known.types.now known.specs.now }
     ensures prototypes { Gives (λ r. map plain_prototype r.prototypes.entries) result (each (at_entry (λ path. prototype_at path known.entry.types.now (specs_by known.entry.types.now (own_of known.entry.specs.now)) (is_shaped_by known.entry.types.now (read None known.entry.shaped.now))) list.entry.path.now) 0 [] (items_view list.entry.items.now)) }

@@ -7,7 +7,7 @@ use Rattle.serde_json.specs.View.{view, items_view}
 use Rattle.definition_format.specs.Denoted.Entries.{section, with_all, in_order}
 use Rattle.definition_parts.proofs.Each.{one_more}
 
--- what stands behind an entry
+-- what comes after an entry
 abbrev pub below : ℕ → Data → List Data
 below levels d = in_order levels (section (codes "children") d)
 

@@ -19,6 +19,10 @@ use std::alloc::{AllocError, Global};
 pub const MAX_BYTES: usize = 4_194_304;
 
 /// The JSON value that the bytes hold.
+///
+/// # Errors
+///
+/// `Refused` with the first fault in document order, and `OutOfMemory` if memory is refused.
 #[tactic(auto, unfolding(definition_format::specs::Document::document))]
 pub fn parsed(alloc: Global, bytes: &[u8]) -> Result<Value, ReadError>
     ensures { Gives view result (document bytes.now) }
@@ -36,7 +40,7 @@ pub fn parsed(alloc: Global, bytes: &[u8]) -> Result<Value, ReadError>
     }
 }
 
-/// A value of a document, and where it stands.
+/// A value of a document, and where it is.
 #[derive(Clone, Copy)]
 pub struct Part<'a> {
     pub alloc: Global,
@@ -60,6 +64,10 @@ fn path_of_entry(alloc: Global, path: &str, index: usize) -> Result<String, Allo
 }
 
 /// The path as a text.
+///
+/// # Errors
+///
+/// `AllocError` if memory is refused.
 pub fn path_text(alloc: Global, path: Path<'_>) -> Result<String, AllocError>
     ensures { IfOk result (λ s. string_bytes s ≡ path_of path.entry) }
 {
@@ -70,6 +78,10 @@ pub fn path_text(alloc: Global, path: Path<'_>) -> Result<String, AllocError>
 }
 
 /// The path of a member of the value there.
+///
+/// # Errors
+///
+/// `AllocError` if memory is refused.
 pub fn path_under(alloc: Global, path: Path<'_>, key: &str) -> Result<String, AllocError>
     ensures { IfOk result (λ s. string_bytes s ≡ under (path_of path.entry) key.now) }
 {
@@ -79,6 +91,10 @@ pub fn path_under(alloc: Global, path: Path<'_>, key: &str) -> Result<String, Al
 }
 
 /// The path of an entry of the list there.
+///
+/// # Errors
+///
+/// `AllocError` if memory is refused.
 pub fn path_within(alloc: Global, path: Path<'_>, index: usize) -> Result<String, AllocError>
     ensures { IfOk result (λ s. string_bytes s ≡ nth (path_of path.entry) index) }
 {
@@ -101,6 +117,10 @@ pub fn entry_name<'a>(part: Part<'a>) -> Result<&'a str, ReadError>
 }
 
 /// A fault of shape at a member.
+///
+/// # Errors
+///
+/// `OutOfMemory` if memory is refused.
 pub fn bad_shape(alloc: Global, path: Path<'_>, key: &str) -> Result<ReadError, ReadError>
     ensures { IsRefusal (shape (under (path_of path.entry) key.now)) result }
 {
@@ -108,6 +128,10 @@ pub fn bad_shape(alloc: Global, path: Path<'_>, key: &str) -> Result<ReadError, 
 }
 
 /// A fault of a name at a member, which nothing has.
+///
+/// # Errors
+///
+/// `OutOfMemory` if memory is refused.
 pub fn unknown_name(part: Part<'_>, key: &str, name: &str) -> Result<ReadError, ReadError>
     ensures { IsRefusal (unknown (under (path_of part.entry.path) key.now) name.now) result }
 {
@@ -127,6 +151,10 @@ fn path_at(alloc: Global, path: Path<'_>, key: Option<&str>) -> Result<String, A
 }
 
 /// A fault of shape at a member, or at the value itself.
+///
+/// # Errors
+///
+/// `OutOfMemory` if memory is refused.
 pub fn bad_shape_at(part: Part<'_>, key: Option<&str>) -> Result<ReadError, ReadError>
     ensures { IsRefusal (shape (at_key (path_of part.entry.path) (option_map (λ k. k.now) key.entry))) result }
 {
@@ -134,6 +162,10 @@ pub fn bad_shape_at(part: Part<'_>, key: Option<&str>) -> Result<ReadError, Read
 }
 
 /// A fault of a name there, which nothing has.
+///
+/// # Errors
+///
+/// `OutOfMemory` if memory is refused.
 pub fn unknown_at(part: Part<'_>, key: Option<&str>, name: &str) -> Result<ReadError, ReadError>
     ensures { IsRefusal (unknown (at_key (path_of part.entry.path) (option_map (λ k. k.now) key.entry)) name.now) result }
 {
@@ -143,6 +175,10 @@ pub fn unknown_at(part: Part<'_>, key: Option<&str>, name: &str) -> Result<ReadE
 }
 
 /// A fault of a value at a member.
+///
+/// # Errors
+///
+/// `OutOfMemory` if memory is refused.
 pub fn bad_value(
     alloc: Global,
     path: Path<'_>,
@@ -167,6 +203,10 @@ pub fn listed_ahead<'a>(value: &'a Value, key: &str) -> &'a [Value]
 
 impl<'a> Part<'a> {
     /// The members of the value, which must be an object.
+    ///
+    /// # Errors
+    ///
+    /// `Refused` with the first fault in document order, and `OutOfMemory` if memory is refused.
     pub fn members(self) -> Result<&'a Map<String, Value>, ReadError>
         ensures { Gives (λ m. members_view m.now.entries) result (members_at (path_of self.entry.path) (view self.entry.value.now)) }
     {
@@ -179,6 +219,10 @@ impl<'a> Part<'a> {
     }
 
     /// A member that must be a text.
+    ///
+    /// # Errors
+    ///
+    /// `Refused` with the first fault in document order, and `OutOfMemory` if memory is refused.
     pub fn text(self, key: &str) -> Result<&'a str, ReadError>
         ensures { Gives (λ s. s.now) result (text_at (path_of self.entry.path) (view self.entry.value.now) key.now) }
     {
@@ -189,6 +233,10 @@ impl<'a> Part<'a> {
     }
 
     /// A truth value, which is false where it is absent.
+    ///
+    /// # Errors
+    ///
+    /// `Refused` with the first fault in document order, and `OutOfMemory` if memory is refused.
     pub fn truth(self, key: &str) -> Result<bool, ReadError>
         ensures { Gives (λ b. b) result (truth_at (path_of self.entry.path) (view self.entry.value.now) key.now) }
     {
@@ -202,6 +250,10 @@ impl<'a> Part<'a> {
     }
 
     /// The entries of a list, which may be absent.
+    ///
+    /// # Errors
+    ///
+    /// `Refused` with the first fault in document order, and `OutOfMemory` if memory is refused.
     pub fn entries(self, key: &str) -> Result<&'a [Value], ReadError>
         ensures { Gives (λ s. items_view s.now) result (entries_at (path_of self.entry.path) (view self.entry.value.now) key.now) }
     {
@@ -215,6 +267,10 @@ impl<'a> Part<'a> {
     }
 
     /// Tests that the members have no other keys.
+    ///
+    /// # Errors
+    ///
+    /// `Refused` with the first fault in document order, and `OutOfMemory` if memory is refused.
     #[tactic(auto, using(crate::proofs::Members::first_other_is))]
     pub fn check_only(self, members: &Map<String, Value>, keys: &[&str]) -> Result<(), ReadError>
         ensures { Gives (λ _. tt) result (only_at (path_of self.entry.path) (members_view members.now.entries) (map (λ k. k.now) keys.now)) }
@@ -257,6 +313,10 @@ fn push_escaped(out: &mut String, c: char) -> Result<(), AllocError>
 }
 
 /// A key as a path writes it: `~0` for `~`, and `~1` for `/`.
+///
+/// # Errors
+///
+/// `AllocError` if memory is refused.
 pub fn escaped(alloc: Global, key: &str) -> Result<String, AllocError>
     ensures { IfOk result (λ s. string_bytes s ≡ escaped key.now) }
 {

@@ -94,6 +94,10 @@ fn numbers_in(
 }
 
 /// Adds the objects of a list in document order: behind each its children. Lists nest so many levels deep.
+///
+/// # Errors
+///
+/// `AllocError` if memory is refused.
 pub fn add_objects<'a>(
     items: &'a [Value],
     levels: usize,
@@ -156,6 +160,10 @@ impl<'a> Model for TypeNames<'a> {
 
 impl<'a> TypeNames<'a> {
     /// The names of a document, where the types before its interfaces are so many.
+    ///
+    /// # Errors
+    ///
+    /// `AllocError` if memory is refused.
     pub fn new(alloc: Global, value: &'a Value, first: usize) -> Result<Self, AllocError>
         ensures { (types : List GType) → first ≡ length types → IfOk result (λ names. names ≡ type_names types (view value.now)) }
     {
@@ -205,6 +213,10 @@ impl<'a> Model for ProgramNames<'a> {
 
 impl<'a> ProgramNames<'a> {
     /// The names of a document.
+    ///
+    /// # Errors
+    ///
+    /// `AllocError` if memory is refused.
     pub fn new(alloc: Global, value: &'a Value) -> Result<Self, AllocError>
         ensures { IfOk result (λ names. names ≡ program_names (view value.now)) }
     {
@@ -244,6 +256,10 @@ impl<'a> Model for ObjectNames<'a> {
 
 impl<'a> ObjectNames<'a> {
     /// The names of these objects and of their children.
+    ///
+    /// # Errors
+    ///
+    /// `AllocError` if memory is refused.
     pub fn new(alloc: Global, items: &'a [Value]) -> Result<Self, AllocError>
         ensures { IfOk result (λ names. names ≡ object_names (items_view items.now)) }
     {

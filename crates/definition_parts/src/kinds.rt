@@ -63,7 +63,7 @@ fn flags_named(types: &TypeTree, name: &str) -> Option<TypeId>
     }
 }
 
-// What stands before the first colon and what stands behind it, if there is one.
+// What comes before the first colon and what comes after it, if there is one.
 fn parted(word: &str) -> Option<(&str, &str)>
     ensures { option_map (λ p. (p.0.now, p.1.now)) result ≡ parted word.now }
 {
@@ -114,8 +114,12 @@ fn kind_of_type(
     Err(bad_shape_at(part, key)?)
 }
 
-// The kind of a word, which is a member or the value itself. It may name an enum or a flags type of these, and a class or interface of the
-// document.
+/// The kind of a word, which is a member or the value itself. It may name an enum or a flags type of these, and a class or interface of the
+/// document.
+///
+/// # Errors
+///
+/// `Refused` with the first fault in document order, and `OutOfMemory` if memory is refused.
 pub fn kind_of_word(
     part: Part<'_>,
     key: Option<&str>,
@@ -135,7 +139,11 @@ pub fn kind_of_word(
     }
 }
 
-// The kind of a property.
+/// The kind of a property.
+///
+/// # Errors
+///
+/// `Refused` with the first fault in document order, and `OutOfMemory` if memory is refused.
 pub fn kind_of(part: Part<'_>, types: &TypeTree, names: &TypeNames<'_>) -> Result<Kind, ReadError>
     ensures kind { Gives kind_view result (kind_at (path_of part.entry.path) types.now names.now (view part.entry.value.now)) }
     ensures known { IfOk result (λ k. IsKnown types.now k) }
@@ -145,14 +153,14 @@ pub fn kind_of(part: Part<'_>, types: &TypeTree, names: &TypeNames<'_>) -> Resul
     Ok(kind)
 }
 
-// Whether a kind is one of objects.
+/// Whether a kind is one of objects.
 pub fn is_object(kind: &Kind) -> bool
     ensures { result ≡ is_object_kind (kind_view kind.now) }
 {
     matches!(kind, Kind::Object(_))
 }
 
-// The least number of a kind.
+/// The least number of a kind.
 pub fn lowest(kind: &Kind) -> i128
     ensures { result ≡ lowest (kind_view kind.now) }
 {
@@ -163,7 +171,7 @@ pub fn lowest(kind: &Kind) -> i128
     }
 }
 
-// The greatest number of a kind.
+/// The greatest number of a kind.
 pub fn highest(kind: &Kind) -> i128
     ensures { result ≡ highest (kind_view kind.now) }
 {
@@ -176,7 +184,7 @@ pub fn highest(kind: &Kind) -> i128
     }
 }
 
-// Whether a kind is one of whole numbers.
+/// Whether a kind is one of whole numbers.
 pub fn is_whole(kind: &Kind) -> bool
     ensures { result ≡ is_whole_kind (kind_view kind.now) }
 {

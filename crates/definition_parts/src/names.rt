@@ -51,6 +51,10 @@ pub fn name_in(value: &Value) -> Option<&str>
 }
 
 /// The name that a member of an entry is.
+///
+/// # Errors
+///
+/// `Refused` with the first fault in document order, and `OutOfMemory` if memory is refused.
 pub fn name_under<'a>(part: Part<'_>, key: &str, value: &'a Value) -> Result<&'a str, ReadError>
     ensures { Gives (λ s. s.now) result (name_at (under (path_of part.entry.path) key.now) (view value.now)) }
 {
@@ -61,6 +65,10 @@ pub fn name_under<'a>(part: Part<'_>, key: &str, value: &'a Value) -> Result<&'a
 }
 
 /// The name that an entry is.
+///
+/// # Errors
+///
+/// `Refused` with the first fault in document order, and `OutOfMemory` if memory is refused.
 pub fn name_of_entry<'a>(part: Part<'a>) -> Result<&'a str, ReadError>
     ensures { Gives (λ s. s.now) result (name_at (path_of part.entry.path) (view part.entry.value.now)) }
 {

@@ -34,6 +34,10 @@ pub trait Reads<S> {
 }
 
 /// Reads the entries of a list, from the first on.
+///
+/// # Errors
+///
+/// `Refused` with the first fault in document order, and `OutOfMemory` if memory is refused.
 pub fn read_each<S, R: Reads<S>>(
     reader: &R,
     list: Entries<'_>,

@@ -114,7 +114,7 @@ fn parent_ahead(value: &Value, types: &TypeTree) -> Option<TypeId>
     }
 }
 
-// Tests that a class under a parent does not stand too deep.
+// Tests that a class under a parent is not too deep.
 fn check_depth(types: &TypeTree, parent: Option<TypeId>) -> Result<(), ReadError>
     ensures { Gives (λ _. tt) result (check_depth types.now parent) }
 {
@@ -265,6 +265,10 @@ impl<'a> Reads<ClassDraft> for ClassEntries<'a> {
 }
 
 /// Adds the classes of a list.
+///
+/// # Errors
+///
+/// `Refused` with the first fault in document order, and `OutOfMemory` if memory is refused.
 pub fn read_classes(
     list: Entries<'_>,
     names: &TypeNames<'_>,

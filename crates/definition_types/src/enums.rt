@@ -342,6 +342,10 @@ impl Reads<TypeTree> for FlagsEntries {
 }
 
 /// Adds the enums of a list.
+///
+/// # Errors
+///
+/// `Refused` with the first fault in document order, and `OutOfMemory` if memory is refused.
 pub fn read_enums(list: Entries<'_>, types: &mut TypeTree) -> Result<(), ReadError>
     ensures { Leads result (each (at_entry (λ path. enum_at path (length types.old)) list.entry.path.now) 0 types.old (items_view list.entry.items.now)) types.new }
 {
@@ -350,6 +354,10 @@ pub fn read_enums(list: Entries<'_>, types: &mut TypeTree) -> Result<(), ReadErr
 }
 
 /// Adds the flags types of a list.
+///
+/// # Errors
+///
+/// `Refused` with the first fault in document order, and `OutOfMemory` if memory is refused.
 pub fn read_flags_types(list: Entries<'_>, types: &mut TypeTree) -> Result<(), ReadError>
     ensures { Leads result (each (at_entry (λ path. flags_at path (length types.old)) list.entry.path.now) 0 types.old (items_view list.entry.items.now)) types.new }
 {

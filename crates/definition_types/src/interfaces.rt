@@ -201,6 +201,10 @@ impl<'a> Reads<Draft> for InterfaceEntries<'a> {
 }
 
 /// Adds the interfaces of a list, where the classes have these entries.
+///
+/// # Errors
+///
+/// `Refused` with the first fault in document order, and `OutOfMemory` if memory is refused.
 pub fn read_interfaces(
     list: Entries<'_>,
     classes: &[Value],

@@ -306,6 +306,10 @@ impl Reads<Shapes> for ShapeEntries {
 }
 
 /// The shapes of a list.
+///
+/// # Errors
+///
+/// `Refused` with the first fault in document order, and `OutOfMemory` if memory is refused.
 pub fn read_shapes(list: Entries<'_>) -> Result<Shapes, ReadError>
     ensures { Gives (λ v. map plain_shape v.entries) result (each (at_entry shape_at list.entry.path.now) 0 [] (items_view list.entry.items.now)) }
 {

@@ -1,4 +1,4 @@
--- Where the object of an id and the program of a name stand, and one more of them.
+-- Where the object of an id and the program of a name are, and one more of them.
 use Rattle.std.proofs.Common.{◌≡◌, ℕ, List, [], ◌∷◌, ◌++◌, map, Option, None, position, String, Global, string_eq, string_bytes, refl, ap, ◌∙◌}
 use Rattle.std.specs.List.{AllByRecursion}
 use Rattle.std.specs.Map.{keys_of}

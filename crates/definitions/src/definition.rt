@@ -377,7 +377,7 @@ fn prototype_entry(prototypes: &Prototypes, number: usize) -> Option<ObjectEntry
     })
 }
 
-// The number that stands at a place, if one stands there.
+// The number that is at a place, if one is there.
 fn number_at(numbers: &[Option<ProgramId>], place: usize) -> Option<ProgramId>
     ensures { result ≡ read None numbers.now place }
 {

@@ -16,7 +16,7 @@ pub type Objects = IndexMap<String, ObjectBody>;
 /// Prototypes in document order, by their ids.
 pub type Prototypes = IndexMap<String, PrototypeBody>;
 
-// Where the object of an id stands.
+// Where the object of an id is.
 pub(crate) fn position_of(objects: &Objects, id: &str) -> Option<usize>
     ensures place { result ≡ place_named (λ p. p.id) (map plain_object objects.now.entries) id.now }
     ensures within { IfSome result (λ i. i < length objects.now.entries) }
@@ -24,7 +24,7 @@ pub(crate) fn position_of(objects: &Objects, id: &str) -> Option<usize>
     objects.get_index_of(id)
 }
 
-/// Where the prototype of an id stands among the prototypes.
+/// Where the prototype of an id is among the prototypes.
 pub fn prototype_of(prototypes: &Prototypes, id: &str) -> Option<usize>
     ensures place { result ≡ place_named (λ p. p.id) (map plain_prototype prototypes.now.entries) id.now }
     ensures within { IfSome result (λ i. i < length prototypes.now.entries) }
@@ -32,7 +32,7 @@ pub fn prototype_of(prototypes: &Prototypes, id: &str) -> Option<usize>
     prototypes.get_index_of(id)
 }
 
-/// Where the object or prototype of an id stands: prototypes stand behind the objects.
+/// Where the object or prototype of an id is: prototypes come after the objects.
 pub fn place_in(objects: &Objects, prototypes: &Prototypes, id: &str) -> Option<usize>
     requires { length objects.now.entries + length prototypes.now.entries ≤ 512 }
     ensures place { result ≡ place_named (λ p. p.id) (places_of objects.now.entries prototypes.now.entries) id.now }

@@ -20,7 +20,7 @@ pub fn shape_of(shapes: &Shapes, name: &str) -> Option<usize>
     shapes.get_index_of(name)
 }
 
-// The number of the shape that stands at a place, if one stands there.
+// The number of the shape that is at a place, if one is there.
 fn shape_at(shaped: &[Option<usize>], place: usize) -> Option<usize>
     ensures { result ≡ read None shaped.now place }
 {

@@ -105,7 +105,7 @@ list_between (s ∷ t ∷ more) all zero start next at then =
     ap (λ x. Some (slice_range all x t)) (same_Some _ _ at) ∙ ap (λ x. Some (slice_range all start x)) (same_Some _ _ then)
 list_between (s ∷ t ∷ more) all (suc i) start next at then = list_between (t ∷ more) all i start next at then
 
--- and where it is the last
+-- and where it is the last list
 pub list_at_end : (starts all : List ℕ) (i start : ℕ) → slice_get starts i ≡ Some start → suc i ≡ length starts →
     slice_get (lists_in starts all) i ≡ Some (drop start all)
 list_at_end [] all i start at last = absurd (none-some _ at)

@@ -12,7 +12,7 @@ set_same [] i x within = absurd (omega (arith, within))
 set_same (y ∷ ys) zero x within = refl
 set_same (y ∷ ys) (suc i) x within = set_same ys i x (omega (arith, within))
 
--- another one stays
+-- another entry stays
 pub set_other : {A : Type 0} → (xs : List A) (i j : ℕ) (x : A) → (i ≡ j → ⊥) → slice_get (slice_set xs i x) j ≡ slice_get xs j
 set_other [] i j x other = refl
 set_other (y ∷ ys) zero zero x other = absurd (other refl)
@@ -20,7 +20,7 @@ set_other (y ∷ ys) zero (suc j) x other = refl
 set_other (y ∷ ys) (suc i) zero x other = refl
 set_other (y ∷ ys) (suc i) (suc j) x other = set_other ys i j x (λ same. other (ap suc same))
 
--- and there are as many
+-- and there are as many entries as before
 pub set_length : {A : Type 0} → (xs : List A) (i : ℕ) (x : A) → length (slice_set xs i x) ≡ length xs
 set_length [] i x = refl
 set_length (y ∷ ys) zero x = refl

@@ -17,7 +17,7 @@ few_on_path g s is = omega (arith, long s.place (length s.path) at, is.place_len
     at : (q : ℕ) → q < length s.path → (i : ℕ) × (slice_get s.place i ≡ Some q)
     at q below = let r = read_within s.path q below in (r.0, is.placed q r.0 r.1)
 
--- and no more in the order
+-- and no more nodes are in the order than there are
 pub few_done : (g : Graph) (s : State) → IsSearch g s → length s.order ≤ length g
 few_done g s is = omega (arith, long s.position (length s.order) at, is.position_length)
   where

@@ -35,7 +35,7 @@ LeadRound g first [] = ⊥
 LeadRound g first (node ∷ []) = Edge g node first
 LeadRound g first (node ∷ next ∷ more) = Edge g node next × LeadRound g first (next ∷ more)
 
--- the same of the list's own first node
+-- each node of a list has an edge to the next one, and the last to the list's own first node
 abbrev pub LeadsRound : Graph → List ℕ → Type 0
 LeadsRound g [] = ⊥
 LeadsRound g (first ∷ more) = LeadRound g first (first ∷ more)

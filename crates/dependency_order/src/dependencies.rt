@@ -80,7 +80,7 @@ impl Dependencies {
     }
 }
 
-// One of the lists that begin at these places of one list.
+// The list of this number, of the lists that begin at these places of `all`.
 fn list_at<'a>(starts: &[usize], all: &'a [u32], number: usize) -> &'a [u32]
     requires places { AreStarts starts.now all.now }
     requires inside { number < length starts.now }

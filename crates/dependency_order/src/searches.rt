@@ -58,7 +58,7 @@ impl Search {
         self.order
     }
 
-    /// Goes on until a node is done, or an edge leads back to the path, to this place of it.
+    /// Goes on until a node is done, or an edge leads back to the path, to the place of it that is answered.
     pub(crate) fn visit(
         &mut self,
         dependencies: &Dependencies,
@@ -81,7 +81,7 @@ impl Search {
         Ok(None)
     }
 
-    // One step, at the end of the path; where the path is empty it begins at a node that is not done.
+    // Makes one step at the end of the path; where the path is empty it begins at a node that is not done.
     fn advance(
         &mut self,
         dependencies: &Dependencies,
@@ -104,7 +104,8 @@ impl Search {
         self.step(dependencies, node)
     }
 
-    // One step from the last node of the path: it is done, or the path goes on, or it leads back to itself, to this place.
+    // Makes one step from the last node of the path: the node is done, or the path goes on, or an edge leads back to the path, to the place
+    // that is answered.
     fn step(
         &mut self,
         dependencies: &Dependencies,
@@ -185,7 +186,7 @@ impl Search {
         self.passed[node].min(edges.len())
     }
 
-    // The path begins at a node.
+    // Begins the path at a node.
     fn begin(&mut self, root: usize) -> Result<(), AllocError>
         requires inside { root < length self.old.place }
         ensures { OnOk result (self.new ≡ begun_at self.old root) }
@@ -195,7 +196,7 @@ impl Search {
         Ok(())
     }
 
-    // The path goes on to a node.
+    // Goes on to a node: the path is longer by it.
     fn go_down(&mut self, node: usize, number: usize, to: usize) -> Result<(), AllocError>
         requires node { node < length self.old.passed }
         requires inside { to < length self.old.place }
@@ -207,7 +208,7 @@ impl Search {
         Ok(())
     }
 
-    // The last node of the path is done.
+    // Takes the last node off the path, and marks it as done.
     fn finish(&mut self, node: usize) -> Result<(), AllocError>
         requires inside { node < length self.old.position }
         ensures { OnOk result (self.new ≡ done_with self.old node) }

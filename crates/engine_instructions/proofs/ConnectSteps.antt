@@ -42,7 +42,7 @@ module _ (d : Definition) (w : World) (rest : List Task) (f : Frame) (to object 
   pub connection_stops : (halt : Halt) → Stops halt (connection_in d w f object k) → Stops halt (connecting d w rest f to object k)
   connection_stops halt s = stops_as halt (connecting d w rest f to object k) _ by_connection (stops_on halt (connection_in d w f object k) then_tells s)
 
-  -- what came of it is told
+  -- what came of it is reported
   pub connect_tells : (x : Connection) (o : Outcome) → connection_in d w f object k ≡ Ok x → connected d w (to_connect rest) x ≡ told_by d o w x
       → connecting d w rest f to object k ≡ written_to (told_by d o w x).state to (Some (values.bool (is_connected o))) f
   connect_tells x o meant comes =
@@ -106,7 +106,7 @@ module _ (d : Definition) (e m : Engine) (f : Frame) (to object : ℕ) (k : Conn
   connect_world_behind mid wrote =
       (written_elsewhere e.counted (agenda_of d e) to (Some (values.bool (is_connected o))) f (world_of m.world) (world_of m.world) (config_of d mid) (sym same_place ∙ wrote)).0
 
--- no line is told by the connection itself
+-- no line is reported by the connection itself
 pub left_transcript : (o : Outcome) (w : World) (x : Connection) → (left_by o w x).transcript ≡ w.transcript
 left_transcript outcomes.Connected w x = refl
 left_transcript outcomes.TooLate w x = refl

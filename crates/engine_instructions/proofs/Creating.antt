@@ -182,7 +182,7 @@ none_of (p ∷ ps) all =
     let one : one_object p.is_prototype ≡ 0 = ap one_object (all 0 p refl) in
     omega (arith, more, one, none_of ps (λ i q at. all (suc i) q at))
 
--- objects stand before prototypes: so many are left behind a place
+-- objects come before prototypes: so many are left behind a place
 left_count : (ps : List Place) (n k : ℕ) → ((i : ℕ) (p : Place) → slice_get ps i ≡ Some p → p.is_prototype ≡ nat_le n i)
     → count_by is_object (drop k ps) ≡ count_by is_object ps - k
 left_count [] n zero first = refl

@@ -119,7 +119,7 @@ module _ (l : List DueTransfer) where
         by true (Some program) = refl
         by false (Some program) = refl
 
--- where it stands and what it has accumulated make no difference to the turns from a stage on
+-- where it is and what it has accumulated make no difference to the turns from a stage on
 pub turns_alike : (w : Walk) (hs : List Handler) (at stage : Stage) (v : Option Value) → turns_from at (record w { stage = stage; value = v }) hs ≡ turns_from at w hs
 turns_alike w hs stages.First stage v = refl
 turns_alike w hs stages.Transfers stage v = refl

@@ -1,4 +1,4 @@
--- What an `idle` or `timeout` of a program stands for in the machine.
+-- What an `idle` or `timeout` of a program denotes in the machine.
 use Rattle.std.specs.Prelude.{option_map}
 use Rattle.ui_machine.specs.Instructions.Sources as machine
 use Rattle.bytecode.specs.View.{number_of}

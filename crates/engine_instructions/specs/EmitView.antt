@@ -1,4 +1,4 @@
--- What an `emit` of a program stands for in the machine.
+-- What an `emit` of a program denotes in the machine.
 use Rattle.std.specs.Prelude.{ℕ, false, map, option_map, Ok}
 use Rattle.ui_machine.specs.Definition.{Definition}
 use Rattle.ui_machine.specs.Instructions.Registers.{operand_in, values_in}

@@ -57,7 +57,7 @@ fn new_connection(
     })
 }
 
-/// A handler is connected, unless one of its objects is disposed, or as many are connected as may be, of which a line tells. A register gets
+/// A handler is connected, unless one of its objects is disposed, or as many are connected as may be: a line says so then. A register gets
 /// whether it was.
 pub(crate) fn connect_from_program(
     engine: &mut Engine,

@@ -42,6 +42,10 @@ use frames::Frame;
 use ui_machine::Halt;
 
 /// Does what an instruction says, which is counted already. The number of a peer that it closes is left in the engine. Handlers that it disconnects have no more turns in the emissions that go on.
+///
+/// # Errors
+///
+/// `Halt::OutOfMemory` if memory is refused, and `Halt::Stuck` where the machine is stuck here.
 pub fn execute(
     engine: &mut Engine,
     definition: &Definition,

@@ -54,7 +54,7 @@ fn prototype_named<'a>(definition: &'a Definition, id: &str) -> Option<Prototype
     Some(Prototype { place, entry })
 }
 
-// How many objects of a definition stand from a place on.
+// How many objects of a definition are from a place on.
 fn objects_from(definition: &Definition, place: Place) -> u32
     ensures { result ≡ object_count definition.now - place.0 }
 {
@@ -136,7 +136,7 @@ fn create_at(
 }
 
 /// A register gets a new object of the prototype of an id, with the first of its peers that is left where its class has a shape; or null where
-/// no more objects may live or no peer is left, of which a line tells. The rest of the object's construction comes before the program goes on.
+/// no more objects may live or no peer is left: a line says so then. The rest of the object's construction comes before the program goes on.
 pub(crate) fn create(
     engine: &mut Engine,
     definition: &Definition,

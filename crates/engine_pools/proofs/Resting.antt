@@ -19,7 +19,7 @@ use Rattle.engine_pools.specs.PoolView.{Knows, world_at}
 use Rattle.engine_pools.specs.Promises.{Rests}
 use Rattle.engine_pools.proofs.Points.{forgets_to}
 
--- a peer that may stand in another's place
+-- a peer that may be in another's place
 record Alike (p q : Peer) : Type 0 where
   holder : q.holder ≡ p.holder
   is_open : q.state.is_open ≡ p.state.is_open

@@ -147,7 +147,7 @@ module _ (d : Definition) where
       by true makes (Some id) at = kept (λ none. let never : ◌≡◌ {A = Option ℕ} (Some id) None = sym at ∙ none in absurd (cc never))
       by true makes None at = gone_as c.world x.world (acts_same c.world reply c.agenda c.counted x makes (sym (ap (first_of d reply c) at) ∙ is))
 
-  -- ** steps of the machine that the engine's stand for
+  -- ** steps of the machine that the engine's denote
 
   module _ (c m : Config) (stands : without_gone m ≡ c) where
     same_world : m.world ≡ c.world

@@ -25,7 +25,7 @@ use native_peers::{Peer, PeerPool};
 use std::alloc::AllocError;
 use ui_machine::Halt;
 
-// Asks the open peer of a due call, and gives the program what it answers. Where no memory is found the peer has replied, and no line tells of
+// Asks the open peer of a due call, and gives the program what it answers. Where no memory is found the peer has replied, and no line reports
 // it.
 fn ask_for(
     engine: &mut Engine,
@@ -92,7 +92,7 @@ pub(crate) fn take_call(engine: &mut Engine, definition: &Definition) -> Option<
 ///
 /// # Errors
 ///
-/// `AllocError` if no memory is found: then the peer has replied, and no line tells of it.
+/// `AllocError` if no memory is found: then the peer has replied, and no line reports it.
 pub(crate) fn answer_call(
     engine: &mut Engine,
     definition: &Definition,

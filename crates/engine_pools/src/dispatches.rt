@@ -29,7 +29,7 @@ use std::alloc::AllocError;
 /// What a dispatch led to.
 #[derive(Drop)]
 pub struct Reply {
-    /// The value that the event told, where it told one.
+    /// The value that the event gave, where it gave one.
     pub result: Option<Value>,
     /// How many lines `end` were said.
     pub dispatches: u32,

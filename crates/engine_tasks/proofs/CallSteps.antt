@@ -79,14 +79,14 @@ module _ (d : Definition) (hs : List Handler) (w : World) (rest : List Task) whe
 
 -- ** replies
 
--- what is written where it stands is as it was
+-- what is written over itself is as it was
 written_back : {A : Type 0} (none x : A) (xs : List A) (i : ℕ) → slice_get xs i ≡ Some x → write x xs i x ≡ xs
 written_back none x [] i at = cc at
 written_back none x (y ∷ xs) zero at = let here : y ≡ x = cc at in ap (λ z. z ∷ xs) (sym here)
 written_back none x (y ∷ xs) (suc i) at = ap (λ zs. y ∷ zs) (written_back none x xs i at)
 
 module _ (d : Definition) (w : World) (call : Call) (rest : List Task) where
-  -- the program goes on with a value, and a line tells of the call
+  -- the program goes on with a value, and a line reports the call
   abbrev pub goes_on_so : Conclusion → Answer Left
   goes_on_so c = left_with (with_line c.line w) rest call.to c.value
 

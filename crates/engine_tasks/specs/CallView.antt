@@ -1,4 +1,4 @@
--- What a due call of a peer asks, and what its answer leads to: a line that tells of it, and the value that the program is given.
+-- What a due call of a peer asks, and what its answer leads to: a line that reports it, and the value that the program is given.
 use Rattle.std.specs.Prelude.{ℕ, List, None, Option, Ok, Some, map, string_bytes}
 use Rattle.ui_machine.specs.Definition.{Definition}
 use Rattle.ui_machine.specs.Definition.Signals.{Method}

@@ -1,4 +1,4 @@
-//! The bindings of the definition: they are made once all objects stand (GTK manual, GtkBuilder: the attribute `bind-source`).
+//! The bindings of the definition: they are made once all objects are there (GTK manual, GtkBuilder: the attribute `bind-source`).
 
 ghost use Rattle.std.specs.Prelude.{◌≡◌, ◌||◌, ◌++◌, ℕ, false, option_map, string_bytes, IfOk, OnOk, OnErr};
 ghost use Rattle.ui_machine.specs.Definition as machine;
@@ -123,6 +123,10 @@ fn bind(
 }
 
 /// The next binding of the definition is made, unless one of its objects is disposed, or the first signal is connected where none is left.
+///
+/// # Errors
+///
+/// `Halt::OutOfMemory` if memory is refused, and `Halt::Stuck` where the machine is stuck here.
 #[tactic(auto, unfolding(ui_machine::specs::Rules::Build::building_binding))]
 pub fn bind_from_build(
     engine: &mut Engine,

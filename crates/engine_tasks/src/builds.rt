@@ -183,6 +183,10 @@ fn run_constructed(
 }
 
 /// The next step of a construction.
+///
+/// # Errors
+///
+/// `Halt::OutOfMemory` if memory is refused, and `Halt::Stuck` where the machine is stuck here.
 pub fn construct(
     engine: &mut Engine,
     definition: &Definition,
@@ -234,7 +238,11 @@ fn make_from_build(
     Ok(())
 }
 
-/// The next object of the build, with the peer that it has for its own, or the next forward reference where all objects stand.
+/// The next object of the build, with the peer that it has for its own, or the next forward reference where all objects are made.
+///
+/// # Errors
+///
+/// `Halt::OutOfMemory` if memory is refused, and `Halt::Stuck` where the machine is stuck here.
 #[tactic(auto, unfolding(ui_machine::specs::Rules::Build::building_object))]
 pub fn build(
     engine: &mut Engine,

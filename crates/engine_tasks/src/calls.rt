@@ -38,7 +38,7 @@ pub struct PeerQuestion<'a> {
     pub args: &'a [Value],
 }
 
-/// What a call comes to: the line that tells of it, and the value that the program is given.
+/// What a call comes to: the line that reports it, and the value that the program is given.
 #[derive(Drop)]
 pub struct Conclusion {
     line: String,
@@ -180,8 +180,12 @@ fn conclude(
     Ok(())
 }
 
-/// A peer that was asked has answered, or has faulted where there is no value: a line tells of it, and the program that called is given the
+/// A peer that was asked has answered, or has faulted where there is no value: a line reports it, and the program that called is given the
 /// value. Where the peer is closed it has not been asked, and the program is given the zero value.
+///
+/// # Errors
+///
+/// `Halt::OutOfMemory` if memory is refused, and `Halt::Stuck` where the machine is stuck here.
 pub fn answer(
     engine: &mut Engine,
     definition: &Definition,
@@ -204,6 +208,10 @@ pub fn answer(
 }
 
 /// A call is due, and its peer has not been asked: where it is closed a line says so, and the program is given the zero value.
+///
+/// # Errors
+///
+/// `Halt::OutOfMemory` if memory is refused, and `Halt::Stuck` where the machine is stuck here.
 pub fn pass_over(engine: &mut Engine, definition: &Definition, call: DueCall) -> Result<(), Halt>
     requires counted { Counts definition.now (λ o. in_task o (Calling (call_of call))) engine.now }
     ensures step { Goes result

@@ -36,6 +36,10 @@ fn kin_at(engine: &Engine, definition: &Definition, place: Place) -> Result<Kin,
 }
 
 /// The object at a place becomes its parent's child, and then the build goes on behind it.
+///
+/// # Errors
+///
+/// `Halt::OutOfMemory` if memory is refused, and `Halt::Stuck` where the machine is stuck here.
 pub fn adopt_from_build(
     engine: &mut Engine,
     definition: &Definition,

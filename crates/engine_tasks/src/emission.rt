@@ -156,7 +156,11 @@ pub(crate) fn start_emission(
     Ok(())
 }
 
-/// An emission that is due begins. It is counted and told of. Its arguments fit the signal.
+/// An emission that is due begins. It is counted and reported. Its arguments fit the signal.
+///
+/// # Errors
+///
+/// `Halt::OutOfMemory` if memory is refused, and `Halt::Stuck` where the machine is stuck here.
 #[tactic(auto, unfolding(ui_machine::specs::Rules::EmissionPlan::beginning_emission))]
 pub fn begin_emission(
     engine: &mut Engine,
@@ -198,7 +202,7 @@ pub fn begin_emission(
     Ok(())
 }
 
-// An event tells of its emission's result, if there is one.
+// An event reports its emission's result, if there is one.
 fn say_result(
     engine: &mut Engine,
     definition: &Definition,
@@ -365,6 +369,10 @@ fn emit_transfers(
 }
 
 /// An emission takes its next turn, or ends where there is none. Handlers that are blocked have none, and bindings that set or have ended.
+///
+/// # Errors
+///
+/// `Halt::OutOfMemory` if memory is refused, and `Halt::Stuck` where the machine is stuck here.
 pub fn emit(
     engine: &mut Engine,
     definition: &Definition,

@@ -141,6 +141,10 @@ fn release_from_event(
 }
 
 /// What an event asks for.
+///
+/// # Errors
+///
+/// `Halt::OutOfMemory` if memory is refused, and `Halt::Stuck` where the machine is stuck here.
 pub fn handle_event(
     engine: &mut Engine,
     definition: &Definition,

@@ -24,6 +24,10 @@ use ui_machine::{Halt, ObjectId};
 
 /// An object that nothing holds is disposed, again if it was, and taken out. Its peer is closed, if it has one that is open. Its handlers go, and have no more turns in the emissions that
 /// go on, and its bindings end. It is a counted step.
+///
+/// # Errors
+///
+/// `Halt::OutOfMemory` if memory is refused, and `Halt::Stuck` where the machine is stuck here.
 pub fn finalise(engine: &mut Engine, definition: &Definition, object: ObjectId) -> Result<(), Halt>
     requires live { IsSome (living engine.now.world.table.objects object.0) }
     requires unheld { count_of engine.now.world.table.counts object.0 ≡ 0 }

@@ -1,4 +1,4 @@
-//! Forward references: objects that are given to properties before they are built. They are set once all objects stand.
+//! Forward references: objects that are given to properties before they are built. They are set once all objects are made.
 
 ghost use Rattle.std.specs.Prelude.{◌≡◌, ◌≤◌, ◌++◌, map, OnOk, OnErr, IfOk};
 ghost use Rattle.std.specs.List.{flat_map};
@@ -75,6 +75,10 @@ fn add_forwards_of(
 }
 
 /// The forward references of a definition's objects, in document order.
+///
+/// # Errors
+///
+/// `AllocError` if memory is refused.
 pub fn forward_references(
     alloc: Global,
     definition: &Definition,
@@ -92,7 +96,7 @@ pub fn forward_references(
     Ok(ForwardReferences::new(forwards))
 }
 
-/// The next forward reference is set, where all objects stand, or else the first binding is made.
+/// The next forward reference is set, where all objects are made, or else the first binding is made.
 #[tactic(auto, unfolding(ui_machine::specs::Rules::Build::building_forward, ui_machine::specs::Rules::Build::set_forward))]
 pub(crate) fn set_forward_reference(
     engine: &mut Engine,

@@ -22,7 +22,11 @@ use ui_machine::{Arm, Halt, ObjectId, SignalId, Slot};
 // The number of the signal `notify`.
 const NOTIFY: SignalId = 0;
 
-/// A due notification begins, with the transfers of the bindings that listen at the property. It is counted and told of.
+/// A due notification begins, with the transfers of the bindings that listen at the property. It is counted and reported.
+///
+/// # Errors
+///
+/// `Halt::OutOfMemory` if memory is refused, and `Halt::Stuck` where the machine is stuck here.
 #[tactic(auto, unfolding(ui_machine::specs::Rules::EmissionPlan::notifying))]
 pub fn notify(
     engine: &mut Engine,
@@ -59,6 +63,10 @@ pub fn notify(
 }
 
 /// The next of the notifications that are left of a thaw.
+///
+/// # Errors
+///
+/// `Halt::OutOfMemory` if memory is refused, and `Halt::Stuck` where the machine is stuck here.
 pub fn notify_thawed(
     engine: &mut Engine,
     definition: &Definition,

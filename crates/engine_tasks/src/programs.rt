@@ -79,12 +79,16 @@ fn all_fit(table: &Table, definition: &Definition, values: &[Value], kinds: &[Re
     requires known { AllByRecursion (IsKnownRegister definition.now.types) kinds.now }
     ensures { result ≡ all_fit (fits_register definition.now table.now.objects) (map value_view values.now) (map register_kind_view kinds.now) }
 {
-    match (values, kinds) {
-        ([], []) => true,
-        ([value, values @ ..], [kind, kinds @ ..]) => fits_register(table, definition, value, kind)
-            && all_fit(table, definition, values, kinds),
-        _ => false,
+    let mut left = values;
+    let mut wanted = kinds;
+    'values: while let ([value, values @ ..], [kind, kinds @ ..]) = (left, wanted) {
+        if !fits_register(table, definition, value, kind) {
+            return false;
+        }
+        left = values;
+        wanted = kinds;
     }
+    left.is_empty() && wanted.is_empty()
 }
 
 /// The program of a number begins before the other tasks, with these values as its parameters. Its line is said, and what its registers

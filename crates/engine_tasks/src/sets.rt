@@ -100,7 +100,7 @@ fn without_disposed(table: &Table, spec: &Spec, value: Value) -> Value
     unless_disposed(table, value)
 }
 
-// Says a line, and raises the notification of a property if it is to be told.
+// Says a line, and raises the notification of a property if it is to be reported.
 #[tactic(auto, unfolding(ui_machine::specs::Rules::Sets::raising))]
 fn say_and_raise(
     engine: &mut Engine,
@@ -157,7 +157,7 @@ fn write(
     Ok(old)
 }
 
-// Writes a value and tells of it, and raises the notification.
+// Writes a value and reports it, and raises the notification.
 #[tactic(auto, unfolding(ui_machine::specs::Rules::Sets::written))]
 fn write_and_notify(
     engine: &mut Engine,
@@ -209,6 +209,10 @@ fn refuse(
 }
 
 /// A set writes the value. Where validation would change it, the set is refused with a line, unless the property is lax.
+///
+/// # Errors
+///
+/// `Halt::OutOfMemory` if memory is refused, and `Halt::Stuck` where the machine is stuck here.
 pub fn validate_and_set(
     engine: &mut Engine,
     definition: &Definition,

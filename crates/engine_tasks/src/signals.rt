@@ -1,4 +1,4 @@
-//! The signals of the definition's objects: they are connected once all objects stand (GTK manual, GtkBuilder: the element `signal`).
+//! The signals of the definition's objects: they are connected once all objects are made (GTK manual, GtkBuilder: the element `signal`).
 
 ghost use Rattle.std.specs.Prelude.{◌≡◌, ◌∷◌, [], suc, ◌<◌, IfSome, MatchOption, OnOk, OnErr};
 ghost use Rattle.ui_machine.specs.Outcome.{Goes};
@@ -101,6 +101,10 @@ fn attached(engine: &Engine, definition: &Definition, at: Position) -> Result<Co
 }
 
 /// The next signal of the definition's objects is connected, from one of an object on.
+///
+/// # Errors
+///
+/// `Halt::OutOfMemory` if memory is refused, and `Halt::Stuck` where the machine is stuck here.
 pub fn connect_from_build(
     engine: &mut Engine,
     definition: &Definition,

@@ -34,6 +34,10 @@ fn source_data(alloc: Global, arg: Option<ObjectId>) -> Result<Vec<Value>, Alloc
 }
 
 /// A due source runs: its program begins, with the source's data.
+///
+/// # Errors
+///
+/// `Halt::OutOfMemory` if memory is refused, and `Halt::Stuck` where the machine is stuck here.
 pub fn run_source(engine: &mut Engine, definition: &Definition, source: u64) -> Result<(), Halt>
     ensures step { Goes result
         (uncounted (agenda_of definition.now engine.old) engine.old.counted (sourcing definition.now (world_of engine.old.world) source))

@@ -86,6 +86,10 @@ fn set_by(
 }
 
 /// A due transfer is made. It is counted. A binding that has ended makes none.
+///
+/// # Errors
+///
+/// `Halt::OutOfMemory` if memory is refused, and `Halt::Stuck` where the machine is stuck here.
 pub fn transfer(
     engine: &mut Engine,
     definition: &Definition,

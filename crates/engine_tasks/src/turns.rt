@@ -17,9 +17,9 @@ use ui_machine::{ObjectId, ProgramId};
 #[derive(Clone, Copy, Debug)]
 pub(crate) struct Invocation {
     pub(crate) program: ProgramId,
-    /// What stands before the arguments.
+    /// What comes before the arguments.
     pub(crate) before: Option<ObjectId>,
-    /// What stands behind them.
+    /// What comes after them.
     pub(crate) behind: Option<ObjectId>,
 }
 

@@ -138,7 +138,7 @@ pub no_place : (d : Definition) (w : World) (place : ℕ) (peer : Option ℕ) (h
 unfolding making
 no_place d w place peer held none = rw none refl
 
--- the forward references of an object stand before those of the objects behind it
+-- the forward references of an object come before those of the objects behind it
 pub forwards_before : (d : Definition) (place : ℕ) (p : Place) → slice_get d.places place ≡ Some p → p.is_prototype ≡ false
     → forward_items place (drop place d.places) ≡ forwards_at d place ++ forward_items (suc place) (drop (suc place) d.places)
 forwards_before d place p at object =
@@ -189,7 +189,7 @@ place_within [] i small = absurd (omega arith)
 place_within (p ∷ places) zero small = (p, refl)
 place_within (p ∷ places) (suc i) small = place_within places i (omega arith)
 
--- an object stands at each place before the prototypes
+-- an object is at each place before the prototypes
 pub object_within : (d : Definition) → IsBasic d → (place : ℕ) → place < object_count d → (p : Place) × (slice_get d.places place ≡ Some p) × (p.is_prototype ≡ false)
 object_within d basic place small =
     let there = place_within d.places place (omega (arith, small, count_by-le-length is_object d.places)) in

@@ -15,7 +15,7 @@ abbrev pub found_held : Option code.BuilderEntry → BuilderEntry
 found_held None = unbuilt
 found_held (Some h) = held_of h
 
--- what stands there
+-- what is there
 pub held_is : (hs : List code.BuilderEntry) (place : ℕ) (found : Option code.BuilderEntry) → slice_get hs place ≡ found → read unbuilt (map held_of hs) place ≡ found_held found
 held_is hs place found is = by hs place ∙ ap found_held is
   where

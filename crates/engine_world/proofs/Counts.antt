@@ -211,7 +211,7 @@ stays d e new handlers stack h = record {
 pub only_list : (hs old : Connected) (l : List Handler) → hs ≡ record old { handlers = l } → hs ≡ record old { handlers = hs.handlers }
 only_list hs old l is = is ∙ ap (λ (k : List Handler). record old { handlers = k }) (sym (ap (λ (c : Connected). c.handlers) is))
 
--- some of the handlers, as they stand or blocked, and what may be connected to them
+-- some of the handlers, as they are, or blocked, and what may be connected to them
 pub handled : (d : Definition) (e new : Engine) (hs : Connected) → new.world.handlers ≡ hs → hs ≡ record e.world.handlers { handlers = hs.handlers } → new.stack ≡ e.stack
     → Connects d e → Connects d new
 handled d e new hs is only stack h = record {

@@ -29,7 +29,7 @@ same_names (x ∷ xs) (y ∷ ys) h = by (nat_eq x y) refl (same_names xs ys) h
         ap (λ n. n ∷ xs) head ∙ ap (λ ns. y ∷ ns) (others f)
     by false e others f = cc f
 
--- what is found stands there, and is called so
+-- what is found is there, and is called so
 Found : List Spec → ℕ → List ℕ → ℕ → Type 0
 Found specs i name place = (slot : ℕ) × (place ≡ i + slot) × (s : Spec) × (slice_get specs slot ≡ Some s) × (s.name ≡ name)
 
@@ -53,9 +53,9 @@ slot_named d class name slot h =
     let same : slot ≡ found.0 = omega (arith, found.1) in
     (found.2, ap (λ (i : ℕ). slice_get (specs_of d class) i) same ∙ found.3, found.4)
 
--- ** a detail as it stands
+-- ** a detail as a signal takes it
 
--- none stands as none
+-- none stays none
 pub stands_none : (d : Definition) (class n : ℕ) (s : Signal) → standing d class n s None ≡ Ok None
 stands_none d class n s = by (nat_eq n 0)
   where
@@ -64,15 +64,15 @@ stands_none d class n s = by (nat_eq n 0)
     by false = refl
 
 module _ (d : Definition) (class n : ℕ) (s : Signal) (x : List ℕ) where
-  -- at a signal that is not detailed there stands none
+  -- at a signal that is not detailed there is none
   pub stands_plain : has_flags 16 s.flags ≡ false → standing d class n s (Some x) ≡ Err arms.Code
   stands_plain plain = rw plain refl
 
-  -- it stands as it is
+  -- it stays as it is
   pub stands_other : has_flags 16 s.flags ≡ true → nat_eq n 0 ≡ false → standing d class n s (Some x) ≡ Ok (Some x)
   stands_other detailed other = rw (detailed, other) refl
 
-  -- it stands as the name of the property
+  -- it becomes the name of the property
   pub stands_notify : has_flags 16 s.flags ≡ true → nat_eq n 0 ≡ true → standing d class n s (Some x) ≡ (detail_named d class x >>= λ name. Ok (Some name))
   stands_notify detailed first = rw (detailed, first) (by (is_some (slot_of d class x)))
     where
@@ -106,7 +106,7 @@ module _ (d : Definition) (class n : ℕ) (detail : Option (List ℕ)) where
   unfolding detail_at signal_at
   detail_known s some = ap (λ (s : Option Signal). known arms.Code s >>= λ s. standing d class n s detail) some
 
--- where the property that a name names is not found, nothing stands
+-- where the property that a name names is not found, there is no detail
 pub finds_name : (halt : Halt) (a : Answer (List ℕ)) (b : Answer (Option (List ℕ))) → b ≡ (a >>= λ name. Ok (Some name)) → Stops halt a → Stops halt b
 finds_name halts.OutOfMemory a b is s = tt
 finds_name (halts.Stuck arm) a b is s = is ∙ ap (λ (r : Answer (List ℕ)). r >>= λ name. Ok (Some name)) s

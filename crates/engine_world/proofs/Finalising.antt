@@ -31,7 +31,7 @@ use Rattle.engine_world.specs.declared.closings.Closing.{Closing}
 use Rattle.engine_world.proofs.Emits.{stops_on}
 use Rattle.engine_world.proofs.Notified.{counted_on}
 
--- who is not disposed yet is told of
+-- who is not disposed yet is reported
 pub first_time : (os : Objects) (id : ℕ) → IsSome (living os id) → is_first (living os id) ≡ not (is_disposed (living os id))
 first_time os id some = by (living os id) some
   where
@@ -54,7 +54,7 @@ module _ (d : Definition) (v : code.World) (id : ℕ) (closed : Option Closing) 
   abbrev pub ClosesSo : Type 0
   ClosesSo = (w : World) → w.peers ≡ v.seats → closing d (peer_of (living v.table.objects id)) w ≡ Ok (with_closed closed w)
 
-  -- the dispose is told of so
+  -- the dispose is reported so
   abbrev pub TellsSo : Type 0
   TellsSo = (w : World) → with_line_if first w ≡ said_if d (is_first (living v.table.objects id)) w (lines.dispose id)
 

@@ -302,7 +302,7 @@ below_none keeps number (h ∷ hs) last n = by (keeps h) (below_none keeps numbe
     by true rest = ap (λ c. cond c (Some h) (handler_of number (filter keeps hs))) differs ∙ rest
     by false rest = rest
 
--- whether one that stood stands among those that are kept
+-- whether one that was is among those that are kept
 abbrev StandAs : (Handler → Bool) → List Handler → List Handler → Type 0
 StandAs keeps all [] = Unit {0}
 StandAs keeps all (h ∷ hs) = (is_some (handler_of h.number (filter keeps all)) ≡ keeps h) × StandAs keeps all hs

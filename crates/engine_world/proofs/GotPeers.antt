@@ -179,12 +179,12 @@ pub zeros_got : (d : Definition) (peers : List Peer) (got : List ℕ) (n : ℕ) 
 zeros_got d peers got n is = none_got d peers got (λ place. ap (λ (ns : List ℕ). read 0 ns place) is ∙ read_zeros n place)
 
 -- the number of one place changes
-read_here : (got : List ℕ) (k n : ℕ) → k < length got → read 0 (slice_set got k n) k ≡ n
+pub read_here : (got : List ℕ) (k n : ℕ) → k < length got → read 0 (slice_set got k n) k ≡ n
 read_here [] k n lt = absurd (omega (arith, lt))
 read_here (g ∷ got) zero n lt = refl
 read_here (g ∷ got) (suc k) n lt = read_here got k n (omega (arith, lt))
 
-read_beside : (got : List ℕ) (k n place : ℕ) → (k ≡ place → ⊥) → read 0 (slice_set got k n) place ≡ read 0 got place
+pub read_beside : (got : List ℕ) (k n place : ℕ) → (k ≡ place → ⊥) → read 0 (slice_set got k n) place ≡ read 0 got place
 read_beside [] k n place other = refl
 read_beside (g ∷ got) zero n zero other = absurd (other refl)
 read_beside (g ∷ got) zero n (suc place) other = refl

@@ -125,7 +125,7 @@ module _ (d : Definition) (w : World) (place : ℕ) (items : List Item) where
   with_kin : Option ℕ → Answer Kin
   with_kin above = known arms.Code above >>= λ a. held_object w a >>= λ x. held_object w place >>= λ y. Ok (record { parent = x; child = y })
 
-  -- no object stands there
+  -- no object is there
   pub no_object_there : IsBasic d → object_count d ≤ place → building_child d w place items ≡ Err arms.Code
   unfolding with_kin
   no_object_there basic past = no_kin arms.Code (by (place_at d place) refl)

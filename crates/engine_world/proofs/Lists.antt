@@ -6,13 +6,13 @@ pub total-append : {A : Type 0} (f : A → ℕ) (xs ys : List A) → total f (xs
 total-append f [] ys = omega arith
 total-append f (x ∷ xs) ys = omega (arith, total-append f xs ys)
 
--- what stands somewhere is part of the whole
+-- what is somewhere is part of the whole
 pub read-within : {A : Type 0} (f : A → ℕ) (d : A) (xs : List A) (i : ℕ) → f d ≡ 0 → f (read d xs i) ≤ total f xs
 read-within f d [] i none = omega (arith, none)
 read-within f d (x ∷ xs) zero none = omega arith
 read-within f d (x ∷ xs) (suc i) none = omega (arith, read-within f d xs i none)
 
--- a write adds what is written and takes off what stood there
+-- a write adds what is written and takes off what was there
 pub total-exchanged : {A : Type 0} (f : A → ℕ) (d : A) (xs : List A) (i : ℕ) (y : A) → f d ≡ 0 → total f (write d xs i y) + f (read d xs i) ≡ total f xs + f y
 total-exchanged f d [] zero y none = omega (arith, none)
 total-exchanged f d [] (suc i) y none = omega (arith, none, total-exchanged f d [] i y none)

@@ -50,7 +50,7 @@ entry_before w specs place given above i g old new tail is at before adds =
     by true others = refl
     by false others = refl
 
--- what stands at a place of a list is read there
+-- what is at a place of a list is read there
 pub read_there : {A : Type 0} (none : A) (xs : List A) (i : ℕ) (x : A) → slice_get xs i ≡ Some x → read none xs i ≡ x
 read_there none [] i x at = cc
 read_there none (y ∷ xs) zero x at = cc

@@ -1,4 +1,4 @@
--- The prototypes of a definition stand behind its objects: the builder makes, sets and connects nothing for them.
+-- The prototypes of a definition come after its objects: the builder makes, sets and connects nothing for them.
 use Rattle.std.proofs.Common.{◌≡◌, ℕ, zero, suc, ◌<◌, ◌≤◌, nat_le, true, false, cond, List, [], ◌∷◌, ◌++◌, drop, Option, None, Some, slice_get, refl, sym, ap, ◌∙◌, arith}
 use Rattle.std.specs.List.{flat_map}
 use Rattle.std.proofs.lemmas.Bool.Decides.{nat_tests}
@@ -10,7 +10,7 @@ use Rattle.ui_machine.specs.State.Tasks.{connects, makes}
 use Rattle.definition_format.specs.Meaning.{IsBasic, object_count}
 use Rattle.engine_world.specs.TaskView.{signals_of}
 
--- what stands behind a place stands at a place of its own
+-- what comes after a place is at a place of its own
 behind : {A : Type 0} (xs : List A) (k i : ℕ) (x : A) → slice_get (drop k xs) i ≡ Some x → (n : ℕ) × (k ≤ n) × (slice_get xs n ≡ Some x)
 behind xs zero i x at = (i, omega arith, at)
 behind [] (suc k) i x at = cc at
@@ -42,11 +42,11 @@ none_connected k (p ∷ ps) silent =
 -- ** a definition
 
 module _ (d : Definition) (basic : IsBasic d) where
-  -- where a prototype stands, no objects are left
+  -- where a prototype is, no objects are left
   pub past_objects : (place : ℕ) (p : Place) → slice_get d.places place ≡ Some p → p.is_prototype ≡ true → object_count d ≤ place
   past_objects place p at is = let e : nat_le (object_count d) place ≡ true = sym (basic.prototypes place p at) ∙ is in grind (arith, nat_tests)
 
-  -- what stands before is an object
+  -- what comes before is an object
   pub object_there : (place : ℕ) (p : Place) → slice_get d.places place ≡ Some p → place < object_count d → p.is_prototype ≡ false
   object_there place p at small = let e : nat_le (object_count d) place ≡ false = grind (arith, nat_tests) in basic.prototypes place p at ∙ e
 

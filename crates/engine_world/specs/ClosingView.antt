@@ -8,7 +8,7 @@ use Rattle.engine_world.specs.SeatView.{closed_at}
 use Rattle.engine_world.specs.View.{with_line}
 use Rattle.engine_world.specs.declared.closings.Closing.{Closing}
 
--- the world after an open peer was closed, if one is to be, of which its line tells
+-- the world after an open peer was closed, if one is to be, and its line was said
 abbrev pub with_closed : Option Closing → World → World
 with_closed None w = w
 with_closed (Some c) w = with_line (string_bytes c.line) (record w { peers = closed_at w.peers c.peer })

@@ -45,7 +45,7 @@ is_connected outcomes.Connected = true
 is_connected outcomes.TooLate = false
 is_connected outcomes.Full = false
 
--- whether a limit's line tells of it
+-- whether a limit's line reports it
 abbrev pub is_full : Outcome → Bool
 is_full outcomes.Connected = false
 is_full outcomes.TooLate = false

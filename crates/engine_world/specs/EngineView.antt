@@ -1,4 +1,4 @@
--- Where the engine stands, as the machine's configuration.
+-- What the engine has come to, as the machine's configuration.
 use Rattle.std.specs.Prelude.{◌≡◌, Bool, true, false}
 use Rattle.ui_machine.specs.Definition as machine
 use Rattle.ui_machine.specs.State.Config as config

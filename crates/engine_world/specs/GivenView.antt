@@ -31,7 +31,7 @@ Finds view (Err halt) answer = Stops halt answer
 abbrev pub detail_of : Option (String Global) → Option (List ℕ)
 detail_of detail = option_map (λ text. string_bytes text) detail
 
--- a detail as it stands at a signal of a class, if it may
+-- a detail as it is at a signal of a class, if it may
 abbrev pub standing : Definition → (class number : ℕ) → Signal → Option (List ℕ) → Answer (Option (List ℕ))
 standing d class number s detail = only_if (may_stand d class number s detail) arms.Code (Ok (detail_for number detail))
 

@@ -12,6 +12,7 @@ pub mod ConnectView
 pub mod SourceView
 pub mod Measure
 pub mod ClosingView
+pub mod GotNames
 pub mod PeerPlaces
 pub mod EngineView
 pub mod Standing

@@ -1,4 +1,4 @@
--- Which line of the machine a line of the engine stands for.
+-- Which line of the machine a line of the engine denotes.
 use Rattle.std.specs.Prelude.{map, option_map}
 use Rattle.ui_machine.specs.Output.Lines as lines
 use Rattle.g_values.specs.View.{value_view}

@@ -1,4 +1,4 @@
--- What a step of a construction stands for in the machine, and what a construction does.
+-- What a step of a construction denotes in the machine, and what a construction does.
 use Rattle.std.specs.Prelude.{ℕ, cond, List, [], ◌∷◌, ◌++◌, map, reverse}
 use Rattle.ui_machine.specs.Seq.{read}
 use Rattle.ui_machine.specs.Definition.{Definition}

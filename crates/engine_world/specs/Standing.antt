@@ -1,4 +1,4 @@
--- What the engine's configuration stands for. An emission of the engine has no turns of handlers that are gone, and passes over handlers that
+-- What the engine's configuration denotes. An emission of the engine has no turns of handlers that are gone, and passes over handlers that
 -- are blocked, and bindings that set or have ended, as it takes the next one; the machine passes over all of them by steps of its own.
 use Rattle.std.specs.Prelude.{◌≡◌, ℕ, Bool, true, false, cond, List, [], ◌∷◌, Option, None, Some, Result, Ok, Err}
 use Rattle.ui_machine.specs.declared.arm.Halt.{Halt}
@@ -20,13 +20,13 @@ gone_handlers w = record { handlers = (gone_in w).handlers; bindings = λ number
 abbrev pub without_gone : Config → Config
 without_gone c = pruned_at (gone_handlers c.world) c
 
--- from a configuration of the machine steps lead to one that the engine's stands for
+-- from a configuration of the machine steps lead to one that the engine's denotes
 pub record Arrives (d : Definition) (c view : Config) : Type 0 where
   pub at : Config
   pub reached : Reaches d [] c at
   pub stands : without_gone at ≡ view
 
--- they do from each configuration that the engine's stood for
+-- they do from each configuration that the engine's denoted
 pub record Follows (d : Definition) (old new : Config) : Type 0 where
   pub arrives : (c : Config) → without_gone c ≡ old → Arrives d c new
 

@@ -1,4 +1,4 @@
--- What a task of the engine stands for in the machine.
+-- What a task of the engine denotes in the machine.
 use Rattle.std.specs.Prelude.{ℕ, suc, Bool, List, [], ◌∷◌, ◌++◌, map, reverse, drop, Option, Some, None, option_map, string_bytes}
 use Rattle.std.specs.List.{flat_map}
 use Rattle.ui_machine.specs.Definition as machine
@@ -55,7 +55,7 @@ connects_from d place number =
 abbrev pub binds_from : machine.Definition → (number : ℕ) → List config.Item
 binds_from d number = numbered config.binds number (drop number d.bindings) ++ connected_items 0 d.places
 
--- what the build does once all objects stand: these forward references, the bindings, and the signals of the objects
+-- what the build does once all objects are made: these forward references, the bindings, and the signals of the objects
 abbrev pub build_end : machine.Definition → List ForwardReference → List config.Item
 build_end d forwards = map item_of forwards ++ binds_from d 0
 
@@ -90,7 +90,7 @@ emission_of w args by_event = record {
   cleanup = is_over w.stage;
 }
 
--- the entries that it has still to come, of the handlers as they stand and of these transfers
+-- the entries that it has still to come, of the handlers as they are and of these transfers
 abbrev pub entries_to_come : Walk → List Handler → Transfers → List config.PlanEntry
 entries_to_come w hs ts = entries_due_of (due_now ts) ++ flat_map (entries_of (entries_due_of (due_later ts))) (to_come w hs)
 

@@ -1,4 +1,4 @@
--- What the engine's types stand for in the machine.
+-- What the engine's types denote in the machine.
 use Rattle.std.specs.Prelude.{ℕ, List, [], ◌∷◌, ◌++◌, Option, None, Some, String, map, option_map, string_bytes}
 use Rattle.std.specs.Global.{Global}
 use Rattle.ui_machine.specs.State.Config as config

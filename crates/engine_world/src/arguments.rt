@@ -77,12 +77,16 @@ pub fn all_fit(table: &Table, types: &TypeTree, values: &[Value], kinds: &[Kind]
     requires known { AllByRecursion (IsKnownKind types.now) (map kind_view kinds.now) }
     ensures { result ≡ all_fit (kind_fits (class_in table.now.objects) types.now) (map value_view values.now) (map kind_view kinds.now) }
 {
-    match (values, kinds) {
-        ([], []) => true,
-        ([value, values @ ..], [kind, kinds @ ..]) => fits(table, types, value, *kind)
-            && all_fit(table, types, values, kinds),
-        _ => false,
+    let mut left = values;
+    let mut wanted = kinds;
+    'values: while let ([value, values @ ..], [kind, kinds @ ..]) = (left, wanted) {
+        if !fits(table, types, value, *kind) {
+            return false;
+        }
+        left = values;
+        wanted = kinds;
     }
+    left.is_empty() && wanted.is_empty()
 }
 
 // Whether a signal with these flags takes details.
@@ -93,6 +97,10 @@ fn takes_details(flags: SignalFlags) -> bool
 }
 
 /// The values that an event gives, and the objects of the builder.
+///
+/// # Errors
+///
+/// `Halt::OutOfMemory` if memory is refused, and `Halt::Stuck` where the machine is stuck here.
 pub fn operands(engine: &Engine, given: &[Given]) -> Result<Vec<Value>, Halt>
     ensures { Finds (λ values. map value_view values.items) result (given_values (world_of engine.now.world) (map given_view given.now)) }
 {
@@ -124,7 +132,7 @@ fn property_named(
     Ok(String::from_str(engine.alloc, spec.name.as_str())?)
 }
 
-// A detail as it stands at a signal of a class with these flags, by the signal's number.
+// A detail as it is at a signal of a class with these flags, by the signal's number.
 fn detail_at(
     engine: &Engine,
     definition: &Definition,
@@ -148,7 +156,11 @@ fn detail_at(
     Ok(Some(name))
 }
 
-/// A detail as it stands at a signal of a class, by the signal's number. The signal is detailed, and a detail of `notify` names a property.
+/// A detail as it is at a signal of a class, by the signal's number. The signal is detailed, and a detail of `notify` names a property.
+///
+/// # Errors
+///
+/// `Halt::OutOfMemory` if memory is refused, and `Halt::Stuck` where the machine is stuck here.
 pub fn detail_for(
     engine: &Engine,
     definition: &Definition,
@@ -165,6 +177,10 @@ pub fn detail_for(
 }
 
 /// The same at a signal of an object.
+///
+/// # Errors
+///
+/// `Halt::OutOfMemory` if memory is refused, and `Halt::Stuck` where the machine is stuck here.
 pub fn detail_in(
     engine: &Engine,
     definition: &Definition,

@@ -55,6 +55,10 @@ impl BuilderEntry {
 }
 
 /// The builder has this of a place from now on. A place that it has not come to yet has nothing.
+///
+/// # Errors
+///
+/// `AllocError` if memory is refused.
 pub fn set_builder_entry(
     builder: &mut Vec<BuilderEntry>,
     place: Place,

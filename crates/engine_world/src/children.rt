@@ -25,6 +25,10 @@ pub struct Kin {
 }
 
 /// A limit was reached, of what the word says.
+///
+/// # Errors
+///
+/// `AllocError` if memory is refused.
 pub fn say_limit(engine: &mut Engine, definition: &Definition, word: &str) -> Result<(), AllocError>
     ensures ok { OnOk result (world_of engine.new.world ≡ said definition.now (world_of engine.old.world) (lines.limit word.now)) }
     ensures err { OnErr result (world_of engine.new.world ≡ world_of engine.old.world) }
@@ -59,6 +63,10 @@ fn adopt(engine: &mut Engine, definition: &Definition, kin: Kin) -> Result<(), A
 }
 
 /// An object becomes another's child, or does not, by a limit's line.
+///
+/// # Errors
+///
+/// `Halt::OutOfMemory` if memory is refused, and `Halt::Stuck` where the machine is stuck here.
 pub fn join(engine: &mut Engine, definition: &Definition, kin: Kin) -> Result<(), Halt>
     ensures joins { Goes result (joined definition.now (world_of engine.old.world) kin.parent.0 kin.child.0) (world_of engine.new.world) }
     ensures quiet { OnErr result ((world_of engine.new.world).transcript ≡ (world_of engine.old.world).transcript) }
@@ -77,6 +85,10 @@ pub fn join(engine: &mut Engine, definition: &Definition, kin: Kin) -> Result<()
 }
 
 /// An object becomes another's child, or does not, by a limit's line.
+///
+/// # Errors
+///
+/// `Halt::OutOfMemory` if memory is refused, and `Halt::Stuck` where the machine is stuck here.
 pub fn join_objects(
     engine: &mut Engine,
     definition: &Definition,

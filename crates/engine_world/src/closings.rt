@@ -20,7 +20,7 @@ use definitions::Definition;
 use std::alloc::{AllocError, Global};
 use ui_machine::{Arm, Halt, ObjectId};
 
-/// An open peer that is to be closed, by its number, and the line that tells of it.
+/// An open peer that is to be closed, by its number, and the line that reports it.
 #[derive(Drop)]
 pub struct Closing {
     pub peer: usize,
@@ -28,6 +28,10 @@ pub struct Closing {
 }
 
 /// The peer that is closed as an object is disposed: the object's, if it has one that is open.
+///
+/// # Errors
+///
+/// `Halt::OutOfMemory` if memory is refused, and `Halt::Stuck` where the machine is stuck here.
 pub fn closing_with(
     engine: &Engine,
     definition: &Definition,
@@ -54,7 +58,11 @@ pub fn closing_with(
     Ok(Some(Closing { peer, line }))
 }
 
-/// The line that tells of the dispose of an object, unless it was disposed before.
+/// The line that reports the dispose of an object, unless it was disposed before.
+///
+/// # Errors
+///
+/// `AllocError` if memory is refused.
 pub fn dispose_line(
     engine: &Engine,
     definition: &Definition,
@@ -115,6 +123,10 @@ fn close(engine: &mut Engine, peer: Option<usize>)
 
 /// Says the lines of a dispose, if it has them, and between them closes a peer, if one is to be closed. Nothing has happened where memory is
 /// refused.
+///
+/// # Errors
+///
+/// `AllocError` if memory is refused.
 pub fn say_and_close(
     engine: &mut Engine,
     first: Option<String>,

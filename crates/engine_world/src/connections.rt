@@ -45,7 +45,7 @@ impl Outcome {
         }
     }
 
-    /// Whether a line tells of it: as many are connected as may be.
+    /// Whether a line reports it: as many are connected as may be.
     pub fn is_full(self) -> bool
         ensures { result ≡ is_full self }
     {
@@ -97,6 +97,10 @@ fn add_handler(
 }
 
 /// A signal of the definition is connected, unless one of its objects is disposed.
+///
+/// # Errors
+///
+/// `AllocError` if memory is refused.
 pub fn connect_signal(
     engine: &mut Engine,
     definition: &Definition,
@@ -119,6 +123,10 @@ pub fn connect_signal(
 }
 
 /// A program's handler is connected, unless one of its objects is disposed, or as many are connected as may be.
+///
+/// # Errors
+///
+/// `AllocError` if memory is refused.
 pub fn connect_handler(
     engine: &mut Engine,
     definition: &Definition,

@@ -12,6 +12,10 @@ use ui_machine::{Arm, Halt};
 pub const MOST_STEPS: u64 = 1_000_000_000_000;
 
 /// One more counted step, of which a dispatch has only so many.
+///
+/// # Errors
+///
+/// `Halt::OutOfMemory` if memory is refused, and `Halt::Stuck` where the machine is stuck here.
 pub fn count(engine: &mut Engine) -> Result<(), Halt>
     ensures ok { OnOk result ((engine.old.counted < most_steps) × (engine.new ≡ record engine.old { counted = suc engine.old.counted })) }
     ensures err { IfErr result (λ halt. (most_steps ≤ engine.old.counted) × (halt ≡ halts.Stuck arms.Steps) × (engine.new ≡ engine.old)) }

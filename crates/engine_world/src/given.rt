@@ -35,6 +35,10 @@ pub fn object_value(object: ObjectId) -> Value
 
 impl World {
     /// A given value once more, or the object of the builder, if it has it.
+    ///
+    /// # Errors
+    ///
+    /// `AllocError` if memory is refused.
     pub fn given(&self, given: &Given) -> Result<Option<Value>, AllocError>
         ensures { IfOk result (λ value. option_map value_view value ≡ given_value (world_of self.now) (given_view given.now)) }
     {
@@ -46,6 +50,10 @@ impl World {
 }
 
 /// The object that the builder has of a place.
+///
+/// # Errors
+///
+/// The arm by which the machine is stuck here, if it is.
 pub fn held_object(engine: &Engine, place: Place) -> Result<ObjectId, Arm>
     ensures { Shows (λ (id : ObjectId). id.0) result (held_object (world_of engine.now.world) place.0) }
 {
@@ -53,6 +61,10 @@ pub fn held_object(engine: &Engine, place: Place) -> Result<ObjectId, Arm>
 }
 
 /// The same as a value.
+///
+/// # Errors
+///
+/// The arm by which the machine is stuck here, if it is.
 pub fn held_value(engine: &Engine, place: Place) -> Result<Value, Arm>
     ensures { Shows value_view result (held_value (world_of engine.now.world) place.0) }
 {
@@ -61,6 +73,10 @@ pub fn held_value(engine: &Engine, place: Place) -> Result<Value, Arm>
 }
 
 /// A given value, or the object of the builder.
+///
+/// # Errors
+///
+/// The arm by which the machine is stuck here, if it is.
 pub fn operand(engine: &Engine, given: Given) -> Result<Value, Arm>
     ensures { Shows value_view result (known arms.Operand (given_value (world_of engine.now.world) (given_view given))) }
 {
@@ -71,6 +87,10 @@ pub fn operand(engine: &Engine, given: Given) -> Result<Value, Arm>
 }
 
 /// The object that the builder has of a place, whose property may be set.
+///
+/// # Errors
+///
+/// The arm by which the machine is stuck here, if it is.
 pub fn settable(
     engine: &Engine,
     definition: &Definition,

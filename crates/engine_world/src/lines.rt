@@ -126,6 +126,10 @@ fn room(name: &str) -> usize {
 
 impl Line<'_> {
     /// Its text, without the LF.
+    ///
+    /// # Errors
+    ///
+    /// `AllocError` if memory is refused.
     pub fn text(self, alloc: Global, types: &TypeTree) -> Result<String, AllocError>
         ensures { IfOk result (λ text. string_bytes text ≡ text_of_line types.now (line_view self.entry)) }
     {
@@ -303,15 +307,15 @@ fn push_values(
 ) -> Result<(), AllocError>
     ensures { OnOk result (string_bytes line.new ≡ string_bytes line.old ++ text_of_values types.now (map value_view values.now)) }
 {
-    match values {
-        [] => Ok(()),
-        [last] => push_value(alloc, line, types, last),
-        [first, others @ ..] => {
-            push_value(alloc, line, types, first)?;
+    let mut left = values;
+    'values: while let [first, others @ ..] = left {
+        push_value(alloc, line, types, first)?;
+        if !others.is_empty() {
             line.push_str(",")?;
-            push_values(alloc, line, types, others)
         }
+        left = others;
     }
+    Ok(())
 }
 
 // `result V`

@@ -1,6 +1,6 @@
 //! Which peer an object gets as it is made.
 
-ghost use Rattle.std.specs.Prelude.{◌≡◌, ◌<◌, ◌||◌, IfOk, IfSome, None, Some, drop, is_some, length, not, slice_get, take};
+ghost use Rattle.std.specs.Prelude.{◌≡◌, ◌<◌, ◌||◌, ℕ, IfOk, IfSome, None, Some, drop, is_some, length, not, slice_get, take};
 ghost use Rattle.ui_machine.specs.Rules.Build.{first_peer};
 ghost use Rattle.ui_machine.specs.Rules.Construction.{has_shape, peer_left, peer_to_take};
 ghost use Rattle.definition_format.specs.Meaning.{name_bytes};
@@ -10,6 +10,7 @@ ghost use Rattle.ui_machine.specs.Definition as definition;
 ghost use Rattle.ui_machine.specs.Definition.Places as machine;
 ghost use Rattle.ui_machine.specs.Seq.{read};
 ghost use Rattle.ui_machine.specs.State.Peers.{first_left};
+ghost use Rattle.engine_world.specs.GotNames.{AreAllGot};
 ghost use Rattle.engine_world.specs.PeerPlaces.{AreGot, is_there, own_peer, taken};
 ghost use Rattle.engine_world.specs.View.{world_of};
 
@@ -72,6 +73,10 @@ fn first_peer(seats: &Seats, names: &[String]) -> Option<usize>
 }
 
 /// The peer that the object at a place of the build has for its own: it has one where its class has a shape.
+///
+/// # Errors
+///
+/// The arm by which the machine is stuck here, if it is.
 pub fn own_peer(
     engine: &Engine,
     definition: &Definition,
@@ -124,8 +129,11 @@ fn first_left(seats: &Seats, names: &[String], got: usize) -> Option<usize>
 /// Counts anew how many peers of a place, whose names these are, are not left, from where the count ended before. So all that is made of a
 /// prototype goes through its peers once.
 pub(crate) fn count_got(got: &mut Vec<usize>, seats: &Seats, place: Place, names: &[String])
-    ensures { (d : definition.Definition) (p : machine.Place) → slice_get d.places place.0 ≡ Some p → p.peers ≡ name_bytes names.now
+    ensures got { (d : definition.Definition) (p : machine.Place) → slice_get d.places place.0 ≡ Some p → p.peers ≡ name_bytes names.now
         → AreGot d seats.now got.old.items → AreGot d seats.now got.new.items }
+    ensures all { place.0 < length got.old.items → AreAllGot seats.now (name_bytes names.now) (read 0 got.new.items place.0) }
+    ensures beside { (other : ℕ) → (other ≡ place.0 → ⊥) → read 0 got.new.items other ≡ read 0 got.old.items other }
+    ensures len { length got.new.items ≡ length got.old.items }
 {
     let number = seats.got(names, number_at(got, place));
     let place = usize::from(place.0);

@@ -73,6 +73,10 @@ fn create_object(
 }
 
 /// The object of a place is made, and gets this peer. Its line and its construction are still to come.
+///
+/// # Errors
+///
+/// `Halt::OutOfMemory` if memory is refused, and `Halt::Stuck` where the machine is stuck here.
 #[tactic(auto, unfolding(ui_machine::specs::Rules::Construction::making))]
 pub fn make(
     engine: &mut Engine,
@@ -126,6 +130,10 @@ pub fn make(
 
 /// The construction of a new object begins: its line is said, and what is to be done goes before the other tasks. At its end the builder
 /// holds the object, if it is to be held.
+///
+/// # Errors
+///
+/// `AllocError` if memory is refused.
 pub fn begin_construction(engine: &mut Engine, new: NewObject, held: bool) -> Result<(), AllocError>
     ensures agenda { OnOk result ((d : definition.Definition) → agenda_of d engine.new ≡ Constructing new.object.0 new.steps held ∷ agenda_of d engine.old) }
     ensures world { OnOk result (world_of engine.new.world ≡ with_line (string_bytes new.line) (world_of engine.old.world)) }

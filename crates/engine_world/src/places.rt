@@ -1,4 +1,4 @@
-//! The places of a definition: what stands there, and how they are gone through.
+//! The places of a definition: what is there, and how they are gone through.
 
 ghost use Rattle.std.specs.Prelude.{◌≡◌, ◌<◌, ◌≤◌, false, true, suc, map, option_map, slice_get};
 ghost use Rattle.definition_format.specs.Meaning.{object_count};
@@ -17,7 +17,7 @@ pub fn entry_at(definition: &Definition, place: Place) -> Option<ObjectEntry<'_>
     definition.object(usize::from(place.0))
 }
 
-/// Whether an object stands at a place: prototypes stand behind all objects.
+/// Whether an object is at a place: prototypes come after all objects.
 pub fn is_object(definition: &Definition, place: Place) -> bool
     ensures within { result ≡ true → place.0 < object_count definition.now }
     ensures past { result ≡ false → object_count definition.now ≤ place.0 }

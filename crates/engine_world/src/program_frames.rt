@@ -25,6 +25,10 @@ use std::alloc::AllocError;
 use ui_machine::{Arm, Halt};
 
 /// Writes a register, or unsets it. What it names then is held, and what it named is let go.
+///
+/// # Errors
+///
+/// `Halt::OutOfMemory` if memory is refused, and `Halt::Stuck` where the machine is stuck here.
 #[inline(always)]
 pub fn put(
     table: &mut Table,
@@ -45,6 +49,10 @@ pub fn put(
 }
 
 /// Puts the rest of a program before the other tasks. It goes on to hold what its registers name.
+///
+/// # Errors
+///
+/// `AllocError` if memory is refused.
 #[inline(always)]
 pub fn push_frame(engine: &mut Engine, frame: Frame) -> Result<(), AllocError>
     ensures agenda { OnOk result ((d : machine.Definition) → agenda_of d engine.new ≡ Running (frame_view frame) ∷ agenda_of d engine.old) }
@@ -91,6 +99,10 @@ fn pass_to(engine: &mut Engine, frame: Frame, value: &Option<Value>) -> Result<(
 }
 
 /// The answer of a peer goes to the task below its call: the program that called takes it.
+///
+/// # Errors
+///
+/// `Halt::OutOfMemory` if memory is refused, and `Halt::Stuck` where the machine is stuck here.
 pub fn pass_answer(
     engine: &mut Engine,
     definition: &Definition,
@@ -114,6 +126,10 @@ pub fn pass_answer(
 }
 
 /// The result of an emission goes to the task below it: a program that waits for it takes it.
+///
+/// # Errors
+///
+/// `Halt::OutOfMemory` if memory is refused, and `Halt::Stuck` where the machine is stuck here.
 pub fn pass_down(
     engine: &mut Engine,
     definition: &Definition,

@@ -26,6 +26,10 @@ pub fn living_class(table: &Table, id: ObjectId) -> Option<TypeId>
 }
 
 /// The spec of a living object's property.
+///
+/// # Errors
+///
+/// The arm by which the machine is stuck here, if it is.
 #[tactic(auto, unfolding(ui_machine::specs::Rules::Sets::spec_at))]
 pub fn spec_of<'a>(
     engine: &Engine,

@@ -27,6 +27,10 @@ use std::alloc::AllocError;
 use ui_machine::ObjectId;
 
 /// Holds an object, if there is one, once more. It refuses one that does not live, or that is held as often as may be.
+///
+/// # Errors
+///
+/// `AllocError` if memory is refused.
 #[inline(always)]
 pub fn hold_any(table: &mut Table, id: Option<ObjectId>) -> Result<(), AllocError>
     ensures only { OnlyCounts table.old table.new }
@@ -203,7 +207,7 @@ fn hold_emitted(table: &mut Table, cursor: &Cursor, args: &[Value]) -> Result<()
 }
 
 /// A law: where each object is counted as often as it is mentioned, no count is at its end, so that what lives may be held once more. What is
-/// counted stands in lists, and no list is longer than memory. It looks at each object; no program calls it.
+/// counted is kept in lists, and no list is longer than memory. It looks at each object; no program calls it.
 fn never_full(engine: &Engine)
     ensures { (d : machine.Definition) (taken : ℕ → ℕ) → Counts d taken engine.now → (o : ℕ) → taken o ≤ 2 ^ 64
         → IsSome (living engine.now.world.table.objects o) → may_hold engine.now.world.table o ≡ true }
@@ -213,6 +217,10 @@ fn never_full(engine: &Engine)
 }
 
 /// Puts a task before the others, which holds its objects from then on.
+///
+/// # Errors
+///
+/// `AllocError` if memory is refused.
 pub fn push_task(engine: &mut Engine, task: Task) -> Result<(), AllocError>
     requires { TakesKnownHandlers engine.now.world.handlers.last task }
     ensures agenda { OnOk result ((d : machine.Definition) → agenda_of d engine.new ≡ task_in d engine.old task ∷ agenda_of d engine.old) }

@@ -33,10 +33,14 @@ impl World {
     fn any_released(&self, given: &[Given]) -> bool
         ensures { result ≡ list_any (gives_released (world_of self.now)) (map given_view given.now) }
     {
-        match given {
-            [] => false,
-            [first, others @ ..] => self.gives_released(first) || self.any_released(others),
+        let mut left = given;
+        'given: while let [first, others @ ..] = left {
+            if self.gives_released(first) {
+                return true;
+            }
+            left = others;
         }
+        false
     }
 
     /// Whether a request names an object that the builder has let go, in any position.

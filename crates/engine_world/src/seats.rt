@@ -7,6 +7,7 @@ ghost use Rattle.ui_machine.specs.State.Peers.{Peer, first_left, if_left, is_lef
 ghost use Rattle.peer_shapes.specs.MethodViews.{is_plain_shape};
 ghost use Rattle.peer_shapes.specs.MethodViews.{lent_view as lent_method};
 ghost use Rattle.definition_format.specs.Meaning.{name_bytes};
+ghost use Rattle.engine_world.specs.GotNames.{AreAllGot};
 ghost use Rattle.engine_world.specs.SeatView.{HasKnownKinds, closed_at, lent_view, new_peer};
 
 use peer_shapes::{MethodRef, Shape};
@@ -172,7 +173,8 @@ impl Seats {
 
     /// How many of these names from the first one on are not of peers that are left, where it is known of so many that they are not.
     pub(crate) fn got(&self, names: &[String], known: usize) -> usize
-        ensures { first_left self.now (take known (name_bytes names.now)) ≡ None → first_left self.now (take result (name_bytes names.now)) ≡ None }
+        ensures got { first_left self.now (take known (name_bytes names.now)) ≡ None → first_left self.now (take result (name_bytes names.now)) ≡ None }
+        ensures all { AreAllGot self.now (name_bytes names.now) result }
     {
         'names: for number in known..names.len() {
             if self.find_left(names[number].as_str()).is_some() {

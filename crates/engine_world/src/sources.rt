@@ -48,6 +48,10 @@ impl NewSource {
 }
 
 /// Attaches a source, which holds its data from then on. It answers whether there was room for one more.
+///
+/// # Errors
+///
+/// `AllocError` if memory is refused.
 pub fn attach_source(engine: &mut Engine, source: NewSource) -> Result<bool, AllocError>
     ensures room { IfOk result (λ b. b ≡ has_room (world_of engine.old.world).sources (world_of engine.old.world).last_source) }
     ensures world { IfOk result (λ b. world_of engine.new.world ≡ cond b (with_new_source (world_of engine.old.world) source) (world_of engine.old.world)) }

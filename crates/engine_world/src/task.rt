@@ -134,10 +134,10 @@ pub struct NewEmission {
     pub object: ObjectId,
     /// The signal, by its number in the list of the object's class.
     pub signal: SignalId,
-    /// The detail, as it stands at the signal.
+    /// The detail, as it is at the signal.
     pub detail: Option<String>,
     pub args: Vec<Value>,
-    /// Whether an event emits, which tells of the result.
+    /// Whether an event emits, which reports the result.
     pub by_event: bool,
 }
 
@@ -276,6 +276,10 @@ impl Stack {
     }
 
     /// Puts a task before the others.
+    ///
+    /// # Errors
+    ///
+    /// `AllocError` if memory is refused.
     pub fn push(&mut self, task: Task) -> Result<(), AllocError>
         ensures tasks { OnOk result ((d : machine.Definition) (hs : List Handler) → tasks_of d hs self.new ≡ task_of d hs task ∷ tasks_of d hs self.old) }
         ensures begun { OnOk result ((last : ℕ) → TakesKnownHandlers last task → AllTakeKnownHandlers last self.old → AllTakeKnownHandlers last self.new) }

@@ -30,6 +30,10 @@ fn weak_of(alloc: Global, definition: &Definition, class: TypeId) -> Result<Vec<
 }
 
 /// The weak properties of each type.
+///
+/// # Errors
+///
+/// `AllocError` if memory is refused.
 pub fn weak_slots(alloc: Global, definition: &Definition) -> Result<WeakSlots, AllocError>
     ensures { IfOk result (λ weak. Knows definition.now weak) }
 {

@@ -40,6 +40,10 @@ pub struct World {
 
 impl World {
     /// One more line.
+    ///
+    /// # Errors
+    ///
+    /// `AllocError` if memory is refused.
     pub fn say(&mut self, line: String) -> Result<(), AllocError>
         ensures ok { OnOk result (world_of self.new ≡ record (world_of self.old) { transcript = (world_of self.old).transcript ++ string_bytes line ∷ [] }) }
         ensures err { OnErr result (world_of self.new ≡ world_of self.old) }
@@ -51,6 +55,10 @@ impl World {
     }
 
     /// These lines more, or none of them.
+    ///
+    /// # Errors
+    ///
+    /// `AllocError` if memory is refused.
     pub fn say_all(&mut self, mut lines: Vec<String>) -> Result<(), AllocError>
         ensures ok { OnOk result (world_of self.new ≡ with_lines (map string_bytes lines.items) (world_of self.old)) }
         ensures err { OnErr result (world_of self.new ≡ world_of self.old) }
@@ -60,7 +68,7 @@ impl World {
         self.transcript.append(&mut lines)
     }
 
-    // What stands at a place of the builder.
+    // What is at a place of the builder.
     fn entry(&self, place: Place) -> Option<BuilderEntry>
         ensures { result ≡ slice_get self.now.builder.items place.0 }
     {

@@ -1,4 +1,5 @@
 pub mod Pieces
+pub mod Late
 pub mod LineLemmas
 pub mod Runs
 pub mod EventLemmas

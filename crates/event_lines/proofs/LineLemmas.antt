@@ -183,6 +183,11 @@ known_further (Some xs) None c P Q R h k f = absurd h
 known_further (Some xs) (Some ys) None P Q R h k f = absurd k
 known_further (Some xs) (Some ys) (Some zs) P Q R h k f = f xs ys zs h k
 
+pub known_later : (a b : Option (List ℕ)) (P Q : List ℕ → List ℕ → Type 0) → WhereKnown a b P → ((xs ys : List ℕ) → P xs ys → Q xs ys) → WhereKnown a b Q
+known_later None b P Q h f = tt
+known_later (Some xs) None P Q h f = absurd h
+known_later (Some xs) (Some ys) P Q h f = f xs ys h
+
 pub known_so : (a b : Option (List ℕ)) (P : List ℕ → List ℕ → Type 0) (Q : List ℕ → Type 0) → WhereKnown a b P
     → ((xs ys : List ℕ) → P xs ys → Q xs) → IfSome a Q
 known_so None b P Q h f = tt

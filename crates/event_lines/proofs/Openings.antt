@@ -183,7 +183,7 @@ after_prefix moved left before more text e h =
     record { more = h.more; whole = ap (λ t. moved ++ t) h.whole ∙ sym (append_assoc moved (left ++ more) h.more) ∙ ap (λ t. t ++ h.more) (sym (left_and_more moved left before more e)) }
 
 module _ (replies : Replies SessionState) (old : SessionState) (build : List ℕ) (torn : Bool) (unread : Type 0) (first last : Option (List ℕ)) where
-  -- the build's lines were said, and the events told
+  -- the build's lines were said, and the events handled
   plays_on : (lines : List (List ℕ)) (status : ℕ) (moved left text : List ℕ) (new : SessionState) → build ≡ moved ++ left → EventFileRun replies without_lines old left lines status torn unread first last text new
       → EventFileRun replies without_lines old build lines status torn unread first last (moved ++ text) new
   plays_on lines status moved left text new is file_run = record {
@@ -204,6 +204,7 @@ module _ (replies : Replies SessionState) (old : SessionState) (build : List ℕ
         within = step.within;
         goes_on = step.goes_on;
         written = after_prefix moved left build (text_from 1 (take step.count file_run.outcomes)) text is step.written;
+        ended = step.ended;
         near = step.near;
       })
 
@@ -235,7 +236,7 @@ module _ (replies : Replies SessionState) (old : SessionState) (build : List ℕ
             record { appends = h.appends; few = few_writes r r' a.writes b.writes (length h.moved) (omega (arith, same)) (omega (arith, h.full, same)) },
           )
 
-      -- they were said, and then the events told
+      -- they were said, and then the events handled
       pub plays : (c : Sent) (status : ℕ) (new : SessionState) → p ≡ [] → Passes a p b q build
           → (input : List ℕ) × IfSome first (λ known. known ≡ input) × (text : List ℕ) × EventFileRun replies without_lines old q (lines_of input) status torn unread first last text new × Sends r r' b c text
           → PlaysOver status c new
@@ -333,7 +334,7 @@ module _ {I : Type 0} {Held : I → Type 0} (state_of : NamedPeer I Held → Pee
       by (stopped s) is opens = absurd is
       by (built s) is opens = absurd is
 
-  -- the events were told, whose peers might do what they might at the beginning
+  -- the events were handled, whose peers might do what they might at the beginning
   pub ran_built : (later : Relations) (session : Session I Held) (pool : List Seen) (core : SessionState) (left : List Seen) → Opened state_of may (as_peers pool_seen) old bytes (code.Built session) → SameRelations may later → left ≡ taken_closed core.world.peers pool
       → PlaysOver (event_replies later) (without_lines (state_at (seen state_of (entries session.pool)) session.core)) (lines_text session.core.world.transcript) torn unread first last r r' a status c (state_at pool core) → RanOver left
   ran_built later session pool core left o same closes t =

@@ -11,12 +11,12 @@ use Rattle.std.proofs.Math.Bool.{or-false}
 use Rattle.ui_machine.specs.Prefix.{IsPrefix}
 use Rattle.ui_machine.specs.Limits.{most_line_bytes}
 use Rattle.event_lines.specs.Lines.{lines_of, line_ends, has_end}
-use Rattle.event_lines.specs.Reading.{WhereKnown, IsFirst, IsBegun, most_ahead}
-use Rattle.event_lines.specs.EventFileRun.{Outcome, said, refused, cut_off, stopped, Replies, LineComesTo, LinesComeTo, EventFileRun, InStep, AllTold, IsOver, ends, text_at, text_from, status_after, status_of, reach}
+use Rattle.event_lines.specs.Reading.{WhereKnown, IsFirst, IsBegun, IsLate, most_ahead}
+use Rattle.event_lines.specs.EventFileRun.{Outcome, said, refused, cut_off, stopped, Replies, LineComesTo, LinesComeTo, EventFileRun, BeforeLastRead, InStep, AllTold, IsOver, ends, text_at, text_from, status_after, status_of, reach}
 use Rattle.event_lines.specs.Writing.{Sent, Passes, Tears, Waits, Finishes, Sends}
 use Rattle.event_lines.specs.declared.line_reader.Found.{Found}
 use Rattle.event_lines.specs.declared.line_reader.Found.TheVariants as founds
-use Rattle.event_lines.proofs.LineLemmas.{or_false, first_line, begun_line, line_ends_append, no_more_ends}
+use Rattle.event_lines.proofs.LineLemmas.{or_false, first_line, begun_line, known_further, line_ends_append, no_more_ends}
 use Rattle.event_lines.proofs.Pieces.{joined_moves}
 
 -- no line has an end in it
@@ -32,7 +32,7 @@ pub record IsAt (done : List (List ℕ)) (xs ys : List ℕ) : Type 0 where
   pub split : xs ≡ part ++ ys
   pub told : line_ends part ≤ length done
 
--- the lines told so far, and what was said of them: what was written, and what is held; and how many writes there were
+-- the lines handled so far, and what was said of them: what was written, and what is held; and how many writes there were
 pub record Came {S : Type 0} (replies : Replies S) (forgotten : S → S) (old : S) (before : List ℕ) (now : S) (number status : ℕ) (ended : Bool) (unread : Type 0) (first last : Option (List ℕ)) (reads reads_after : ℕ) (taken new : Sent) (more : ℕ) (held : List ℕ) (done : List (List ℕ)) (outcomes : List Outcome) : Type 0 where
   pub told : LinesComeTo replies forgotten old 1 done outcomes now
   pub counts : length outcomes ≡ length done
@@ -171,6 +171,26 @@ all_told done outcomes xs ys zs h b counts = record {
   told = let n = no_more_ends h.part b.part b.one in omega (arith, h.told, n, counts);
 }
 
+-- ** what had been read before the last read
+
+pub ended_late : (done : List (List ℕ)) (xs ys zs : List ℕ) → IsAt done xs ys → IsLate ys zs → BeforeLastRead (length done) xs zs
+ended_late done xs ys zs h l = record {
+  part = h.part ++ l.part;
+  late = l.late;
+  split = h.split ∙ ap (λ t. h.part ++ t) l.split ∙ sym (append_assoc h.part l.part (l.late ++ zs));
+  chunk = l.chunk;
+  ended = let n = no_more_ends h.part l.part l.one in omega (arith, h.told, n);
+}
+
+pub late_begun : (ys zs : List ℕ) → IsBegun ys zs → IsLate ys zs
+late_begun ys zs b = record { part = b.part; late = []; split = b.split; one = b.one; chunk = omega arith }
+
+-- where something was read at all
+pub ended_if : {U : Type 0} (first mid last : Option (List ℕ)) (done : List (List ℕ)) → WhereKnown first mid (λ xs ys. IsAt done xs ys) → U ⊎ WhereKnown mid last (λ ys zs. IsLate ys zs)
+    → U ⊎ WhereKnown first last (λ xs zs. BeforeLastRead (length done) xs zs)
+ended_if first mid last done at (inl u) = inl u
+ended_if first mid last done at (inr late) = inr (known_further first mid last _ _ (λ xs zs. BeforeLastRead (length done) xs zs) at late (λ xs ys zs h l. ended_late done xs ys zs h l))
+
 -- ** one step after the other
 
 prefix_more : (xs ys more : List ℕ) → IsPrefix xs ys → IsPrefix xs (ys ++ more)
@@ -182,6 +202,7 @@ step_on before outcomes first last new text more same h = record {
   within = h.within;
   goes_on = h.goes_on;
   written = prefix_more (before ++ text_from 1 (take h.count outcomes)) text more h.written;
+  ended = subst (λ r. WhereKnown first r (λ input rest. BeforeLastRead h.count input rest)) same h.ended;
   near = subst (λ r. WhereKnown first r (λ input rest. length input ≤ length rest + (reach (take (h.count + 1) (lines_of input)) + most_ahead))) same h.near;
 }
 
@@ -193,19 +214,22 @@ step_more before outcomes o first last text more h =
       within = let n = length-append outcomes (o ∷ []) in omega (arith, h.within, n);
       goes_on = ap (list_any ends) same ∙ h.goes_on;
       written = subst (λ os. IsPrefix (before ++ text_from 1 os) (text ++ more)) (sym same) (prefix_more (before ++ text_from 1 (take h.count outcomes)) text more h.written);
+      ended = h.ended;
       near = h.near;
     }
 
 -- all that was said is written, and then something is read
 step_now : (before : List ℕ) (done : List (List ℕ)) (outcomes : List Outcome) (first last : Option (List ℕ)) (text : List ℕ) → length outcomes ≡ length done → list_any ends outcomes ≡ false
-    → before ++ text_from 1 outcomes ≡ text → WhereKnown first last (λ xs zs. IsNear done most_ahead xs zs) → InStep before outcomes first last text
-step_now before done outcomes first last text counts over writes near =
+    → before ++ text_from 1 outcomes ≡ text → WhereKnown first last (λ xs zs. IsNear done most_ahead xs zs) → WhereKnown first last (λ xs zs. BeforeLastRead (length done) xs zs)
+    → InStep before outcomes first last text
+step_now before done outcomes first last text counts over writes near ended =
     let all : take (length outcomes) outcomes ≡ outcomes = take_all (length outcomes) outcomes (omega arith) in
     record {
       count = length outcomes;
       within = omega arith;
       goes_on = ap (list_any ends) all ∙ over;
       written = record { more = []; whole = sym writes ∙ ap (λ os. before ++ text_from 1 os) (sym all) ∙ sym (append-nil (before ++ text_from 1 (take (length outcomes) outcomes))) };
+      ended = subst (λ n. WhereKnown first last (λ input rest. BeforeLastRead n input rest)) (sym counts) ended;
       near = subst (λ n. WhereKnown first last (λ input rest. length input ≤ length rest + (reach (take (n + 1) (lines_of input)) + most_ahead))) (sym counts) near;
     }
 
@@ -257,9 +281,9 @@ module _ {S : Type 0} (replies : Replies S) (forgotten : S → S) where
   -- nothing was said, and perhaps something was read
   pub came_on : {old now : S} {before : List ℕ} {number status : ℕ} {U unread unread' : Type 0} {failed : Bool} {first last last' : Option (List ℕ)} {reads reads_before reads_after : ℕ} {taken mid new : Sent} {held after : List ℕ} {done : List (List ℕ)} {outcomes : List Outcome}
       → Came replies forgotten old before now number status false unread first last reads reads_before taken mid 0 held done outcomes → (w : Waits U reads_before reads_after failed mid held new after)
-      → (U → (last ≡ last') × (unread → unread')) → WhereKnown first last' (λ xs zs. IsNear done most_ahead xs zs)
+      → (U → (last ≡ last') × (unread → unread')) → WhereKnown first last' (λ xs zs. IsNear done most_ahead xs zs) → U ⊎ WhereKnown first last' (λ xs zs. BeforeLastRead (length done) xs zs)
       → (more : ℕ) → new.writes + reads_before ≤ mid.writes + reads_after + more → Came replies forgotten old before now number status false unread' first last' reads reads_after taken new more w.held done outcomes
-  came_on {before = before} {U = U} {unread = unread} {unread' = unread'} {first = first} {last = last} {last' = last'} {taken = taken} {mid = mid} {new = new} {done = done} {outcomes = outcomes} c w same near more paced =
+  came_on {before = before} {U = U} {unread = unread} {unread' = unread'} {first = first} {last = last} {last' = last'} {taken = taken} {mid = mid} {new = new} {done = done} {outcomes = outcomes} c w same near ended more paced =
       let writes : before ++ text_from 1 outcomes ≡ (c.moved ++ w.moved) ++ w.held = c.writes ∙ ap (λ t. c.moved ++ t) w.whole ∙ sym (append_assoc c.moved w.moved w.held) in
       record {
         told = c.told;
@@ -273,24 +297,30 @@ module _ {S : Type 0} (replies : Replies S) (forgotten : S → S) where
         later = omega (arith, c.later, w.later);
         few = let n = length-append c.moved w.moved in omega (arith, c.few, paced, n);
         writes = writes;
-        order = by w.out c.order writes;
+        order = by ended w.out c.order writes;
       }
     where
-      by : U ⊎ (w.held ≡ []) → unread ⊎ InStep before outcomes first last c.moved → before ++ text_from 1 outcomes ≡ (c.moved ++ w.moved) ++ w.held → unread' ⊎ InStep before outcomes first last' (c.moved ++ w.moved)
-      by (inr none) order writes = inr (step_now before done outcomes first last' (c.moved ++ w.moved) c.counts c.over (writes ∙ ap (λ t. (c.moved ++ w.moved) ++ t) none ∙ append-nil (c.moved ++ w.moved)) near)
-      by (inl u) (inl un) writes = inl ((same u).1 un)
-      by (inl u) (inr step) writes = inr (step_on before outcomes first last last' c.moved w.moved (same u).0 step)
+      on : U → unread ⊎ InStep before outcomes first last c.moved → unread' ⊎ InStep before outcomes first last' (c.moved ++ w.moved)
+      on u (inl un) = inl ((same u).1 un)
+      on u (inr step) = inr (step_on before outcomes first last last' c.moved w.moved (same u).0 step)
+
+      by : U ⊎ WhereKnown first last' (λ xs zs. BeforeLastRead (length done) xs zs) → U ⊎ (w.held ≡ []) → unread ⊎ InStep before outcomes first last c.moved
+          → before ++ text_from 1 outcomes ≡ (c.moved ++ w.moved) ++ w.held → unread' ⊎ InStep before outcomes first last' (c.moved ++ w.moved)
+      by (inl u) out order writes = on u order
+      by (inr h) (inl u) order writes = on u order
+      by (inr h) (inr none) order writes =
+          inr (step_now before done outcomes first last' (c.moved ++ w.moved) c.counts c.over (writes ∙ ap (λ t. (c.moved ++ w.moved) ++ t) none ∙ append-nil (c.moved ++ w.moved)) near h)
 
   -- the same where the writer has not failed
   pub came_fine : {old now : S} {before : List ℕ} {number status : ℕ} {U unread unread' : Type 0} {failed : Bool} {first last last' : Option (List ℕ)} {reads reads_before reads_after : ℕ} {taken mid new : Sent} {held after : List ℕ} {done : List (List ℕ)} {outcomes : List Outcome}
       → failed ≡ false → Came replies forgotten old before now number status false unread first last reads reads_before taken mid 0 held done outcomes → (w : Waits U reads_before reads_after failed mid held new after)
-      → (U → (last ≡ last') × (unread → unread')) → WhereKnown first last' (λ xs zs. IsNear done most_ahead xs zs)
+      → (U → (last ≡ last') × (unread → unread')) → WhereKnown first last' (λ xs zs. IsNear done most_ahead xs zs) → U ⊎ WhereKnown first last' (λ xs zs. BeforeLastRead (length done) xs zs)
       → Came replies forgotten old before now number status false unread' first last' reads reads_after taken new 0 after done outcomes
-  came_fine {old = old} {now = now} {before = before} {number = number} {status = status} {unread' = unread'} {first = first} {last' = last'} {reads = reads} {reads_after = reads_after} {taken = taken} {new = new} {done = done} {outcomes = outcomes} fine c w same near =
+  came_fine {old = old} {now = now} {before = before} {number = number} {status = status} {unread' = unread'} {first = first} {last' = last'} {reads = reads} {reads_after = reads_after} {taken = taken} {new = new} {done = done} {outcomes = outcomes} fine c w same near ended =
       let paced = w.paced fine in
-      subst (λ h. Came replies forgotten old before now number status false unread' first last' reads reads_after taken new 0 h done outcomes) (sym (w.kept fine)) (came_on c w same near 0 (omega (arith, paced)))
+      subst (λ h. Came replies forgotten old before now number status false unread' first last' reads reads_after taken new 0 h done outcomes) (sym (w.kept fine)) (came_on c w same near ended 0 (omega (arith, paced)))
 
-  -- one more line was told, and its outcome said
+  -- one more line was handled, and its outcome said
   pub came_told : {old now then : S} {before : List ℕ} {number status : ℕ} {unread : Type 0} {first last : Option (List ℕ)} {reads reads_after : ℕ} {taken mid new : Sent} {held after : List ℕ} {done : List (List ℕ)} {outcomes : List Outcome}
       (line : List ℕ) (o : Outcome) → Came replies forgotten old before now number status false unread first last reads reads_after taken mid 0 held done outcomes → LineComesTo replies now number line o then → has_end line ≡ false
       → Passes mid held new after (text_at number o)

@@ -65,7 +65,7 @@ abbrev pub reach : List (List ℕ) → ℕ
 reach [] = 0
 reach (line ∷ lines) = (min (length line) most_line_bytes + 1) + reach lines
 
--- What a session may answer to an event line, and how it stands then.
+-- What a session may answer to an event line, and the session after it.
 abbrev pub Replies : Type 0 → Type 1
 Replies S = S → List ℕ → Outcome → S → Type 0
 
@@ -88,17 +88,27 @@ LinesComeTo {S} replies forgotten old n (line ∷ lines) (outcome ∷ outcomes) 
     (mid : S) × LineComesTo replies old n line outcome mid × (ends outcome ≡ true → outcomes ≡ [])
     × LinesComeTo replies forgotten (forgotten mid) (n + 1) lines outcomes new
 
--- no line is left to be told
+-- no line is left to be handled
 abbrev pub IsOver : List (List ℕ) → List Outcome → Type 0
 IsOver lines outcomes = (length outcomes ≡ length lines) ⊎ (list_any ends outcomes ≡ true)
 
+-- Of the input, all but the rest was read, the last read gave no more than a chunk, and before it so many lines had ended at most.
+pub record BeforeLastRead (count : ℕ) (input rest : List ℕ) : Type 0 where
+  pub part : List ℕ
+  pub late : List ℕ
+  pub split : input ≡ part ++ (late ++ rest)
+  pub chunk : length late ≤ most_ahead
+  pub ended : line_ends part ≤ count
+
 -- The order of reads and writes, as it was at the last read: what comes before the events was written, and the outcomes of the first
--- lines, none of which ends the run; and of the lines after them no more was read than the next, and a chunk.
+-- lines, none of which ends the run. These were all lines that had ended: nothing that was said was held back while a read could wait. And of
+-- the lines after them no more was read than the next, and a chunk.
 pub record InStep (before : List ℕ) (outcomes : List Outcome) (first last : Option (List ℕ)) (text : List ℕ) : Type 0 where
   pub count : ℕ
   pub within : count ≤ length outcomes
   pub goes_on : list_any ends (take count outcomes) ≡ false
   pub written : IsPrefix (before ++ text_from 1 (take count outcomes)) text
+  pub ended : WhereKnown first last (λ input rest. BeforeLastRead count input rest)
   pub near : WhereKnown first last (λ input rest. length input ≤ length rest + (reach (take (count + 1) (lines_of input)) + most_ahead))
 
 -- each whole line that was read has its outcome
@@ -121,5 +131,5 @@ pub record EventFileRun {S : Type 0} (replies : Replies S) (forgotten : S → S)
   pub answer : status ≢ 4 → status ≡ status_of outcomes
   -- at each status: all that was said is written before anything is read
   pub order : unread ⊎ InStep before outcomes first last text
-  -- the reader failed: the lines so far were told
+  -- the reader failed: the lines so far were handled
   pub heard : status ≡ 4 → torn ≡ false → WhereKnown first last (λ input rest. AllTold outcomes input rest)

@@ -1,4 +1,4 @@
--- The outcome that the code's answer stands for.
+-- The outcome that the code's answer denotes.
 use Rattle.std.specs.Prelude.{ℕ, List, Result, Ok, Err}
 use Rattle.builder_defs.specs.EventMeaning.{event_refusal}
 use Rattle.definition_format.specs.declared.event_faults.EventError.{EventError}

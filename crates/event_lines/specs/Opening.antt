@@ -44,7 +44,7 @@ opening_text unbegun = nothing_begun
 opening_text (stopped s) = lines_text s.world.transcript ++ build_stopped
 opening_text (built s) = lines_text s.world.transcript
 
--- a session stands at the end of the definition's build with these peers, each of which has replied as it may
+-- a session has come to the end of the definition's build with these peers, each of which has replied as it may
 pub record IsBuilt (may : Relations) (peers : List Peer) (s : SessionState) : Type 0 where
   pub tally : Tally
   pub carries : Replied may (λ replies. Carries s.definition (of_build s.definition peers) replies tally s.world)
@@ -82,7 +82,7 @@ Concludes whole answer status torn text =
 abbrev pub left_by : World → List Seen
 left_by w = taken_closed w.peers (map seen_of w.peers)
 
--- the lines of the build were said, and then the event lines told; and this pool is left
+-- the lines of the build were said, and then the event lines handled; and this pool is left
 pub record Plays (may : Relations) (peers : List Peer) (left : List Seen) (s : SessionState) (lines : List (List ℕ)) (status : ℕ) (torn : Bool) (unread : Type 0) (first last : Option (List ℕ)) (text : List ℕ) : Type 0 where
   pub new : SessionState
   pub file_run : EventFileRun (event_replies may) without_lines (without_lines s) (lines_text s.world.transcript) lines status torn unread first last text new

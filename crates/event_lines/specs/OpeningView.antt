@@ -1,4 +1,4 @@
--- Which opening the code's stands for.
+-- Which opening the code's denotes.
 use Rattle.std.specs.Prelude.{◌≡◌, ℕ, List, string_bytes}
 use Rattle.ui_machine.specs.State.Peers.{Peer, PeerState}
 use Rattle.law_typing.specs.Verdict.FaultText.{fault_text}
@@ -21,7 +21,7 @@ pool_in (code.Unbegun pool) = pool
 pool_in (code.Stopped session) = session.pool
 pool_in (code.Built session) = session.pool
 
--- the opening that the code's stands for, where the state of a box is given by this
+-- the opening that the code's denotes, where the state of a box is given by this
 abbrev pub IsOpening : {I : Type 0} {Held : I → Type 0} → (NamedPeer I Held → PeerState) → Opening I Held → openings.Opening → Type 0
 IsOpening state_of (code.Refused text pool) (openings.refused refusal) = string_bytes text ≡ refusal_text refusal
 IsOpening state_of (code.Refused text pool) (openings.rejected d fault) = string_bytes text ≡ fault_text d fault

@@ -49,3 +49,21 @@ pub record IsBegun (xs ys : List ℕ) : Type 0 where
   pub split : xs ≡ part ++ ys
   pub one : has_end part ≡ false
   pub short : length part ≤ most_line_bytes
+
+-- what the last read gave, and what came before it, in which no line ends
+pub record IsLate (xs ys : List ℕ) : Type 0 where
+  pub part : List ℕ
+  pub late : List ℕ
+  pub split : xs ≡ part ++ (late ++ ys)
+  pub one : has_end part ≡ false
+  pub chunk : length late ≤ most_ahead
+
+-- the next byte was the first of those that were read ahead
+abbrev pub IsTaken : Option ℕ → List ℕ → List ℕ → Type 0
+IsTaken None before ahead = before ≡ []
+IsTaken (Some b) before ahead = before ≡ b ∷ ahead
+
+-- the next byte came from a read, since none was read ahead
+abbrev pub IsReadAnew : Option ℕ → List ℕ → List ℕ → Type 0
+IsReadAnew None before ahead = before ≡ []
+IsReadAnew (Some b) before ahead = (before ≡ []) × (length ahead < most_ahead)

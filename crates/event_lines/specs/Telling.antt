@@ -1,4 +1,4 @@
--- What the telling of one line does.
+-- What the handling of one line does.
 use Rattle.std.specs.Prelude.{◌≡◌, ℕ, List, Result, IfOk}
 use Rattle.native_peers.specs.Seen.{Relations}
 use Rattle.ui_engine.specs.SessionView.{SessionState, without_lines}

@@ -1,7 +1,8 @@
 //! Bytes read ahead.
 
-ghost use Rattle.std.specs.Prelude.{◌≡◌, ◌≤◌, ◌++◌, [], ◌∷◌, ℕ, List, drop, take, length, IfOk, OnOk, OnErr, MatchOption, false};
+ghost use Rattle.std.specs.Prelude.{◌≡◌, ◌≤◌, ◌++◌, ◌⊎◌, [], ◌∷◌, ℕ, List, drop, take, length, IfOk, OnOk, OnErr, MatchOption, false};
 ghost use Rattle.std.specs.Io.KnownBytes.{Keeps, Consumes, IsAtEnd, prepend_known};
+ghost use Rattle.event_lines.specs.Reading.{IsReadAnew, IsTaken};
 ghost use Rattle.event_lines.specs.Writing.{Waits, IsFine};
 ghost use Rattle.event_lines.specs.declared.chunk.TheConstants.{CHUNK_SIZE};
 
@@ -43,6 +44,10 @@ impl Chunk {
 
     /// Takes the next byte, and reads where there is none; None at the end. Before a read all that was said is written. Neither a read
     /// nor a write is tried again.
+    ///
+    /// # Errors
+    ///
+    /// `DeviceFault` if a device fails. It is not called again.
     pub fn next<R: Reader, W: Writer>(
         &mut self,
         reader: &mut R,
@@ -57,6 +62,7 @@ impl Chunk {
             (λ b. Consumes (prepend_known self.old (R.left reader.old)) (prepend_known self.new (R.left reader.new)) (b ∷ []))) }
         ensures kept { OnErr result (Keeps (prepend_known self.old (R.left reader.old)) (R.left reader.new) × (self.new ≡ [])) }
         ensures small { length self.new ≤ CHUNK_SIZE }
+        ensures anew { ((reader.new ≡ reader.old) × IfOk result (λ next. IsTaken next self.old self.new)) ⊎ IfOk result (λ next. IsReadAnew next self.old self.new) }
         ensures waits { Waits (reader.new ≡ reader.old) (R.reads reader.old) (R.reads reader.new) (W.failed writer.new)
             (W.sent writer.old) gather.old (W.sent writer.new) gather.new }
         ensures marks { IsFine result (R.failed reader.new) (W.failed writer.new) }
@@ -79,6 +85,7 @@ impl Chunk {
         ensures kept { OnErr result (Keeps (prepend_known self.old (R.left reader.old)) (R.left reader.new) × (self.new ≡ [])) }
         ensures small { length self.new ≤ CHUNK_SIZE }
         ensures end { OnOk result (self.new ≡ [] → IsAtEnd (R.left reader.new)) }
+        ensures anew { ((reader.new ≡ reader.old) × (self.new ≡ self.old)) ⊎ (self.old ≡ []) }
         ensures waits { Waits (reader.new ≡ reader.old) (R.reads reader.old) (R.reads reader.new) (W.failed writer.new)
             (W.sent writer.old) gather.old (W.sent writer.new) gather.new }
         ensures marks { IsFine result (R.failed reader.new) (W.failed writer.new) }

@@ -55,6 +55,10 @@ impl<T: Drop> From<AllocFailed<T>> for FileFault {
 }
 
 /// All bytes of a feed, but no more than the limit of a definition and one, by which it is refused. No byte past that one is asked for.
+///
+/// # Errors
+///
+/// A device that fails, or want of memory.
 pub fn definition_bytes<R: Feed>(alloc: Global, reader: &mut R) -> Result<Vec<u8>, FileFault>
     requires works { R.failed reader.old ≡ false }
     ensures bytes { IfOk result (λ bytes. IfSome (R.left reader.old) (λ input. bytes.items ≡ take (most_definition_bytes + 1) input)) }

@@ -18,6 +18,7 @@ use crate::gather::Gather;
 use crate::line_outcome::{LineOutcome, handle_line};
 use crate::line_reader::{Found, LineReader};
 use crate::writing::put_outcome;
+use builder_defs::EventReader;
 use native_peers::Peer;
 use std::alloc::Global;
 use ui_engine::Session;
@@ -27,6 +28,7 @@ use ui_machine::DeviceFault;
 fn tell<W: Writer>(
     alloc: Global,
     session: &mut Session,
+    events: &mut EventReader,
     number: u64,
     found: Found,
     buffer: &[u8],
@@ -43,7 +45,7 @@ fn tell<W: Writer>(
     ensures same { SameRelations (relations (λ p. (⟦<dyn Peer as Peer>⟧ p.peer.vtable).moves p.peer.value) (entries session.old.pool)) (relations (λ p. (⟦<dyn Peer as Peer>⟧ p.peer.vtable).moves p.peer.value) (entries session.new.pool)) }
 {
     let before = session.transcript().len();
-    let outcome = handle_line(alloc, session, number, found, buffer);
+    let outcome = handle_line(alloc, session, events, number, found, buffer);
     let said = &session.transcript()[before..];
     let put = put_outcome(gather, writer, number, outcome, said);
     session.forget();
@@ -80,6 +82,7 @@ pub fn handle_lines<R: Reader, W: Writer>(
         chunk: Chunk::new(),
         line: Vec::new(alloc),
     };
+    let mut events = EventReader::new(alloc);
     let mut status = 0;
     let mut number = 1;
     loop {
@@ -90,7 +93,16 @@ pub fn handle_lines<R: Reader, W: Writer>(
             return gather.finish(writer, status);
         };
         let line = lines.line.as_slice();
-        let Ok(outcome) = tell(alloc, session, number, found, line, gather, writer) else {
+        let Ok(outcome) = tell(
+            alloc,
+            session,
+            &mut events,
+            number,
+            found,
+            line,
+            gather,
+            writer,
+        ) else {
             return 4;
         };
         status = outcome.status_after(status);

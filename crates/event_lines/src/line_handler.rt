@@ -8,7 +8,7 @@ ghost use Rattle.event_lines.specs.Events.{event_replies};
 ghost use Rattle.event_lines.specs.LineOutcome.{outcome_of};
 
 use crate::refusal::LineRefusal;
-use builder_defs::{EventError, read_event};
+use builder_defs::{EventError, EventReader};
 use native_peers::Peer;
 use std::alloc::Global;
 use ui_engine::{Session, SessionFault};
@@ -52,8 +52,18 @@ impl From<SessionFault> for LineFault {
     }
 }
 
-/// Carries out one line, neither blank nor past the limit. Each peer that it calls replies as it may.
-pub fn handle(alloc: Global, session: &mut Session, line: &[u8]) -> Result<(), LineFault>
+/// Carries out one line, neither blank nor past the limit. Each peer that it calls replies as it may. What the reader of events read
+/// before makes no difference.
+///
+/// # Errors
+///
+/// `Refused` by the first refusal of the line or of its event, and `Stopped` where memory is refused or the session had stopped.
+pub fn handle(
+    alloc: Global,
+    session: &mut Session,
+    events: &mut EventReader,
+    line: &[u8],
+) -> Result<(), LineFault>
     requires seated { IsSeated (seen (λ p. (⟦<dyn Peer as Peer>⟧ p.peer.vtable).state p.peer.value) (entries session.now.pool)) session.now.core }
     ensures grows { length session.old.core.world.transcript ≤ length session.new.core.world.transcript }
     ensures replies { event_replies (relations (λ p. (⟦<dyn Peer as Peer>⟧ p.peer.vtable).moves p.peer.value) (entries session.old.pool))
@@ -64,7 +74,7 @@ pub fn handle(alloc: Global, session: &mut Session, line: &[u8]) -> Result<(), L
     ensures same { SameRelations (relations (λ p. (⟦<dyn Peer as Peer>⟧ p.peer.vtable).moves p.peer.value) (entries session.old.pool)) (relations (λ p. (⟦<dyn Peer as Peer>⟧ p.peer.vtable).moves p.peer.value) (entries session.new.pool)) }
 {
     let definition = session.definition();
-    let event = read_event(alloc, definition, line)?;
+    let event = events.read(alloc, definition, line)?;
     session.dispatch(event)?;
     Ok(())
 }

@@ -14,6 +14,7 @@ use crate::MAX_LINES;
 use crate::line_handler::{LineFault, handle};
 use crate::line_reader::Found;
 use crate::refusal::LineRefusal;
+use builder_defs::EventReader;
 use native_peers::Peer;
 use std::alloc::Global;
 use ui_engine::Session;
@@ -63,6 +64,7 @@ fn is_blank(line: &[u8]) -> bool
 pub fn handle_line(
     alloc: Global,
     session: &mut Session,
+    events: &mut EventReader,
     number: u64,
     found: Found,
     buffer: &[u8],
@@ -89,7 +91,7 @@ pub fn handle_line(
     if is_blank(buffer) {
         return LineOutcome::Said;
     }
-    match handle(alloc, session, buffer) {
+    match handle(alloc, session, events, buffer) {
         Ok(()) => return LineOutcome::Said,
         Err(LineFault::Refused(refusal)) => return LineOutcome::Refused(refusal),
         Err(LineFault::Stopped) => return LineOutcome::Stopped,

@@ -1,8 +1,8 @@
 //! Lines out of bytes.
 
-ghost use Rattle.std.specs.Prelude.{◌≡◌, ◌≤◌, length, IfOk, OnErr, false};
+ghost use Rattle.std.specs.Prelude.{◌≡◌, ◌≤◌, ◌⊎◌, length, IfOk, OnErr, OnOk, false};
 ghost use Rattle.std.specs.Io.KnownBytes.{prepend_known};
-ghost use Rattle.event_lines.specs.Reading.{WhereKnown, Reads, IsBegun};
+ghost use Rattle.event_lines.specs.Reading.{WhereKnown, Reads, IsBegun, IsLate};
 ghost use Rattle.event_lines.specs.Writing.{Waits, IsFine};
 
 use crate::MAX_LINE_BYTES;
@@ -14,7 +14,7 @@ use ui_machine::DeviceFault;
 /// A line that was found.
 #[derive(Clone, Copy, Debug, PartialEq, Eq)]
 pub enum Found {
-    /// It stands in the buffer.
+    /// It is in the buffer.
     Whole,
     /// It has more than `MAX_LINE_BYTES` bytes. No byte past the limit and one was read into the buffer.
     TooLong,
@@ -32,6 +32,10 @@ pub struct LineReader {
 impl LineReader {
     /// Reads the next line into the buffer; None at the end. It reads no further than a chunk past the line, and where a line is too
     /// long no further than a chunk past the limit. Before each read all that was said is written.
+    ///
+    /// # Errors
+    ///
+    /// `DeviceFault` if a device fails. It is not called again.
     pub fn next_line<R: Reader, W: Writer>(
         &mut self,
         reader: &mut R,
@@ -44,6 +48,7 @@ impl LineReader {
             Reads found self.new.line.items (prepend_known self.old.chunk (R.left reader.old)) (prepend_known self.new.chunk (R.left reader.new))) }
         ensures begun { OnErr result (WhereKnown (prepend_known self.old.chunk (R.left reader.old)) (R.left reader.new) (λ xs ys. IsBegun xs ys)) }
         ensures small { length self.new.chunk ≤ CHUNK_SIZE }
+        ensures late { OnOk result ((reader.new ≡ reader.old) ⊎ WhereKnown (prepend_known self.old.chunk (R.left reader.old)) (R.left reader.new) (λ xs ys. IsLate xs ys)) }
         ensures waits { Waits (reader.new ≡ reader.old) (R.reads reader.old) (R.reads reader.new) (W.failed writer.new)
             (W.sent writer.old) gather.old (W.sent writer.new) gather.new }
         ensures marks { IsFine result (R.failed reader.new) (W.failed writer.new) }

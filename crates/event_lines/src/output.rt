@@ -27,6 +27,10 @@ fn write_all<W: Writer>(writer: &mut W, bytes: &[u8]) -> Result<(), DeviceFault>
 impl Gather {
     /// Says the bytes. They are gathered, and what is gathered is written each time that there is room for no more. A write that fails
     /// is not tried again.
+    ///
+    /// # Errors
+    ///
+    /// `DeviceFault` if a device fails. It is not called again.
     pub fn put<W: Writer>(&mut self, writer: &mut W, bytes: &[u8]) -> Result<(), DeviceFault>
         requires works { W.failed writer.old ≡ false }
         ensures puts { Puts result (W.sent writer.old) self.old (W.sent writer.new) self.new bytes.now }
@@ -73,6 +77,10 @@ impl Gather {
     }
 
     /// Writes all that is gathered, in one piece, or what comes before the first write that fails.
+    ///
+    /// # Errors
+    ///
+    /// `DeviceFault` if a device fails. It is not called again.
     pub fn flush<W: Writer>(&mut self, writer: &mut W) -> Result<(), DeviceFault>
         requires works { W.failed writer.old ≡ false }
         ensures empty { OnOk result (self.new ≡ []) }

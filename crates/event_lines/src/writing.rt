@@ -14,6 +14,10 @@ use itoa::Buffer;
 use ui_machine::DeviceFault;
 
 /// Says texts one after the other.
+///
+/// # Errors
+///
+/// `DeviceFault` if a device fails. It is not called again.
 pub fn put_parts<W: Writer>(
     gather: &mut Gather,
     writer: &mut W,
@@ -32,6 +36,10 @@ pub fn put_parts<W: Writer>(
 }
 
 /// Says lines, each with its LF.
+///
+/// # Errors
+///
+/// `DeviceFault` if a device fails. It is not called again.
 pub fn put_lines<W: Writer>(
     gather: &mut Gather,
     writer: &mut W,
@@ -93,6 +101,10 @@ fn put_stopped<W: Writer>(
 }
 
 /// Says what a line came to, the lines that were said with it among them.
+///
+/// # Errors
+///
+/// `DeviceFault` if a device fails. It is not called again.
 pub fn put_outcome<W: Writer>(
     gather: &mut Gather,
     writer: &mut W,

@@ -1,4 +1,4 @@
--- What frames stand for.
+-- What frames denote.
 use Rattle.std.specs.Prelude.{◌≡◌, ℕ, ◌+◌, ◌-◌, ◌≤◌, List, [], length, map, take, slice_get, All, Option, Vec, vec_len, vec_capacity}
 use Rattle.std.specs.Option.{option_map_or}
 use Rattle.std.specs.Global.{Global}
@@ -13,7 +13,7 @@ pub record Standing : Type 0 where
   pub frame : Frame
   pub values : List Value
 
--- how many frames may stand, how many values each may have, and the frames that stand, the last one on top
+-- how many frames there may be, how many values each may have, and the frames that are there, the last one on top
 pub record Stack : Type 0 where
   pub depth : ℕ
   pub width : ℕ
@@ -33,7 +33,7 @@ last xs = slice_get xs (length xs - 1)
 abbrev pub without_last : {A : Type 0} → List A → List A
 without_last xs = take (length xs - 1) xs
 
--- the values of the last frame, or none where no frame stands
+-- the values of the last frame, or none where there is no frame
 abbrev pub values_of_last : List Standing → List Value
 values_of_last standing = option_map_or (λ f. f.values) (last standing) []
 

@@ -65,6 +65,10 @@ fn first_registers(
 
 impl Frame {
     /// A program at its first instruction. Its parameters are given these values.
+    ///
+    /// # Errors
+    ///
+    /// `AllocError` if memory is refused.
     pub fn new(
         alloc: Global,
         number: ProgramId,
@@ -106,6 +110,10 @@ impl Frame {
     }
 
     /// Goes on at the first instruction of a block. `Arm::Code` where the frame's program has no such block; then nothing is changed.
+    ///
+    /// # Errors
+    ///
+    /// The arm by which the machine is stuck here, if it is. Nothing has changed then.
     pub fn jump(&mut self, program: &Program, to: BlockNumber) -> Result<(), Arm>
         ensures ok { OnOk result (option_map (at_block to.0 (frame_view self.old)) (slice_get (program_view program.now).blocks to.0) ≡ Some (frame_view self.new)) }
         ensures err { OnErr result (slice_get (program_view program.now).blocks to.0 ≡ None) }
@@ -122,6 +130,10 @@ impl Frame {
     }
 
     /// Writes a register, or unsets it, and answers what it held. `Arm::Code` where there is no such register; then nothing is changed.
+    ///
+    /// # Errors
+    ///
+    /// The arm by which the machine is stuck here, if it is.
     pub fn put(&mut self, to: Register, value: Option<Value>) -> Result<Option<Value>, Arm>
         ensures { Puts result (with_register to.0 (option_map value_view value) (frame_view self.old).registers) (read None (frame_view self.old).registers to.0) (frame_view self.old) (frame_view self.new) }
     {

@@ -71,6 +71,10 @@ pub fn text_at(registers: &[Option<Value>], at: Register) -> Option<&str>
 
 /// The object that a register names. `Arm::Register` where the register is unset or has a value of another kind, `Arm::Operand` where it has
 /// null. Whether the object lives is not answered.
+///
+/// # Errors
+///
+/// The arm by which the machine is stuck here, if it is.
 pub fn identity_at(registers: &[Option<Value>], at: Register) -> Result<ObjectId, Arm>
     ensures { Shows number_of_object result (identity_in (registers_of registers.now) at.0) }
 {
@@ -82,6 +86,10 @@ pub fn identity_at(registers: &[Option<Value>], at: Register) -> Result<ObjectId
 }
 
 /// The object that is the data of a handler or a source, if there is a register for it.
+///
+/// # Errors
+///
+/// The arm by which the machine is stuck here, if it is.
 pub fn data_at(registers: &[Option<Value>], at: Option<Register>) -> Result<Option<ObjectId>, Arm>
     ensures { Shows (option_map number_of_object) result (data_in (registers_of registers.now) (option_map number_of at)) }
 {

@@ -1,4 +1,4 @@
--- A number that stands for a value.
+-- A number that denotes a value.
 use Rattle.std.proofs.Common.{◌≡◌, ◌∙◌, ℤ, List, Option, Result, sym, ap, subst}
 use Rattle.std.specs.declared.alloc.AllocError.{AllocError}
 use Rattle.ui_machine.specs.Definition.Kinds.{Whole}

@@ -2,4 +2,3 @@ pub mod View
 pub mod Naming
 pub mod Reading
 pub mod Arithmetic
-pub mod FlagsIndexes

@@ -1,18 +1,8 @@
--- Members that a text calls by their names or nicks.
-use Rattle.std.specs.Prelude.{ℕ, ◌-◌, ◌==◌, ◌||◌, ℤ, unsigned_abs, bit_or, Bool, not, List, [], ◌∷◌, length, take, drop, reverse, bytes_eq, if◌then◌else◌, Option, Some, option_map, option_and_then}
-use Rattle.std.specs.Option.{option_or}
-use Rattle.std.specs.List.{find, position_or_len, slice_split}
+-- The members of a flags type that the words of a text call.
+use Rattle.std.specs.Prelude.{ℕ, ◌-◌, ◌==◌, ◌||◌, unsigned_abs, bit_or, Bool, not, List, [], ◌∷◌, length, take, drop, reverse, if◌then◌else◌, Option, Some, option_map, option_and_then}
+use Rattle.std.specs.List.{position_or_len, slice_split}
 use Rattle.ui_machine.specs.Definition.Types.{Member}
-
--- the number of the first member of which the text is this word
-abbrev pub number_by : (Member → List ℕ) → List Member → List ℕ → Option ℤ
-number_by text members word = option_map (λ m. m.number) (find (λ m. bytes_eq (text m) word) members)
-
--- the number of the member that is called so: by its name, else by its nick
-abbrev pub number_called : List Member → List ℕ → Option ℤ
-number_called members word = option_or (number_by (λ m. m.name) members word) (number_by (λ m. m.nick) members word)
-
--- ** flags
+use Rattle.type_tree.specs.Naming.{number_called}
 
 -- no space, tab or carriage return
 abbrev pub is_no_blank : ℕ → Bool

@@ -1,4 +1,4 @@
--- Which value of a kind a JSON value stands for, or why it stands for none.
+-- Which value of a kind a JSON value denotes, or why it denotes none.
 use Rattle.std.specs.Prelude.{◌≡◌, ℕ, ℤ, pos, unsigned_abs, List, length, nat_lt, if◌then◌else◌, Option, None, Some, option_and_then, Result, Ok, Err}
 use Rattle.std.specs.Result.{IsOk}
 use Rattle.serde_json.specs.Data.{Data, null, boolean, number, string, array, object}
@@ -10,7 +10,8 @@ use Rattle.ui_machine.specs.Definition.Values as values
 use Rattle.ui_machine.specs.Definition.Types.{GType, Member}
 use Rattle.ui_machine.specs.Output.Text.{members_of}
 use Rattle.ui_machine.specs.Rules.Transform.{least, greatest, is_between, has_number}
-use Rattle.g_values.specs.Naming.{number_called, bits_named}
+use Rattle.type_tree.specs.Naming.{number_called}
+use Rattle.g_values.specs.Naming.{bits_named}
 use Rattle.g_values.specs.declared.error.JsonFault.{JsonFault}
 use Rattle.g_values.specs.declared.error.JsonFault.TheVariants.{WrongJson, OutOfRange, UnknownMember, TextTooLong}
 use Rattle.g_values.specs.declared.error.JsonError.{JsonError}
@@ -72,7 +73,7 @@ abbrev pub value_of : {A : Type 0} → (A → Value) → Result A JsonFault → 
 value_of make (Err cause) = Err cause
 value_of make (Ok x) = Ok (make x)
 
--- the value of a kind that JSON stands for, or why it stands for none; of objects, null alone
+-- the value of a kind that JSON denotes, or why it denotes none; of objects, null alone
 abbrev pub json_value : List GType → Kind → Data → Result Value JsonFault
 json_value types kinds.bool d = value_of values.bool (expected (as_bool d))
 json_value types (kinds.whole k) d = value_of (values.whole k) (number_between (least k) (greatest k) (whole_number d))

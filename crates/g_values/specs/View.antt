@@ -1,4 +1,4 @@
--- Which pure kind and value a kind and a value stand for.
+-- Which pure kind and value a kind and a value denote.
 use Rattle.std.specs.Prelude.{◌≡◌, pos, Bool, true, false, List, Option, None, Some, option_map, IsSome, ℤ, Result, Ok, Err}
 use Rattle.std.specs.declared.alloc.AllocError.{AllocError}
 use Rattle.std.specs.Rc.{rc_str_bytes}

@@ -1,4 +1,4 @@
-//! Why a value does not become one of another kind, and why JSON stands for no value.
+//! Why a value does not become one of another kind, and why JSON denotes no value.
 
 ghost use Rattle.std.specs.Prelude.{◌≡◌};
 ghost use Rattle.g_values.specs.declared.error.TransformError.TheVariants.{OutOfMemory};
@@ -32,10 +32,10 @@ impl From<AllocError> for TransformError {
     }
 }
 
-/// Why JSON stands for no value of a kind.
+/// Why JSON denotes no value of a kind.
 #[derive(Clone, Copy, Debug, PartialEq, Eq)]
 pub enum JsonFault {
-    /// JSON of this sort stands for no value of the kind.
+    /// JSON of this sort denotes no value of the kind.
     WrongJson,
     /// The kind does not have the number.
     OutOfRange,
@@ -50,7 +50,7 @@ pub enum JsonFault {
 pub enum JsonError {
     /// No memory was found.
     OutOfMemory,
-    /// The JSON stands for no value of the kind.
+    /// The JSON denotes no value of the kind.
     Refused(JsonFault),
 }
 

@@ -5,7 +5,6 @@
 
 mod arithmetic;
 mod error;
-mod flags_names;
 mod kind;
 mod members;
 mod naming;

@@ -1,39 +1,13 @@
-//! Members by their names and nicks.
+//! Members of a flags type by words of a text.
 
-ghost use Rattle.std.specs.Prelude.{◌≡◌, ◌<◌, ◌≤◌, length, map, option_map, pos, bytes_eq, string_bytes, position, reverse, List, [], ◌∷◌, IfSome, MatchOption};
-ghost use Rattle.std.specs.List.{find, slice_split};
-ghost use Rattle.std.specs.Option.{option_or, option_copied};
-ghost use Rattle.type_tree.specs.Entry.{enum_member, flags_member};
-ghost use Rattle.g_values.specs.Naming.{number_called, is_no_blank, front_trimmed, back_trimmed, trimmed, is_bar, bits_called, bits_named};
+ghost use Rattle.std.specs.Prelude.{◌≡◌, ◌<◌, ◌≤◌, length, position, reverse, List, [], ◌∷◌, IfSome, MatchOption};
+ghost use Rattle.std.specs.List.{slice_split};
+ghost use Rattle.ui_machine.specs.Definition.Types.{flags};
+ghost use Rattle.ui_machine.specs.Output.Text.{members_of};
+ghost use Rattle.type_tree.specs.Adding.{sort_of};
+ghost use Rattle.g_values.specs.Naming.{is_no_blank, front_trimmed, back_trimmed, trimmed, is_bar, bits_called, bits_named};
 
-use crate::flags_names::FlagsNames;
-use std::alloc::Global;
-use type_tree::{EnumMember, FlagsMember};
-
-// The first member of an enum with this name.
-fn enum_named<'a>(members: &'a [EnumMember], word: &str) -> Option<&'a EnumMember>
-    ensures { option_copied result ≡ find (λ m. bytes_eq (string_bytes m.name) word.now) members.now }
-{
-    members.iter().find(|member| member.name.as_str() == word)
-}
-
-// The first member of an enum with this nick.
-fn enum_nicked<'a>(members: &'a [EnumMember], word: &str) -> Option<&'a EnumMember>
-    ensures { option_copied result ≡ find (λ m. bytes_eq (string_bytes m.nick) word.now) members.now }
-{
-    members.iter().find(|member| member.nick.as_str() == word)
-}
-
-/// The number of the member of an enum that is called so: by its name, else by its nick.
-#[tactic(auto, using(crate::proofs::Called::enum_called))]
-pub fn enum_called(members: &[EnumMember], word: &str) -> Option<i32>
-    ensures { result ≡ number_called (map enum_member members.now) word.now }
-{
-    match enum_named(members, word) {
-        Some(member) => Some(member.number),
-        None => Some(enum_nicked(members, word)?.number),
-    }
-}
+use type_tree::{TypeId, TypeTree};
 
 // No space, tab or carriage return.
 fn is_no_blank(byte: u8) -> bool
@@ -42,7 +16,7 @@ fn is_no_blank(byte: u8) -> bool
     !(byte == b' ' || byte == b'\t' || byte == b'\r')
 }
 
-// Where the first byte that is no blank stands.
+// Where the first byte that is no blank is.
 fn first_of_word(text: &[u8]) -> Option<usize>
     ensures place { result ≡ position is_no_blank text.now }
     ensures within { IfSome result (λ i. i < length text.now) }
@@ -50,7 +24,7 @@ fn first_of_word(text: &[u8]) -> Option<usize>
     text.iter().position(|byte| is_no_blank(*byte))
 }
 
-// Where the last byte that is no blank stands, counted from the end.
+// Where the last byte that is no blank is, counted from the end.
 fn last_of_word(text: &[u8]) -> Option<usize>
     ensures place { result ≡ position is_no_blank (reverse text.now) }
     ensures within { IfSome result (λ i. i < length text.now) }
@@ -58,7 +32,7 @@ fn last_of_word(text: &[u8]) -> Option<usize>
     text.iter().rev().position(|byte| is_no_blank(*byte))
 }
 
-// Where the first bar stands.
+// Where the first bar is.
 fn first_bar(text: &[u8]) -> Option<usize>
     ensures place { result ≡ position is_bar text.now }
     ensures within { IfSome result (λ i. i < length text.now) }
@@ -66,7 +40,7 @@ fn first_bar(text: &[u8]) -> Option<usize>
     text.iter().position(|byte| *byte == b'|')
 }
 
-// What stands before the first bar, and what stands after it.
+// What comes before the first bar, and what comes after it.
 #[tactic(auto, using(crate::proofs::Bars::split_at_bar, crate::proofs::Bars::split_nowhere))]
 fn split_at_bar(text: &[u8]) -> Option<(&[u8], &[u8])>
     ensures parts { MatchOption result (slice_split is_bar text.now ≡ text.now ∷ []) (λ r. slice_split is_bar text.now ≡ r.0.now ∷ slice_split is_bar r.1.now) }
@@ -97,33 +71,35 @@ fn back_trimmed(text: &[u8]) -> &[u8]
 }
 
 // The bits that a word names, with blanks around it; no word names none.
-fn part_bits(names: &FlagsNames<'_>, part: &[u8]) -> Option<u32>
-    ensures { result ≡ bits_called names.now (trimmed part.now) }
+fn part_bits(tree: &TypeTree, t: TypeId, part: &[u8]) -> Option<u32>
+    requires { sort_of tree.now t ≡ flags }
+    ensures { result ≡ bits_called (members_of tree.now t) (trimmed part.now) }
 {
     let word = back_trimmed(front_trimmed(part));
     if word.is_empty() {
         return Some(0);
     }
-    names.called(word)
+    tree.bits_called(t, word)
 }
 
 // The bits that the words of a text name, each between bars and with blanks around it.
-fn bits_of_words(names: &FlagsNames<'_>, text: &[u8]) -> Option<u32>
-    ensures { result ≡ bits_named names.now text.now }
+fn bits_of_words(tree: &TypeTree, t: TypeId, text: &[u8]) -> Option<u32>
+    requires { sort_of tree.now t ≡ flags }
+    ensures { result ≡ bits_named (members_of tree.now t) text.now }
 {
     let mut bits = 0;
     let mut rest = text;
     'parts: while let Some((part, others)) = split_at_bar(rest) {
-        bits |= part_bits(names, part)?;
+        bits |= part_bits(tree, t, part)?;
         rest = others;
     }
-    Some(bits | part_bits(names, rest)?)
+    Some(bits | part_bits(tree, t, rest)?)
 }
 
 /// The bits that a text names by words between bars, each with blanks around it.
-pub fn bits_named(alloc: Global, members: &[FlagsMember], text: &str) -> Option<u32>
-    ensures { result ≡ bits_named (map flags_member members.now) text.now }
+pub fn bits_named(tree: &TypeTree, t: TypeId, text: &str) -> Option<u32>
+    requires { sort_of tree.now t ≡ flags }
+    ensures { result ≡ bits_named (members_of tree.now t) text.now }
 {
-    let names = FlagsNames::new(alloc, members, text.as_bytes());
-    bits_of_words(&names, text.as_bytes())
+    bits_of_words(tree, t, text.as_bytes())
 }

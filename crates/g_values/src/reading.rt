@@ -1,33 +1,32 @@
 //! Values read from JSON.
 
-ghost use Rattle.std.specs.Prelude.{◌≡◌, ◌≤ℤ◌, ℤ, pos, map, option_map, IfOk};
+ghost use Rattle.std.specs.Prelude.{◌≡◌, ◌≤ℤ◌, ℤ, pos, option_map, IfOk};
 ghost use Rattle.std.specs.Rc.{rc_str_bytes};
 ghost use Rattle.serde_json.specs.View.{view};
 ghost use Rattle.serde_json.specs.Find.{as_null, as_bool, as_str};
-ghost use Rattle.ui_machine.specs.Definition.Types.{enum};
+ghost use Rattle.ui_machine.specs.Definition.Types.{enum, flags};
 ghost use Rattle.ui_machine.specs.Output.Text.{members_of};
 ghost use Rattle.type_tree.specs.Adding.{sort_of};
-ghost use Rattle.type_tree.specs.Entry.{flags_member};
 ghost use Rattle.g_values.specs.View.{kind_view, value_view, value_kind, IsKnown};
 ghost use Rattle.g_values.specs.Reading.{whole_number, number_between, enum_number, flags_bits, text_or_null, expected, json_value, Means};
 
 use crate::error::{JsonError, JsonFault};
 use crate::kind::Kind;
-use crate::naming::{bits_named, enum_called};
+use crate::naming::bits_named;
 use crate::value::Value;
 use std::alloc::Global;
 use std::rc::RcStr;
-use type_tree::{FlagsMember, TypeId, TypeTree};
+use type_tree::{TypeId, TypeTree};
 
 /// The most bytes of a text.
 pub const MOST_TEXT_BYTES: usize = 4_096;
 
-/// The value of a kind that JSON stands for: true or false; a whole number; a text or null; an enum's member by name, nick or number; flags as
+/// The value of a kind that JSON denotes: true or false; a whole number; a text or null; an enum's member by name, nick or number; flags as
 /// a number, or by names and nicks between bars; of objects, null alone.
 ///
 /// # Errors
 ///
-/// `WrongJson` where JSON of this sort stands for no value of the kind, `OutOfRange` for a number that the kind does not have,
+/// `WrongJson` where JSON of this sort denotes no value of the kind, `OutOfRange` for a number that the kind does not have,
 /// `UnknownMember` for what no member is called and no member's number is, `TextTooLong` past 4,096 bytes.
 pub fn from_json(
     alloc: Global,
@@ -59,7 +58,7 @@ pub fn from_json(
         }
         Kind::Text => Ok(Value::Text(text_in(alloc, json)?)),
         Kind::Enum(t) => Ok(Value::Enum(t, enum_number_in(tree, t, json)?)),
-        Kind::Flags(t) => Ok(Value::Flags(t, bits_in(alloc, tree.flags_members(t), json)?)),
+        Kind::Flags(t) => Ok(Value::Flags(t, bits_in(tree, t, json)?)),
         Kind::Object(t) => {
             null_in(json)?;
             Ok(Value::Object(t, None))
@@ -126,7 +125,7 @@ fn enum_number_in(tree: &TypeTree, t: TypeId, json: &serde_json::Value) -> Resul
     ensures { result ≡ enum_number (members_of tree.now t) (as_str (view json.now)) (whole_number (view json.now)) }
 {
     if let Some(word) = json.as_str() {
-        return enum_called(tree.enum_members(t), word).ok_or(JsonFault::UnknownMember);
+        return tree.number_called(t, word).ok_or(JsonFault::UnknownMember);
     }
     let number = number_in(json, i128::from(i32::MIN), i128::from(i32::MAX))?;
     if tree.has_number(t, number) {
@@ -137,15 +136,12 @@ fn enum_number_in(tree: &TypeTree, t: TypeId, json: &serde_json::Value) -> Resul
 }
 
 // Bits that are named, or any number of 32 bits that is given itself.
-fn bits_in(
-    alloc: Global,
-    members: &[FlagsMember],
-    json: &serde_json::Value,
-) -> Result<u32, JsonFault>
-    ensures { result ≡ flags_bits (map flags_member members.now) (as_str (view json.now)) (whole_number (view json.now)) }
+fn bits_in(tree: &TypeTree, t: TypeId, json: &serde_json::Value) -> Result<u32, JsonFault>
+    requires { sort_of tree.now t ≡ flags }
+    ensures { result ≡ flags_bits (members_of tree.now t) (as_str (view json.now)) (whole_number (view json.now)) }
 {
     if let Some(text) = json.as_str() {
-        return bits_named(alloc, members, text).ok_or(JsonFault::UnknownMember);
+        return bits_named(tree, t, text).ok_or(JsonFault::UnknownMember);
     }
     let number = number_in(json, 0, i128::from(u32::MAX))?;
     Ok(number as u32)

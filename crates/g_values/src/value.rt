@@ -46,6 +46,10 @@ pub fn kind_of(value: &Value) -> Kind
 
 impl Value {
     /// The same value once more. A text is shared, not copied: the error comes only where a text has 2^64 - 1 sharers.
+    ///
+    /// # Errors
+    ///
+    /// `AllocError` if memory is refused.
     pub fn copied(&self) -> Result<Value, AllocError>
         ensures value { IfOk result (λ v. value_view v ≡ value_view self.now) }
         ensures kind { IfOk result (λ v. value_kind v ≡ value_kind self.now) }

@@ -54,6 +54,10 @@ fn signed_text(alloc: Global, number: i64) -> Result<RcStr, AllocError>
 }
 
 /// A number of 64 bits, with or without a sign, in decimal.
+///
+/// # Errors
+///
+/// `AllocError` if memory is refused.
 pub fn number_text(alloc: Global, number: i128) -> Result<RcStr, AllocError>
     requires low { neg_ℤ (pos 9223372036854775808) ≤ℤ number }
     requires high { number <ℤ pos 18446744073709551616 }

@@ -32,7 +32,7 @@ from_end f [] (suc n) behind = refl
 from_end f (x ∷ xs) zero behind = absurd (omega (arith, behind))
 from_end f (x ∷ xs) (suc n) behind = from_end f xs n (omega (arith, behind))
 
--- the same of a list of numbers
+-- the rest of a list of numbers begins with the number there
 pub from_number : (xs : List ℕ) (n : ℕ) → n < length xs → drop n xs ≡ slice_index_or xs n 0 ∷ drop (n + 1) xs
 from_number [] n within = absurd (omega (arith, within))
 from_number (y ∷ ys) zero within = refl

@@ -24,7 +24,7 @@ pub enum BlockPart {
     Next,
 }
 
-// All but the last.
+// All entries but the last.
 fn before_last(starts: &[u32]) -> &[u32]
     ensures { result.now ≡ take (length starts.now - 1) starts.now }
 {
@@ -34,7 +34,7 @@ fn before_last(starts: &[u32]) -> &[u32]
     &starts[..starts.len() - 1]
 }
 
-// The last alone.
+// The last entry alone, if there is one.
 fn only_last(starts: &[u32]) -> &[u32]
     ensures { result.now ≡ drop (length starts.now - 1) starts.now }
 {
@@ -44,7 +44,7 @@ fn only_last(starts: &[u32]) -> &[u32]
     &starts[starts.len() - 1..]
 }
 
-// A block with its last instruction.
+// Adds the node of a block, with its last instruction.
 fn add_whole(
     nodes: &mut Nodes,
     sketch: &Sketch,
@@ -64,7 +64,7 @@ fn add_whole(
     Ok(())
 }
 
-// What a block passes again and again.
+// Adds the node of the instructions that a block passes again and again.
 fn add_passes(
     nodes: &mut Nodes,
     sketch: &Sketch,
@@ -88,7 +88,7 @@ fn add_passes(
     Ok(())
 }
 
-// The blocks after a block, where the program has so many.
+// Adds the node of the blocks after a block of a program that has `count` blocks.
 fn add_next(
     nodes: &mut Nodes,
     sketch: &Sketch,
@@ -115,7 +115,7 @@ fn add_next(
     Ok(())
 }
 
-// A part of a block, where the program has so many.
+// Adds the node of a part of a block of a program that has `count` blocks.
 fn add_part(
     nodes: &mut Nodes,
     sketch: &Sketch,
@@ -137,7 +137,7 @@ fn add_part(
     }
 }
 
-// A part of each block of a program.
+// Adds the node of this part of each block of a program.
 fn add_parts(
     nodes: &mut Nodes,
     sketch: &Sketch,
@@ -164,11 +164,12 @@ fn add_parts(
     Ok(())
 }
 
-/// A part of each block of each program.
+/// Adds the node of this part of each block of each program.
 ///
 /// # Errors
 ///
-/// `AllocError` where no memory is found.
+/// `AllocError` where no memory is found, no node can have the number of one that an edge leads to, or the passes of
+/// a block take 2^64 instructions or more.
 pub fn add_block_parts(
     nodes: &mut Nodes,
     sketch: &Sketch,

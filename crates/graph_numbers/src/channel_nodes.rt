@@ -28,14 +28,14 @@ pub enum ChannelPart {
     Connected,
 }
 
-// 1 where an emission begins.
+// 1 where an emission begins, else 0.
 fn one_if(emits: bool) -> u64
     ensures { result ≡ one_if emits }
 {
     if emits { 1 } else { 0 }
 }
 
-// A transfer between the ends of a pair.
+// 1 for the transfer between the ends of a pair, 0 where there is no pair.
 fn transfer_if(other: Option<u32>) -> u64
     ensures { result ≡ transfer_if other }
 {
@@ -45,7 +45,7 @@ fn transfer_if(other: Option<u32>) -> u64
     }
 }
 
-// A frame for each emission.
+// How many frames there are: one for each emission.
 fn frames_of(emits: bool, other: Option<u32>) -> u64
     ensures { result ≡ frames_of emits other }
 {
@@ -55,7 +55,7 @@ fn frames_of(emits: bool, other: Option<u32>) -> u64
     }
 }
 
-// The other end's emission, if there is one.
+// Adds an edge to the other end's emission, if there is one.
 fn link_other(
     nodes: &mut Nodes,
     sketch: &Sketch,
@@ -74,7 +74,7 @@ fn link_other(
     }
 }
 
-// A channel's own emission, and that of the other end.
+// Adds edges to a channel's own emission and to that of the other end.
 fn link_ends(
     nodes: &mut Nodes,
     sketch: &Sketch,
@@ -91,7 +91,7 @@ fn link_ends(
     Ok(())
 }
 
-// Both, at the first end of a pair.
+// Adds edges to both emissions if the channel is the first end of a pair, else none.
 fn link_ends_if(
     nodes: &mut Nodes,
     sketch: &Sketch,
@@ -110,7 +110,7 @@ fn link_ends_if(
     Ok(())
 }
 
-// The channel as it is raised. The end of a pair that is not the first has nothing of its own.
+// Adds the node of a channel as it is raised. The end of a pair that is not the first has no edges of its own.
 fn add_whole(
     nodes: &mut Nodes,
     sketch: &Sketch,
@@ -132,7 +132,7 @@ fn add_whole(
     Ok(())
 }
 
-// A channel's emission, or its construction.
+// Adds the node of a channel's emission or construction.
 fn add_own(
     nodes: &mut Nodes,
     sketch: &Sketch,
@@ -152,7 +152,7 @@ fn add_own(
     Ok(())
 }
 
-// A class handler's program, if there is one.
+// Adds an edge to a class handler's program, if there is one.
 fn link_handler(
     nodes: &mut Nodes,
     sketch: &Sketch,
@@ -169,7 +169,7 @@ fn link_handler(
     }
 }
 
-// A channel's class handler, at all stages.
+// Adds the node of a channel's class handler, at all stages.
 fn add_stages(
     nodes: &mut Nodes,
     sketch: &Sketch,
@@ -187,7 +187,7 @@ fn add_stages(
     Ok(())
 }
 
-// The handlers that bytecode may connect at a channel, so many of the costliest.
+// Adds the node of the handlers that bytecode may connect at a channel: it counts the costliest of them `handlers` times.
 fn add_connected(
     nodes: &mut Nodes,
     sketch: &Sketch,
@@ -206,7 +206,7 @@ fn add_connected(
     Ok(())
 }
 
-// A part of a channel.
+// Adds the node of a part of a channel.
 fn add_part(
     nodes: &mut Nodes,
     sketch: &Sketch,
@@ -227,11 +227,11 @@ fn add_part(
     }
 }
 
-/// A part of each channel.
+/// Adds the node of this part of each channel.
 ///
 /// # Errors
 ///
-/// `AllocError` where no memory is found.
+/// `AllocError` where no memory is found, or no node can have the number of one that an edge leads to.
 pub fn add_channel_parts(
     nodes: &mut Nodes,
     sketch: &Sketch,

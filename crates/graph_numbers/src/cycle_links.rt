@@ -44,7 +44,8 @@ fn part_of(layout: &Layout, node: usize) -> NodePart
     NodePart::Other
 }
 
-// What leads on from a link, where one more node of the path is for this: a channel begins the next one.
+// The link that the next node of a path leads to: a channel begins a new one, and the last one is added to `links`; a program becomes what
+// leads on from the last one; any other node changes nothing.
 fn next_link(
     links: &mut Vec<SketchedLink>,
     last: SketchedLink,
@@ -107,7 +108,7 @@ pub fn rest_of(alloc: Global, cycle: &[usize], first: usize) -> Result<Vec<usize
     Ok(nodes)
 }
 
-/// Where the first channel of a cycle of nodes is.
+/// The place in a cycle of nodes of the first one that is a channel's, if there is one.
 pub fn first_channel(layout: &Layout, cycle: &[usize]) -> Option<usize>
     ensures found { IfSome result (λ i. (i < length cycle.now) × (slice_index_or cycle.now i 0 < layout.now.channels)) }
     ensures none { IfNone result ((i : ℕ) → i < length cycle.now → layout.now.channels ≤ slice_index_or cycle.now i 0) }

@@ -39,7 +39,7 @@ impl Model for Layout {
     } };
 }
 
-// How many blocks come before those of each program; at the end stands how many there are.
+// How many blocks come before those of each program, and at the end how many there are.
 fn befores_of(alloc: Global, programs: &[Vec<SketchedBlock>]) -> Result<Befores, AllocError>
     ensures { IfOk result (λ b. (b.befores.items ≡ befores_from 0 (map (λ v. map block_view v.items) programs.now))
         × (b.blocks ≡ block_count (map (λ v. map block_view v.items) programs.now))) }
@@ -68,7 +68,7 @@ impl Layout {
     ///
     /// # Errors
     ///
-    /// `AllocError` where no memory is found.
+    /// `AllocError` where no memory is found, or there are more blocks than a `usize` can count.
     pub fn new(alloc: Global, sketch: &Sketch) -> Result<Layout, AllocError>
         ensures { IfOk result (λ layout. layout ≡ counts_of (sketch_view sketch.now)) }
     {

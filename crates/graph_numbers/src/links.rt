@@ -24,7 +24,11 @@ fn first_of(sketch: &Sketch, channel: u32) -> usize
     }
 }
 
-/// An edge, where it leads to what is there.
+/// Adds an edge to this node from the node that was added last, if what it leads to is there.
+///
+/// # Errors
+///
+/// `AllocError` where no memory is found, or no node can have that number.
 pub fn link_if(nodes: &mut Nodes, is_there: bool, to: u128) -> Result<(), AllocError>
     requires { 0 < length nodes.old.graph }
     ensures { OnOk result (nodes.new ≡ linked nodes.old (cond is_there (to ∷ []) [])) }
@@ -35,7 +39,11 @@ pub fn link_if(nodes: &mut Nodes, is_there: bool, to: u128) -> Result<(), AllocE
     Ok(())
 }
 
-/// The programs that are there.
+/// Adds edges to the nodes of these programs, leaving out those that are not there.
+///
+/// # Errors
+///
+/// `AllocError` where no memory is found, or no node can have the number of one of those.
 pub fn link_programs(
     nodes: &mut Nodes,
     sketch: &Sketch,
@@ -56,7 +64,11 @@ pub fn link_programs(
     Ok(())
 }
 
-/// The nodes of channels.
+/// Adds edges to the nodes of these channels. A channel of a pair has the node of the pair's first end.
+///
+/// # Errors
+///
+/// `AllocError` where no memory is found, or no node can have the number of one of those.
 pub fn link_channels(
     nodes: &mut Nodes,
     sketch: &Sketch,
@@ -74,7 +86,11 @@ pub fn link_channels(
     Ok(())
 }
 
-/// The groups that are there.
+/// Adds edges to the nodes of these groups, leaving out those that are not there.
+///
+/// # Errors
+///
+/// `AllocError` where no memory is found, or no node can have the number of one of those.
 pub fn link_groups(
     nodes: &mut Nodes,
     sketch: &Sketch,
@@ -95,7 +111,11 @@ pub fn link_groups(
     Ok(())
 }
 
-/// The places that are there.
+/// Adds edges to the nodes of these places, leaving out those that are not there.
+///
+/// # Errors
+///
+/// `AllocError` where no memory is found, or no node can have the number of one of those.
 pub fn link_places(
     nodes: &mut Nodes,
     sketch: &Sketch,
@@ -116,7 +136,11 @@ pub fn link_places(
     Ok(())
 }
 
-/// The starts that are there.
+/// Adds edges to the nodes of these starts, leaving out those that are not there.
+///
+/// # Errors
+///
+/// `AllocError` where no memory is found, or no node can have the number of one of those.
 pub fn link_starts(
     nodes: &mut Nodes,
     sketch: &Sketch,
@@ -137,7 +161,11 @@ pub fn link_starts(
     Ok(())
 }
 
-/// As many blocks of a program.
+/// Adds edges to the nodes of the first `count` blocks of a program.
+///
+/// # Errors
+///
+/// `AllocError` where no memory is found, or no node can have the number of one of those.
 pub fn link_blocks(
     nodes: &mut Nodes,
     sketch: &Sketch,
@@ -157,7 +185,7 @@ pub fn link_blocks(
     Ok(())
 }
 
-// A block that comes after one, or the next one.
+// The block `to` if it comes after the block `after`, else the block next after that.
 fn later(after: usize, to: usize) -> usize
     requires { after < usize.MAX }
     ensures { result ≡ suc after + (to - suc after) }
@@ -165,7 +193,12 @@ fn later(after: usize, to: usize) -> usize
     to.max(after + 1)
 }
 
-/// Those of some blocks of a program that come after one, where it has so many.
+/// Adds edges to the nodes of these blocks of a program that has `count` of them. For one that does not come after the block `after`, the
+/// edge leads to the block next after that. A block past the last has no edge.
+///
+/// # Errors
+///
+/// `AllocError` where no memory is found, or no node can have the number of one of those.
 pub fn link_next(
     nodes: &mut Nodes,
     sketch: &Sketch,

@@ -25,7 +25,7 @@ impl Model for Nodes {
     ghost view = { λ n. record { graph = n.dependencies; costs = n.costs.items; depths = n.depths.items; counts = n.counts.items } };
 }
 
-/// The sum of what a node depends on, so many times, with more on top.
+/// The rule that adds what a node depends on, takes the sum `times` times, and puts `more` on top.
 pub(crate) fn sum_of(times: u32, more: u64) -> Rule
     ensures { result ≡ record { adds = true; times = times; more = more } }
 {
@@ -36,7 +36,7 @@ pub(crate) fn sum_of(times: u32, more: u64) -> Rule
     }
 }
 
-/// The greatest of what a node depends on, so many times, with more on top.
+/// The rule that takes the greatest of what a node depends on `times` times, and puts `more` on top.
 pub(crate) fn greatest_of(times: u32, more: u64) -> Rule
     ensures { result ≡ record { adds = false; times = times; more = more } }
 {

@@ -24,7 +24,7 @@ pub enum ProgramPart {
     Blocks,
 }
 
-// A group of programs.
+// Adds the node of a group of programs.
 fn add_group(
     nodes: &mut Nodes,
     sketch: &Sketch,
@@ -42,7 +42,7 @@ fn add_group(
     Ok(())
 }
 
-// A program, from its first block on.
+// Adds the node of a program, from its first block on.
 fn add_program(
     nodes: &mut Nodes,
     sketch: &Sketch,
@@ -61,7 +61,7 @@ fn add_program(
     Ok(())
 }
 
-// All blocks of a program.
+// Adds the node of all blocks of a program.
 fn add_blocks(
     nodes: &mut Nodes,
     sketch: &Sketch,
@@ -77,7 +77,7 @@ fn add_blocks(
     Ok(())
 }
 
-// A part of a program.
+// Adds the node of a part of a program.
 fn add_program_part(
     nodes: &mut Nodes,
     sketch: &Sketch,
@@ -95,7 +95,7 @@ fn add_program_part(
     }
 }
 
-// The paired properties of a place.
+// Adds the node of a place's paired properties.
 fn add_place(
     nodes: &mut Nodes,
     sketch: &Sketch,
@@ -113,7 +113,7 @@ fn add_place(
     Ok(())
 }
 
-// How the cost of a start comes of what it leads to.
+// How the cost of a start results from what it leads to.
 fn start_cost(start: &SketchedStart) -> Rule
     ensures { result ≡ start_cost (start_view start.now) }
 {
@@ -125,7 +125,7 @@ fn start_cost(start: &SketchedStart) -> Rule
     }
 }
 
-// And its depth.
+// How the depth of a start results from what it leads to.
 fn start_depth(start: &SketchedStart) -> Rule
     ensures { result ≡ start_depth (start_view start.now) }
 {
@@ -137,7 +137,7 @@ fn start_depth(start: &SketchedStart) -> Rule
     }
 }
 
-// What a start leads to.
+// Adds edges to what a start leads to.
 fn link_start(
     nodes: &mut Nodes,
     sketch: &Sketch,
@@ -161,7 +161,7 @@ fn link_start(
     }
 }
 
-// A start.
+// Adds the node of a start.
 fn add_start(
     nodes: &mut Nodes,
     sketch: &Sketch,
@@ -179,7 +179,11 @@ fn add_start(
     Ok(())
 }
 
-/// All groups.
+/// Adds the nodes of all groups.
+///
+/// # Errors
+///
+/// `AllocError` where no memory is found, or no node can have the number of one that an edge leads to.
 pub fn add_groups(nodes: &mut Nodes, sketch: &Sketch, layout: &Layout) -> Result<(), AllocError>
     requires counted { layout.now ≡ counts_of (sketch_view sketch.now) }
     ensures { OnOk result (nodes.new ≡ with_nodes nodes.old (group_nodes (sketch_view sketch.now))) }
@@ -191,7 +195,11 @@ pub fn add_groups(nodes: &mut Nodes, sketch: &Sketch, layout: &Layout) -> Result
     Ok(())
 }
 
-/// A part of each program.
+/// Adds the node of this part of each program.
+///
+/// # Errors
+///
+/// `AllocError` where no memory is found, or no node can have the number of one that an edge leads to.
 pub fn add_programs(
     nodes: &mut Nodes,
     sketch: &Sketch,
@@ -215,7 +223,11 @@ pub fn add_programs(
     Ok(())
 }
 
-/// All places.
+/// Adds the nodes of all places.
+///
+/// # Errors
+///
+/// `AllocError` where no memory is found, or no node can have the number of one that an edge leads to.
 pub fn add_places(nodes: &mut Nodes, sketch: &Sketch, layout: &Layout) -> Result<(), AllocError>
     requires counted { layout.now ≡ counts_of (sketch_view sketch.now) }
     ensures { OnOk result (nodes.new ≡ with_nodes nodes.old (place_nodes (sketch_view sketch.now))) }
@@ -227,7 +239,11 @@ pub fn add_places(nodes: &mut Nodes, sketch: &Sketch, layout: &Layout) -> Result
     Ok(())
 }
 
-/// All starts.
+/// Adds the nodes of all starts.
+///
+/// # Errors
+///
+/// `AllocError` where no memory is found, or no node can have the number of one that an edge leads to.
 pub fn add_starts(nodes: &mut Nodes, sketch: &Sketch, layout: &Layout) -> Result<(), AllocError>
     requires counted { layout.now ≡ counts_of (sketch_view sketch.now) }
     ensures { OnOk result (nodes.new ≡ with_nodes nodes.old (start_nodes (sketch_view sketch.now))) }

@@ -21,7 +21,7 @@ use dependency_order::{Sorted, sort};
 use graph_sketches::Sketch;
 use std::alloc::{AllocError, Global};
 
-// The nodes of channels.
+// Adds the nodes of channels.
 fn add_channels(
     nodes: &mut Nodes,
     sketch: &Sketch,
@@ -38,7 +38,7 @@ fn add_channels(
     Ok(())
 }
 
-// The nodes of groups, programs, places and starts.
+// Adds the nodes of groups, programs, places and starts.
 fn add_others(nodes: &mut Nodes, sketch: &Sketch, layout: &Layout) -> Result<(), AllocError>
     requires counted { layout.now ≡ counts_of (sketch_view sketch.now) }
     ensures { OnOk result (nodes.new ≡ with_nodes nodes.old (all_of_programs (sketch_view sketch.now))) }
@@ -51,7 +51,7 @@ fn add_others(nodes: &mut Nodes, sketch: &Sketch, layout: &Layout) -> Result<(),
     Ok(())
 }
 
-// The nodes of blocks.
+// Adds the nodes of blocks.
 fn add_blocks(nodes: &mut Nodes, sketch: &Sketch, layout: &Layout) -> Result<(), AllocError>
     requires counted { layout.now ≡ counts_of (sketch_view sketch.now) }
     ensures { OnOk result (nodes.new ≡ with_nodes nodes.old (all_of_blocks (sketch_view sketch.now))) }
@@ -62,7 +62,7 @@ fn add_blocks(nodes: &mut Nodes, sketch: &Sketch, layout: &Layout) -> Result<(),
     Ok(())
 }
 
-// All nodes of a sketch, where so many handlers may be connected by bytecode.
+// All nodes of a sketch, where bytecode may connect `handlers` handlers.
 fn nodes_of(
     alloc: Global,
     sketch: &Sketch,
@@ -79,7 +79,7 @@ fn nodes_of(
     Ok(nodes)
 }
 
-// The most of a cost: one above the greatest bound.
+// Where costs are capped: one above the greatest bound.
 const MOST_COST: u64 = 1_000_000_000_001;
 
 // More than any depth.
@@ -99,7 +99,7 @@ pub struct NodeNumbers {
     pub ranks: Vec<u64>,
 }
 
-// The numbers of nodes in their order.
+// The costs, depths and ranks of nodes, reckoned in this order.
 fn numbers_of(alloc: Global, nodes: &Nodes, order: &[usize]) -> Result<NodeNumbers, AllocError>
     requires costs { length nodes.now.costs ≡ length nodes.now.graph }
     requires depths { length nodes.now.depths ≡ length nodes.now.graph }
@@ -129,7 +129,7 @@ fn numbers_of(alloc: Global, nodes: &Nodes, order: &[usize]) -> Result<NodeNumbe
     })
 }
 
-/// What is reckoned of a graph.
+/// What is reckoned of a graph: numbers, or a cycle.
 #[derive(Debug, Drop)]
 pub enum Reckoned {
     Numbers(NodeNumbers),
@@ -137,7 +137,7 @@ pub enum Reckoned {
     Cycle(Vec<SketchedLink>),
 }
 
-// The numbers of a graph without a cycle, if there are fewer nodes than this.
+// The numbers of a graph without a cycle; an error where it has `MOST_NODES` nodes or more.
 fn reckon_order(alloc: Global, nodes: &Nodes, order: &[usize]) -> Result<NodeNumbers, AllocError>
     requires costs { length nodes.now.costs ≡ length nodes.now.graph }
     requires depths { length nodes.now.depths ≡ length nodes.now.graph }
@@ -151,7 +151,7 @@ fn reckon_order(alloc: Global, nodes: &Nodes, order: &[usize]) -> Result<NodeNum
     numbers_of(alloc, nodes, order)
 }
 
-// The cycle from the node of a channel on.
+// The links of a cycle of nodes, from the first node of a channel on.
 fn reckon_cycle(
     alloc: Global,
     layout: &Layout,
@@ -168,7 +168,7 @@ fn reckon_cycle(
     Ok(links)
 }
 
-/// The numbers of the nodes of a sketch, where so many handlers may be connected by bytecode; or a cycle of its channels.
+/// The numbers of the nodes of a sketch, where bytecode may connect `handlers` handlers; or a cycle of its channels.
 ///
 /// # Errors
 ///

@@ -1,4 +1,4 @@
--- How JSON stands for programs.
+-- How JSON denotes programs.
 pub use Rattle.bytecode.specs.Reading.Views
 pub use Rattle.bytecode.specs.Reading.Each
 pub use Rattle.bytecode.specs.Reading.KindWords

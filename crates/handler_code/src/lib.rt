@@ -1,6 +1,6 @@
 //! Programs read from JSON, with all that programs are and how they run: `bytecode` and `frames` are given out as well.
 //!
-//! A JSON value stands for a program of the machine, or is refused: a contract says which.
+//! A JSON value denotes a program of the machine, or is refused: a contract says which.
 #![tactic(auto)]
 
 mod reading;

@@ -1,6 +1,6 @@
 //! Reading programs from JSON.
 //!
-//! A program's value says three things. Its outline is what stands beside the instructions: the name, the kinds of parameters and of registers,
+//! A program's value says three things. Its outline is what is beside the instructions: the name, the kinds of parameters and of registers,
 //! the count of registers, the kind of the result. Each instruction is an array, a word with its operands. And the blocks have a shape: which
 //! leads where, and how much there is of each thing.
 

@@ -15,8 +15,10 @@ use Rattle.ui_machine.specs.declared.ids.ObjectId.{ObjectId}
 use Rattle.instance_tables.specs.Store.{Store, ids_of, with_objects}
 use Rattle.instance_tables.specs.Family.{parent_in, KeepsKin}
 use Rattle.instance_tables.specs.View.{Lookup, object_in, count_in, objects_of, counts_of, held_in, store_of, InRange, IsLowestUnheld, KinInRange}
+use Rattle.instance_tables.specs.Names.{forgotten_in, NamersKnow}
 use Rattle.instance_tables.specs.Weak.{Marks, Knows, has_weak, masked, forgotten_value, forgetting}
 use Rattle.instance_tables.specs.declared.instance.Instance.{Instance}
+use Rattle.instance_tables.specs.declared.namers.Namers.{Namers}
 use Rattle.instance_tables.proofs.Lowest.{lowest_same}
 
 -- each object changed, and each count as it was
@@ -33,9 +35,6 @@ all_changed at new made limit floats old change is objects counts =
     mapped f (suc n) = ap (λ os. change (f 0) ∷ os) (mapped (λ i. f (suc i)) n)
 
 -- one instance that forgets
-abbrev pub forgotten_in : Marks → ℕ → Instance → Instance
-forgotten_in weak id x = record { object = forgetting weak id x.object; mentions = x.mentions }
-
 pub one_object : (weak : Marks) (id : ℕ) (x : Option Instance)
     → object_in (option_map (forgotten_in weak id) x) ≡ option_map (forgetting weak id) (object_in x)
 one_object weak id None = refl
@@ -65,11 +64,12 @@ parent_kept g keeps None = refl
 parent_kept g keeps (Some x) = (keeps x).parent
 
 -- a change of each instance that keeps its count and its kin
-pub still_known : (at new : Lookup) (made : ℕ) (low : Option ℕ) (g : Instance → Instance)
+pub still_known : (at new : Lookup) (made : ℕ) (low : Option ℕ) (names now : Namers) (g : Instance → Instance)
     → ((x : Instance) → (g x).mentions ≡ x.mentions) → ((x : Instance) → KeepsKin x.object (g x).object)
-    → ((q : ℕ) → new q ≡ option_map g (at q)) → InRange at made × IsLowestUnheld (held_in at) low × KinInRange at made
-    → InRange new made × IsLowestUnheld (held_in new) low × KinInRange new made
-still_known at new made low g same keeps is well = (
+    → ((q : ℕ) → new q ≡ option_map g (at q)) → NamersKnow now new
+    → InRange at made × IsLowestUnheld (held_in at) low × KinInRange at made × NamersKnow names at
+    → InRange new made × IsLowestUnheld (held_in new) low × KinInRange new made × NamersKnow now new
+still_known at new made low names now g same keeps is known well = (
   λ id some. well.0 id (sym (ap is_some (is id) ∙ was_there g (at id)) ∙ some),
   lowest_same (held_in at) (held_in new) low
       (λ q. ap (option_map (λ (x : Instance). x.mentions)) (is q) ∙ held_so g same (at q)) well.1,
@@ -82,6 +82,7 @@ still_known at new made low g same keeps is well = (
         well.2.1 id parent
         (sym (ap (λ (o : Option Instance). parent_in (object_in o)) (is id) ∙ parent_kept g keeps (at id)) ∙ e),
   ),
+  known,
 )
 
 -- ** in the machine's words

@@ -1,5 +1,5 @@
--- What a change of one instance keeps of all: that each was given, which is the lowest that nothing holds, and that children and
--- parents were given.
+-- What a change of one instance keeps of all: that each was given, which is the lowest that nothing holds, that children and parents
+-- were given, and that it is known who names whom.
 use Rattle.std.proofs.Common.{◌≡◌, ◌≢◌, ℕ, ◌<◌, ◌≤◌, List, [], ◌∷◌, ◌++◌, length, cond, nat_eq, refl, Bool, true, false, Option, None, Some, is_some, IsSome, inl, inr, sym, ap, subst, ◌∙◌, arith}
 use Rattle.std.proofs.lemmas.Bool.{cases_eq}
 use Rattle.std.proofs.lemmas.Bool.Decides.{nat_tests}
@@ -14,17 +14,20 @@ use Rattle.ui_machine.specs.Rules.Children.{with_child, with_parent, without_chi
 use Rattle.ui_machine.specs.Rules.Disposal.{children_of}
 use Rattle.instance_tables.specs.Family.{parent_in, KeepsKin}
 use Rattle.ui_machine.specs.declared.ids.ObjectId.{ObjectId}
+use Rattle.instance_tables.specs.Names.{names_any, MayName, NamersKnow, StaysBeside}
 use Rattle.instance_tables.specs.Store.{Store}
 use Rattle.instance_tables.specs.View.{Lookup, held_in, lower_of, object_in, store_of, InRange, IsHeldOrGone, IsLowestUnheld, KinInRange, Replaces}
 use Rattle.instance_tables.specs.declared.instance.Instance.{Instance}
+use Rattle.instance_tables.specs.declared.namers.Namers.{Namers}
 use Rattle.instance_tables.proofs.Exact.{one_more, split}
 use Rattle.instance_tables.proofs.Lowest.{lowest_kept, lowest_let_go, lowest_same}
 use Rattle.instance_tables.proofs.Maps.{written}
+use Rattle.instance_tables.proofs.Naming.{known_gone, known_replaced, known_same}
 use Rattle.instance_tables.proofs.Shown.{found_in, given_out}
 
 -- what holds of all instances
-abbrev pub Well : Lookup → ℕ → Option ℕ → Type 0
-Well at made low = InRange at made × IsLowestUnheld (held_in at) low × KinInRange at made
+abbrev pub Well : Lookup → ℕ → Option ℕ → Namers → Type 0
+Well at made low names = InRange at made × IsLowestUnheld (held_in at) low × KinInRange at made × NamersKnow names at
 
 -- the children and the parent of one object were given
 abbrev pub KinGiven : ℕ → Option Object → Type 0
@@ -112,24 +115,40 @@ kin_kept at made id was o kin here keeps = (
 same_kin : (o p : Object) → p ≡ o → KeepsKin o p
 same_kin o p e = record { children = ap (λ (x : Object). x.children) e; parent = ap (λ (x : Object). x.parent) e }
 
-module _ (m n : BTreeMap ℕ Instance) (made : ℕ) (low : Option ℕ) (id : ℕ) (was y : Instance) (here : get nat_cmp m id ≡ Some was)
-    (h : WritesThrough nat_cmp (nat_cmp id) m y n) (well : Well (get nat_cmp m) made low) where
-  replaced_well : (t : Option ℕ) → KinGiven made (Some y.object) → IsLowestUnheld (held_in (get nat_cmp n)) t → Well (get nat_cmp n) made t
-  replaced_well t given noted =
+module _ (m n : BTreeMap ℕ Instance) (made : ℕ) (low : Option ℕ) (names : Namers) (id : ℕ) (was y : Instance)
+    (here : get nat_cmp m id ≡ Some was) (h : WritesThrough nat_cmp (nat_cmp id) m y n) (well : Well (get nat_cmp m) made low names) where
+  replaced_well : (t : Option ℕ) (now : Namers) → KinGiven made (Some y.object) → IsLowestUnheld (held_in (get nat_cmp n)) t
+      → NamersKnow now (get nat_cmp n) → Well (get nat_cmp n) made t now
+  replaced_well t now given noted known =
       let replaces = written m n id was y here h in (
         still_range (get nat_cmp m) (get nat_cmp n) made id was y here replaces well.0,
         noted,
         still_kin (get nat_cmp m) (get nat_cmp n) made id was y here replaces well.2 given,
+        known,
       )
 
+  -- an object with other values and other kin, as often held, where what it names is known
+  pub named_well : (now : Namers) → KinGiven made (Some y.object) → y.mentions ≡ was.mentions → StaysBeside id names now
+      → ((t : ℕ) → names_any t y.object.values ≡ true → MayName now t id) → Well (get nat_cmp n) made low now
+  named_well now given same beside own =
+      let replaces = written m n id was y here h in
+      replaced_well low now given (still_lowest (get nat_cmp m) (get nat_cmp n) made id was y here replaces low well.1 same)
+      (known_replaced (get nat_cmp m) (get nat_cmp n) id names now well.3 beside y replaces own)
+
+  -- an object that keeps its values
+  same_known : y.object.values ≡ was.object.values → NamersKnow names (get nat_cmp n)
+  same_known = known_same (get nat_cmp m) (get nat_cmp n) id names was y well.3 here (written m n id was y here h)
+
   -- an object with other kin, as often held
-  pub kin_well : KinGiven made (Some y.object) → y.mentions ≡ was.mentions → Well (get nat_cmp n) made low
-  kin_well given same =
-      replaced_well low given
-      (still_lowest (get nat_cmp m) (get nat_cmp n) made id was y here (written m n id was y here h) low well.1 same)
+  pub kin_well : KinGiven made (Some y.object) → y.mentions ≡ was.mentions → y.object.values ≡ was.object.values
+      → Well (get nat_cmp n) made low names
+  kin_well given same still =
+      replaced_well low names given
+      (still_lowest (get nat_cmp m) (get nat_cmp n) made id was y here (written m n id was y here h) low well.1 same) (same_known still)
 
   -- another object with the same kin, as often held
-  pub same_well : KeepsKin was.object y.object → y.mentions ≡ was.mentions → Well (get nat_cmp n) made low
+  pub same_well : KeepsKin was.object y.object → y.mentions ≡ was.mentions → y.object.values ≡ was.object.values
+      → Well (get nat_cmp n) made low names
   same_well keeps = kin_well (kin_kept (get nat_cmp m) made id was y.object well.2 here keeps)
 
   same_object : y.object ≡ was.object → KinGiven made (Some y.object)
@@ -139,24 +158,26 @@ module _ (m n : BTreeMap ℕ Instance) (made : ℕ) (low : Option ℕ) (id : ℕ
   pub held_well : (t : Option ℕ) → y.object ≡ was.object → 0 < y.mentions
       → ((held : ℕ → Option ℕ) → IsLowestUnheld held low → IsHeldOrGone held (held_in (get nat_cmp n)) id
       → IsLowestUnheld (held_in (get nat_cmp n)) t)
-      → Well (get nat_cmp n) made t
+      → Well (get nat_cmp n) made t names
   held_well t same more found =
       let replaces = written m n id was y here h in
-      replaced_well t (same_object same)
+      replaced_well t names (same_object same)
       (found (held_in (get nat_cmp m)) well.1 (record {
         gone = more_held (get nat_cmp m) (get nat_cmp n) made id was y here replaces more;
         others = held_others (get nat_cmp m) (get nat_cmp n) made id was y here replaces;
       }))
+      (same_known (ap (λ (o : Object). o.values) same))
 
   -- the same object, held less often
   pub less_well : (t : Option ℕ) → y.object ≡ was.object → y.mentions ≤ was.mentions → (0 < y.mentions → t ≡ low)
-      → (y.mentions ≡ 0 → t ≡ Some (lower_of low id)) → Well (get nat_cmp n) made t
+      → (y.mentions ≡ 0 → t ≡ Some (lower_of low id)) → Well (get nat_cmp n) made t names
   less_well t same less held unheld =
-      replaced_well t (same_object same)
+      replaced_well t names (same_object same)
       (less_lowest (get nat_cmp m) (get nat_cmp n) made id was y here (written m n id was y here h) low t well.1 less held unheld)
+      (same_known (ap (λ (o : Object). o.values) same))
 
 -- one that is taken out
-module _ (at new : Lookup) (made : ℕ) (low : Option ℕ) (id : ℕ) (replaces : Replaces at new id None) (well : Well at made low) where
+module _ (at new : Lookup) (made : ℕ) (low : Option ℕ) (names : Namers) (id : ℕ) (replaces : Replaces at new id None) (well : Well at made low names) where
   none_there : (q : ℕ) → q ≡ id → object_in (new q) ≡ None
   none_there q is = ap object_in (ap new is ∙ replaces.changed)
 
@@ -184,10 +205,10 @@ module _ (at new : Lookup) (made : ℕ) (low : Option ℕ) (id : ℕ) (replaces 
         ],
   )
 
-  pub gone_well : (t : Option ℕ)
+  pub gone_well : (t : Option ℕ) (now : Namers)
       → ((held : ℕ → Option ℕ) → IsLowestUnheld held low → IsHeldOrGone held (held_in new) id → IsLowestUnheld (held_in new) t)
-      → Well new made t
-  gone_well t found = (
+      → StaysBeside id names now → Well new made t now
+  gone_well t now found beside = (
     gone_range,
     found (held_in at) well.1 (record {
       gone = λ e.
@@ -196,11 +217,12 @@ module _ (at new : Lookup) (made : ℕ) (low : Option ℕ) (id : ℕ) (replaces 
       others = λ q ne. ap (option_map (λ (x : Instance). x.mentions)) (replaces.others q ne);
     }),
     gone_kin,
+    known_gone at new id names now well.3 beside replaces,
   )
 
 -- ** other kin
 
--- whoever stands in a list that is one longer stands in it or is the new one
+-- whoever is in a list that is one longer is in it or is the new one
 given_more : (made new : ℕ) (is : List ℕ) → ((i : ℕ) → 0 < total (same i) is → i ≤ made) → new ≤ made → (i : ℕ)
     → 0 < total (same i) (is ++ new ∷ []) → i ≤ made
 given_more made new is given small i some = by (nat_eq new i) refl

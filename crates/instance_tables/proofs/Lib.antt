@@ -16,6 +16,9 @@ pub mod Found
 pub mod Kin
 pub mod Values
 pub mod Created
+pub mod Born
 pub mod Released
 pub mod Disposed
 pub mod Few
+pub mod Names
+pub mod Naming

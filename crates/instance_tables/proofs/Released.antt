@@ -39,7 +39,7 @@ strong_more o bs vs i d small = let next : i + 1 ≡ suc i = omega arith in ap (
 itself : (n : ℕ) → same n n ≡ 1
 itself n = let yes : nat_eq n n ≡ true = grind (arith, nat_tests) in ap (λ b. cond b 1 0) yes
 
--- what stands in a list is among its identities
+-- what is in a list is among its identities
 pub stands : (ids : List ObjectId) (i : ℕ) (d : ObjectId) → i < length ids → 0 < total (same (get_or ids i d).0) (ids_of ids)
 stands [] i d small = absurd (omega (arith, small))
 stands (x ∷ ids) zero d small = omega (arith, itself x.0)

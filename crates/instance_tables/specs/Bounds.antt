@@ -3,7 +3,7 @@ use Rattle.std.specs.Prelude.{◌<◌, ◌^◌, ℕ, List, [], ◌∷◌, length
 use Rattle.ui_machine.specs.State.Objects.{Object}
 use Rattle.instance_tables.specs.declared.instance.Instance.{Instance}
 
--- its values and its children stand in lists of fewer than 2^63 items
+-- its values and its children are kept in lists of fewer than 2^63 items
 abbrev pub HoldsFew : Object → Type 0
 HoldsFew o = (length o.values < 2 ^ 63) × (length o.children < 2 ^ 63)
 

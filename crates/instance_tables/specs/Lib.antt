@@ -5,3 +5,4 @@ pub mod Release
 pub mod Laws
 pub mod View
 pub mod Bounds
+pub mod Names

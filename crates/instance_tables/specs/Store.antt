@@ -101,6 +101,22 @@ Creates (Ok id) o old new = (has_room 0 old ≡ true) × (id.0 ≡ suc (length o
 Creates (Err ObjectLimit) o old new = (has_room 0 old ≡ false) × (new ≡ old)
 Creates (Err OutOfMemory) o old new = (has_room 0 old ≡ true) × (new ≡ old)
 
+-- the store where an object floats too, and is held once more
+abbrev pub with_floating : ℕ → Store → Store
+with_floating id s = with_count (record s { floating = s.floating ++ id ∷ [] }) id (count_of s.counts id + 1)
+
+-- the same of an object that is held once
+abbrev pub CreatesHeld : Result ObjectId CreateError → Object → Store → Store → Type 0
+CreatesHeld (Ok id) o old new = (has_room 0 old ≡ true) × (id.0 ≡ suc (length old.objects)) × (new ≡ with_count (with_object o old) id.0 (count_of (with_object o old).counts id.0 + 1))
+CreatesHeld (Err ObjectLimit) o old new = (has_room 0 old ≡ false) × (new ≡ old)
+CreatesHeld (Err OutOfMemory) o old new = (has_room 0 old ≡ true) × (new ≡ old)
+
+-- the same of an object that floats
+abbrev pub CreatesFloating : Result ObjectId CreateError → Object → Store → Store → Type 0
+CreatesFloating (Ok id) o old new = (has_room 0 old ≡ true) × (id.0 ≡ suc (length old.objects)) × (new ≡ with_floating id.0 (with_object o old))
+CreatesFloating (Err ObjectLimit) o old new = (has_room 0 old ≡ false) × (new ≡ old)
+CreatesFloating (Err OutOfMemory) o old new = (has_room 0 old ≡ true) × (new ≡ old)
+
 -- ** answers
 
 -- what code answers that changes nothing and asks for no memory

@@ -1,6 +1,6 @@
 //! Parents and children, and what floats.
 
-ghost use Rattle.std.specs.Prelude.{◌≡◌, ℕ, is_some, ◌+◌, ◌-◌, ◌*◌, ◌^◌, ◌<◌, ◌≤◌, ◌++◌, ◌∷◌, [], IsSome, Some, None, length, nat_eq, slice_get, OnOk, OnErr};
+ghost use Rattle.std.specs.Prelude.{◌≡◌, ℕ, is_some, ◌+◌, ◌-◌, ◌*◌, ◌^◌, ◌<◌, ◌≤◌, ◌++◌, ◌∷◌, [], IfOk, IsSome, Some, None, length, nat_eq, slice_get, OnOk, OnErr};
 ghost use Rattle.std.specs.List.{list_any};
 ghost use Rattle.ui_machine.specs.Seq.{total};
 ghost use Rattle.ui_machine.specs.State.Config.{without};
@@ -8,17 +8,23 @@ ghost use Rattle.ui_machine.specs.State.Objects.{living};
 ghost use Rattle.ui_machine.specs.State.References.{same};
 ghost use Rattle.ui_machine.specs.Rules.Children.{updated, with_child, with_parent, without_child};
 ghost use Rattle.ui_machine.specs.Rules.Disposal.{children_of};
-ghost use Rattle.instance_tables.specs.Store.{id_of, count_of, with_count, with_objects, so_often};
+ghost use Rattle.instance_tables.specs.Store.{CreatesFloating, CreatesHeld, id_of, ids_of, count_of, with_count, with_objects, so_often};
 ghost use Rattle.instance_tables.specs.Family.{refusal_in, parent_in, Adopts, Leaves, Sinks};
 
-use crate::error::AdoptError;
+use crate::error::{AdoptError, CreateError};
 use crate::ids::{is_among, remove_id};
+use crate::object::Object;
 use crate::table::Table;
 use std::alloc::AllocError;
+use std::mem;
 use ui_machine::ObjectId;
 
 impl Table {
     /// An object becomes another's child: the parent holds it, and it no longer floats. An error leaves all as it was.
+    ///
+    /// # Errors
+    ///
+    /// `NotLiving`, `HasParent` or `ChildLimit` by what is wrong, then `OutOfMemory`. The table is as it was.
     pub fn adopt(&mut self, parent: ObjectId, child: ObjectId) -> Result<(), AdoptError>
         requires room { count_of self.old.counts child.0 < 2 ^ 128 - 1 }
         ensures { Adopts result parent.0 child.0 self.old self.new }
@@ -164,7 +170,56 @@ impl Table {
         self.floating.first().copied()
     }
 
+    /// One more object, as `create` makes one, which floats from the beginning: that holds it once.
+    ///
+    /// # Errors
+    ///
+    /// `ObjectLimit` where there is no room, then `OutOfMemory`. The table is as it was.
+    pub fn create_floating(&mut self, object: Object) -> Result<ObjectId, CreateError>
+        requires childless { object.children ≡ [] }
+        requires parentless { object.parent ≡ None }
+        ensures { CreatesFloating result object self.old self.new }
+    {
+        let mut floating = mem::replace(&mut self.floating, Vec::new(self.alloc));
+        let made = self.create_listed(object, &mut floating);
+        self.floating = floating;
+        made
+    }
+
+    // One more object, which is held once by the list that it is put on.
+    fn create_listed(
+        &mut self,
+        object: Object,
+        list: &mut Vec<ObjectId>,
+    ) -> Result<ObjectId, CreateError>
+        requires childless { object.children ≡ [] }
+        requires parentless { object.parent ≡ None }
+        ensures creates { CreatesHeld result object self.old self.new }
+        ensures listed { IfOk result (λ id. ids_of list.new.items ≡ ids_of list.old.items ++ id.0 ∷ []) }
+        ensures unlisted { OnErr result (list.new.items ≡ list.old.items) }
+    {
+        if !self.has_room(0) {
+            return Err(CreateError::ObjectLimit);
+        }
+        let Ok(()) = list.reserve(1) else {
+            return Err(CreateError::OutOfMemory);
+        };
+        // For the proof: what does not live is not held.
+        let _unheld = self.next_unheld();
+        let id = self.create(object)?;
+        // There is room.
+        let Ok(()) = list.push(id) else {
+            unreachable!()
+        };
+        self.hold(id);
+        Ok(id)
+    }
+
     /// An object begins floating, and is held so once more. An error leaves all as it was.
+    ///
+    /// # Errors
+    ///
+    /// `AllocError` if memory is refused. Nothing has changed then.
     pub fn float(&mut self, id: ObjectId) -> Result<(), AllocError>
         requires live { IsSome (living self.old.objects id.0) }
         requires room { count_of self.old.counts id.0 < 2 ^ 128 - 1 }

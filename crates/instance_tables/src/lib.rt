@@ -1,18 +1,21 @@
 //! The objects that live, and how often each is mentioned.
 //!
-//! Each object has an identity, which rises from 1 and is given once. Beside it stands how often something holds it (GObject
+//! Each object has an identity, which rises from 1 and is given once. Beside it is how often something holds it (GObject
 //! manual, `g_object_ref`); what nothing holds any more is to be finalised, the lowest identity first. An object that is disposed
-//! lets go of what it held and lives on; one that is finalised is disposed and taken out. A contract sees the machine's objects, a
-//! list of counts, how many objects may live, and what floats. The laws say that counts which are exact stay so.
+//! lets go of what it held and lives on; one that is finalised is disposed and taken out. Weak properties that name it become null: an
+//! index of who names whom finds them. A contract sees the machine's objects, a list of counts, how many objects may live, and what
+//! floats. The laws say that counts which are exact stay so.
 #![tactic(auto)]
 
 mod bounds;
 mod error;
 mod family;
+mod forgetting;
 mod ids;
 mod instance;
 mod laws;
 mod mentions;
+mod namers;
 mod object;
 mod object_values;
 mod release;

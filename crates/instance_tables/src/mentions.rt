@@ -19,6 +19,10 @@ use ui_machine::{Arm, ObjectId, Slot};
 impl Table {
     /// Writes a property, and answers what it was. Where the property is strong, the old value's object is let go, and the new
     /// one's is held, if it lives and may be held once more. An error leaves all as it was.
+    ///
+    /// # Errors
+    ///
+    /// The arm by which the machine is stuck here, if it is.
     pub fn write(
         &mut self,
         weak: &WeakSlots,
@@ -41,8 +45,35 @@ impl Table {
     {
         let was = named(self.read(id, slot)?);
         let is_strong = self.is_strong(weak, id, slot);
-        self.move_mention(is_strong, was, named(&value));
-        self.replace(id, slot, value)
+        let to = named(&value);
+        self.limit_namers(weak, to);
+        self.move_mention(is_strong, was, to);
+        let old = self.replace(id, slot, value);
+        self.remove_namer(id, was);
+        old
+    }
+
+    // Where no property is weak nothing is ever forgotten, so who names whom is not kept once a value names an object.
+    fn limit_namers(&mut self, weak: &WeakSlots, to: Option<ObjectId>)
+        ensures { self.new ≡ self.old }
+    {
+        if weak.has_weak() || to.is_none() {
+            return;
+        }
+        self.namers.give_up();
+    }
+
+    // If an object no longer names the other, this is noted.
+    fn remove_namer(&mut self, id: ObjectId, was: Option<ObjectId>)
+        ensures { self.new ≡ self.old }
+    {
+        let Some(was) = was else {
+            return;
+        };
+        let Some(instance) = self.instances.get(&id.0) else {
+            return;
+        };
+        self.namers.remove_unnamed(&instance.object, was, id);
     }
 
     // Whether a slot of an object is strong.

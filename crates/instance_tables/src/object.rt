@@ -11,11 +11,12 @@ ghost use Rattle.g_values.specs.View.{value_view};
 ghost use Rattle.instance_tables.specs.Weak.{forgetting};
 ghost use Rattle.instance_tables.specs.Bounds.{HoldsFew};
 ghost use Rattle.instance_tables.specs.Family.{KeepsKin};
+ghost use Rattle.instance_tables.specs.Names.{names_any};
 ghost use Rattle.instance_tables.specs.Release.{emptied, name_in};
 ghost use Rattle.instance_tables.specs.Store.{id_of, ids_of, made_object, Shows};
 
 use crate::ids::remove_id;
-use crate::object_values::{drop_values, forget_values, named};
+use crate::object_values::{drop_values, forget_values, is_named, named};
 use crate::weak::WeakSlots;
 use g_values::Value;
 use notify_queue::NotifyQueue;
@@ -131,7 +132,7 @@ impl Object {
         self.children.len() >= MOST_CHILDREN
     }
 
-    // What it has stands in lists, which are never longer than memory.
+    // What it has is kept in lists, which are never longer than memory.
     pub(crate) fn holds_few(&self)
         ensures { HoldsFew self.now }
     {
@@ -179,6 +180,20 @@ impl Object {
         named(self.values.get(slot)?)
     }
 
+    // How many values it has.
+    pub(crate) fn slot_count(&self) -> usize
+        ensures { result ≡ length self.now.values }
+    {
+        self.values.len()
+    }
+
+    // Whether some value names the other object.
+    pub(crate) fn names(&self, id: ObjectId) -> bool
+        ensures { result ≡ names_any id.0 self.now.values }
+    {
+        is_named(&self.values, id)
+    }
+
     // Its strong values of an object kind become null, it has no children any more, and it is disposed. It answers what its
     // children were.
     pub(crate) fn dispose(&mut self, alloc: Global, weak: &WeakSlots) -> Vec<ObjectId>
@@ -191,6 +206,10 @@ impl Object {
     }
 
     /// The value of a property.
+    ///
+    /// # Errors
+    ///
+    /// The arm by which the machine is stuck here, if it is.
     pub fn read(&self, slot: Slot) -> Result<&Value, Arm>
         ensures { Shows (λ v. value_view v.now) result (value_at slot self.now) }
     {
@@ -198,6 +217,10 @@ impl Object {
     }
 
     /// Writes a property, and answers what it was.
+    ///
+    /// # Errors
+    ///
+    /// The arm by which the machine is stuck here, if it is. Nothing has changed then.
     #[tactic(auto, unfolding(ui_machine::specs::State::Objects::with_value))]
     pub fn write(&mut self, slot: Slot, value: Value) -> Result<Value, Arm>
         ensures changes { Gives value_view result (with_value slot (value_view value) self.old) self.new }
@@ -220,6 +243,10 @@ impl Object {
     }
 
     /// Adds one freeze, unless there are as many as may be.
+    ///
+    /// # Errors
+    ///
+    /// The arm by which the machine is stuck here, if it is. Nothing has changed then.
     pub fn freeze(&mut self) -> Result<(), Arm>
         ensures changes { Gives (λ _. tt) result (frozen_more self.old) self.new }
         ensures kin { KeepsKin self.old self.new }
@@ -233,6 +260,10 @@ impl Object {
     }
 
     /// Takes one freeze off, and answers the notifications that are then made, the last first.
+    ///
+    /// # Errors
+    ///
+    /// The arm by which the machine is stuck here, if it is. Nothing has changed then.
     pub fn thaw(&mut self, alloc: Global) -> Result<Vec<Slot>, Arm>
         ensures changes { Gives (λ slots. reverse slots.items) result (frozen_less self.old) self.new }
         ensures kin { KeepsKin self.old self.new }
@@ -248,6 +279,10 @@ impl Object {
     }
 
     /// Queues a notification while frozen, and else answers that it is to be made at once.
+    ///
+    /// # Errors
+    ///
+    /// `Halt::OutOfMemory` if memory is refused, and `Halt::Stuck` where the machine is stuck here. Nothing has changed then.
     pub fn add(&mut self, slot: Slot) -> Result<bool, Halt>
         ensures changes { Follows (λ now. now) result (raised slot self.old) self.new }
         ensures kin { KeepsKin self.old self.new }

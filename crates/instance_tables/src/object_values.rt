@@ -4,6 +4,7 @@ ghost use Rattle.std.specs.Prelude.{◌≡◌, true, false, None, map};
 ghost use Rattle.ui_machine.specs.Definition.Values as values;
 ghost use Rattle.ui_machine.specs.Rules.Disposal.{names_object, is_object};
 ghost use Rattle.g_values.specs.View.{value_view};
+ghost use Rattle.instance_tables.specs.Names.{names_any};
 ghost use Rattle.instance_tables.specs.Store.{id_of, named_by};
 ghost use Rattle.instance_tables.specs.Weak.{masked, forgotten_value, dropped_value};
 
@@ -28,6 +29,18 @@ fn names(value: &Value, id: ObjectId) -> bool
         Value::Object(_, Some(named)) => named.0 == id.0,
         _ => false,
     }
+}
+
+/// Whether one of these values names the object.
+pub(crate) fn is_named(values: &[Value], id: ObjectId) -> bool
+    ensures { result ≡ names_any id.0 (map value_view values.now) }
+{
+    'values: for value in values {
+        if names(value, id) {
+            return true;
+        }
+    }
+    false
 }
 
 // An object value becomes null.

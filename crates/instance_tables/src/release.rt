@@ -11,26 +11,28 @@ ghost use Rattle.instance_tables.specs.Store.{count_of, id_of, ids_of, with_obje
 ghost use Rattle.instance_tables.specs.Weak.{Knows};
 ghost use Rattle.instance_tables.specs.Release.{emptied, in_strong, marks_in, name_at, values_in, Disposes, Finalises};
 
+use crate::forgetting::forget_everywhere;
 use crate::table::Table;
 use crate::unheld::lowest_beside;
 use crate::weak::WeakSlots;
 use ui_machine::ObjectId;
 
 impl Table {
-    /// Each weak property that names the object becomes null. Where no property is weak it looks through none.
+    /// Each weak property that names the object becomes null. Where no property is weak it looks through none, and else only through the
+    /// objects that name it, unless memory ran out for who they are.
     pub fn forget(&mut self, weak: &WeakSlots, id: ObjectId)
         ensures { (d : machine.Definition) → Knows d weak.now → self.new ≡ with_objects self.old (all_forget d id.0 self.old.objects) }
     {
         if !weak.has_weak() {
             return;
         }
-        self.instances
-            .retain(|_id, instance| instance.forget(weak, id));
+        let last = self.made;
+        forget_everywhere(&mut self.instances, &mut self.namers, weak, id, last);
     }
 
     /// Disposes an object, again if it was. Each weak property that names it becomes null, and so do its own strong properties of
-    /// an object kind. It has no children any more, and they have no parent. What it held is held so much less. It takes no
-    /// memory, and the object still lives.
+    /// an object kind. It has no children any more, and they have no parent. What it held is held so much less. It never fails for
+    /// want of memory, and the object still lives.
     pub fn dispose(&mut self, weak: &WeakSlots, id: ObjectId)
         requires live { IsSome (living self.old.objects id.0) }
         ensures disposes { (d : machine.Definition) → Knows d weak.now → Disposes d id.0 self.old self.new }
@@ -94,7 +96,7 @@ impl Table {
         let Some(instance) = self.instances.get_mut(&id.0) else {
             return Vec::new(alloc);
         };
-        instance.object.dispose(alloc, weak)
+        self.namers.dispose(&mut instance.object, alloc, weak, id)
     }
 
     // These have no parent any more, and each is held once less.
@@ -112,7 +114,7 @@ impl Table {
     }
 
     /// Finalises an object that nothing holds: it is disposed, again if it was, and taken out. Its identity is not given again. It
-    /// takes no memory.
+    /// never fails for want of memory.
     pub fn finalise(&mut self, weak: &WeakSlots, id: ObjectId)
         requires live { IsSome (living self.old.objects id.0) }
         requires unheld { count_of self.old.counts id.0 ≡ 0 }
@@ -129,7 +131,8 @@ impl Table {
         requires unheld { count_of self.old.counts id.0 ≡ 0 }
         ensures { self.new ≡ with_objects self.old (put self.old.objects id.0 None) }
     {
-        self.instances.remove(&id.0);
+        let gone = self.instances.remove(&id.0);
         self.unheld = lowest_beside(&self.instances, self.unheld, id);
+        self.namers.remove_gone(gone, id);
     }
 }

@@ -14,7 +14,9 @@ ghost use Rattle.instance_tables.specs.Store.{Shows, count_of, freezes_in, id_of
 
 use crate::error::CreateError;
 use crate::instance::Instance;
+use crate::namers::Namers;
 use crate::object::Object;
+use crate::object_values::named;
 use crate::unheld::{lower, lowest_beside, lowest_with};
 use g_values::Value;
 use std::alloc::Global;
@@ -27,11 +29,13 @@ use ui_machine::{Arm, Halt, ObjectId, Place, Slot};
 #[derive(Drop)]
 pub struct Table {
     pub(crate) instances: BTreeMap<u64, Instance>,
-    made: u64,
+    pub(crate) made: u64,
     limit: u32,
     pub(crate) floating: Vec<ObjectId>,
     // The lowest one that nothing holds.
     pub(crate) unheld: Option<ObjectId>,
+    // Who names whom.
+    pub(crate) namers: Namers,
     pub(crate) alloc: Global,
 }
 
@@ -44,12 +48,14 @@ impl Model for Table {
     ghost use Rattle.std.specs.BTreeMap.{get};
     ghost use Rattle.instance_tables.specs.Store.{id_of};
     ghost use Rattle.instance_tables.specs.View.{store_of, held_in, InRange, IsLowestUnheld, KinInRange};
+    ghost use Rattle.instance_tables.specs.Names.{NamersKnow};
 
     ghost view = { λ t. store_of (get nat_cmp t.instances) t.made t.limit t.floating.items };
 
     ghost invariant = { λ t. InRange (get nat_cmp t.instances) t.made
         × IsLowestUnheld (held_in (get nat_cmp t.instances)) (id_of t.unheld)
-        × KinInRange (get nat_cmp t.instances) t.made };
+        × KinInRange (get nat_cmp t.instances) t.made
+        × NamersKnow t.namers (get nat_cmp t.instances) };
 }
 
 impl Table {
@@ -63,6 +69,7 @@ impl Table {
             limit,
             floating: Vec::new(alloc),
             unheld: None,
+            namers: Namers::new(alloc),
             alloc,
         }
     }
@@ -88,6 +95,10 @@ impl Table {
     }
 
     /// One more object, which nothing holds yet, under the next identity. It has neither children nor a parent.
+    ///
+    /// # Errors
+    ///
+    /// `ObjectLimit` where there is no room, then `OutOfMemory`. The table is as it was.
     pub fn create(&mut self, object: Object) -> Result<ObjectId, CreateError>
         requires childless { object.children ≡ [] }
         requires parentless { object.parent ≡ None }
@@ -99,6 +110,7 @@ impl Table {
         let Some(id) = self.made.checked_add(1) else {
             return Err(CreateError::ObjectLimit);
         };
+        self.namers.add_names(&object, ObjectId(id));
         let instance = Instance {
             object,
             mentions: 0,
@@ -120,6 +132,10 @@ impl Table {
     }
 
     /// The class of an object.
+    ///
+    /// # Errors
+    ///
+    /// The arm by which the machine is stuck here, if it is.
     pub fn class_of(&self, id: ObjectId) -> Result<TypeId, Arm>
         ensures { Shows (λ class. class) result (asked self.now.objects id.0 (λ o. Ok o.class)) }
     {
@@ -130,6 +146,10 @@ impl Table {
     }
 
     /// The place of an object.
+    ///
+    /// # Errors
+    ///
+    /// The arm by which the machine is stuck here, if it is.
     pub fn place_of(&self, id: ObjectId) -> Result<Place, Arm>
         ensures { Shows (λ (place : Place). place.0) result (asked self.now.objects id.0 (λ o. Ok o.place)) }
     {
@@ -160,6 +180,10 @@ impl Table {
     }
 
     /// The value of a property.
+    ///
+    /// # Errors
+    ///
+    /// The arm by which the machine is stuck here, if it is.
     pub fn read(&self, id: ObjectId, slot: Slot) -> Result<&Value, Arm>
         ensures { Shows (λ v. value_view v.now) result (asked self.now.objects id.0 (value_at slot)) }
     {
@@ -175,6 +199,7 @@ impl Table {
         ensures beside { self.new ≡ with_objects self.old self.new.objects }
         ensures refused { OnErr result (self.new ≡ self.old) }
     {
+        self.namers.add_any(named(&value), id);
         let Some(instance) = self.instances.get_mut(&id.0) else {
             return Err(Arm::Operand);
         };
@@ -192,6 +217,10 @@ impl Table {
     }
 
     /// Adds one freeze to an object.
+    ///
+    /// # Errors
+    ///
+    /// The arm by which the machine is stuck here, if it is. Nothing has changed then.
     pub fn freeze(&mut self, id: ObjectId) -> Result<(), Arm>
         ensures changes { Gives (λ _. tt) result (changed self.old.objects id.0 frozen_more) self.new.objects }
         ensures beside { self.new ≡ with_objects self.old self.new.objects }
@@ -204,6 +233,10 @@ impl Table {
     }
 
     /// Takes one freeze off an object, and answers the notifications that are then made, the last first.
+    ///
+    /// # Errors
+    ///
+    /// The arm by which the machine is stuck here, if it is. Nothing has changed then.
     pub fn thaw(&mut self, id: ObjectId) -> Result<Vec<Slot>, Arm>
         ensures changes { Gives (λ slots. reverse slots.items) result (changed self.old.objects id.0 frozen_less) self.new.objects }
         ensures beside { self.new ≡ with_objects self.old self.new.objects }
@@ -217,6 +250,10 @@ impl Table {
     }
 
     /// Queues a notification while the object is frozen, and else answers that it is to be made at once.
+    ///
+    /// # Errors
+    ///
+    /// `Halt::OutOfMemory` if memory is refused, and `Halt::Stuck` where the machine is stuck here. Nothing has changed then.
     pub fn add(&mut self, id: ObjectId, slot: Slot) -> Result<bool, Halt>
         ensures changes { Follows (λ now. now) result (changed self.old.objects id.0 (raised slot)) self.new.objects }
         ensures beside { self.new ≡ with_objects self.old self.new.objects }

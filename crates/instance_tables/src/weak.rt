@@ -40,6 +40,10 @@ impl WeakSlots {
     }
 
     /// The next class has these slots.
+    ///
+    /// # Errors
+    ///
+    /// `AllocError` if memory is refused. Nothing has changed then.
     pub fn add(&mut self, slots: Vec<bool>) -> Result<(), AllocError>
         ensures ok { OnOk result (self.new ≡ self.old ++ slots.items ∷ []) }
         ensures err { OnErr result (self.new ≡ self.old) }

@@ -1,18 +1,21 @@
 -- What a table answers of an object that lives.
-use Rattle.std.proofs.Common.{◌+◌, ◌≡◌, refl, ap, ◌∙◌, ℕ, zero, suc, ◌<◌, ◌-◌, ◌^◌, List, [], ◌∷◌, ◌++◌, true, length, nat_lt, Option, None, Some, IsSome, Ok, Err, slice_get, slice_set, arith}
+use Rattle.std.proofs.Common.{◌+◌, ◌≡◌, refl, ap, ◌∙◌, ℕ, zero, suc, ◌<◌, ◌-◌, ◌^◌, List, [], ◌∷◌, true, length, nat_lt, Option, None, Some, IsSome, Ok, Err, slice_get, slice_set, arith}
 use Rattle.std.specs.Option.{option_map}
 use Rattle.std.proofs.lemmas.Bool.Decides.{nat_tests}
 use Rattle.ui_machine.specs.declared.arm.Arm.{Arm}
 use Rattle.ui_machine.specs.declared.arm.Arm.TheVariants as arms
+use Rattle.ui_machine.specs.Definition.Properties.{Spec}
+use Rattle.ui_machine.specs.Definition.Types.{GType}
 use Rattle.ui_machine.specs.Definition.Values.{Value}
 use Rattle.ui_machine.specs.Outcome.{After, Answer, known, ◌>>=◌}
-use Rattle.ui_machine.specs.Seq.{read}
-use Rattle.ui_machine.specs.State.Objects.{Object, Objects, asked, changed, living, put, value_at, with_value}
+use Rattle.ui_machine.specs.State.Objects.{Object, Objects, asked, changed, class_in, living, put, value_at, with_value}
 use Rattle.ui_machine.specs.Rules.NotifyQueue.{frozen_less, frozen_more, less_frozen, raised}
+use Rattle.param_specs.specs.Table.{specs_of}
 use Rattle.instance_tables.specs.Release.{values_in}
-use Rattle.instance_tables.specs.Store.{Store, count_of, freezes_in, has_room, with_count, with_object}
+use Rattle.instance_tables.specs.Store.{Store, count_of, freezes_in, with_count}
 use Rattle.instance_tables.proofs.Families.{was_made}
 use Rattle.instance_tables.proofs.Moves.{count_here}
+use Rattle.instances.specs.Slotted.{AreSlotted}
 
 -- ** what is read
 
@@ -44,6 +47,18 @@ reads_there os id slot arm small is = by (living os id) small is
     by : (o : Option Object) → slot < length (values_in o) → (known arms.Operand o >>= value_at slot) ≡ Err arm → ⊥
     by None inside e = omega (arith, inside)
     by (Some o) inside e = value_there o.values slot arm inside e
+
+-- an object has the slots of its class
+pub slots_there : (types : List GType) (specs : List (List Spec)) (os : Objects) (id class : ℕ) → AreSlotted types specs os → class_in os id ≡ Some class
+    → (slot : ℕ) → slot < length (specs_of types specs class) → slot < length (values_in (living os id))
+slots_there types specs os id class are is slot small = by (living os id) refl is
+  where
+    by : (x : Option Object) → living os id ≡ x → option_map (λ (o : Object). o.class) x ≡ Some class → slot < length (values_in x)
+    by None here e = absurd (cc e)
+    by (Some o) here e =
+        let same : o.class ≡ class = cc e in
+        let full : length o.values ≡ length (specs_of types specs class) = are id o here ∙ ap (λ c. length (specs_of types specs c)) same in
+        omega (arith, full, small)
 
 -- ** what is changed
 
@@ -112,37 +127,6 @@ writes_there os id slot v arm small is = changes_there os id (with_value slot v)
     by (Some o) inside = of_one o (slice_get o.values slot) (written_there o.values slot inside)
 
 -- ** counts
-
--- what does not live yet is not held as it is made
-read_front : (xs : List ℕ) (i : ℕ) → read 0 (xs ++ 0 ∷ []) i ≡ read 0 xs i
-read_front [] zero = refl
-read_front [] (suc i) = refl
-read_front (x ∷ xs) zero = refl
-read_front (x ∷ xs) (suc i) = read_front xs i
-
-read_behind : (os : Objects) → read None os (length os) ≡ None
-read_behind [] = refl
-read_behind (o ∷ os) = read_behind os
-
-pub made_unheld : (os : Objects) (counts : List ℕ) → ((o : ℕ) → living os o ≡ None → count_of counts o ≡ 0) → count_of (counts ++ 0 ∷ []) (suc (length os)) ≡ 0
-made_unheld os counts dead = read_front counts (length os) ∙ dead (suc (length os)) (read_behind os)
-
--- a new object is there
-pub born_there : (s n : Store) (id : ℕ) (o : Object) → (has_room 0 s ≡ true) × (id ≡ suc (length s.objects)) × (n ≡ with_object o s) → living n.objects id ≡ Some o
-born_there s n id o created = rw (created.2, created.1) (by s.objects)
-  where
-    by : (os : Objects) → read None (os ++ Some o ∷ []) (length os) ≡ Some o
-    by [] = refl
-    by (x ∷ os) = by os
-
--- so it lives
-pub born_lives : (s n : Store) (id : ℕ) (o : Object) → (has_room 0 s ≡ true) × (id ≡ suc (length s.objects)) × (n ≡ with_object o s) → IsSome (living n.objects id)
-born_lives s n id o created = rw (born_there s n id o created) refl
-
--- and nothing holds it
-pub born_unheld : (s n : Store) (id : ℕ) (o : Object) → ((i : ℕ) → living s.objects i ≡ None → count_of s.counts i ≡ 0)
-    → (has_room 0 s ≡ true) × (id ≡ suc (length s.objects)) × (n ≡ with_object o s) → count_of n.counts id ≡ 0
-born_unheld s n id o dead created = rw (created.2, created.1) (made_unheld s.objects s.counts dead)
 
 -- what is held once more is held
 pub held_more : (s n : Store) (id : ℕ) → IsSome (living s.objects id) → n ≡ with_count s id (count_of s.counts id + 1) → 0 < count_of n.counts id

@@ -1,8 +1,6 @@
 -- How an object is made in a heap.
-use Rattle.std.specs.Prelude.{◌≡◌, ◌+◌, ◌++◌, ◌∷◌, ℕ, suc, length, map, true, false, Bool, List, [], Option, Result, Ok, Err}
-use Rattle.std.specs.Prelude.{◌⊎◌}
+use Rattle.std.specs.Prelude.{◌≡◌, ℕ, suc, length, map, true, false, Bool, List, Option, Result, Ok, Err}
 use Rattle.ui_machine.specs.declared.ids.ObjectId.{ObjectId}
-use Rattle.ui_machine.specs.Definition.{Definition}
 use Rattle.ui_machine.specs.Definition.Properties.{Spec}
 use Rattle.ui_machine.specs.Definition.Types.{GType}
 use Rattle.ui_machine.specs.Definition.Values.{Value}
@@ -10,9 +8,7 @@ use Rattle.ui_machine.specs.Rules.Ancestry.{is_a}
 use Rattle.ui_machine.specs.Rules.Construction.{initially_unowned}
 use Rattle.ui_machine.specs.State.Objects.{Object}
 use Rattle.param_specs.specs.Table.{specs_of}
-use Rattle.instance_tables.specs.Store.{Store, count_of, has_room, made_object, with_count, with_object}
-use Rattle.instance_tables.specs.Release.{Finalises}
-use Rattle.instance_tables.specs.Weak.{Marks, Knows}
+use Rattle.instance_tables.specs.Store.{Store, has_room, made_object, with_floating, with_object}
 use Rattle.instance_tables.specs.declared.error.CreateError.{CreateError}
 use Rattle.instance_tables.specs.declared.error.CreateError.TheVariants.{ObjectLimit, OutOfMemory}
 
@@ -28,26 +24,14 @@ born types specs place class peer = made_object class place (defaults_of types s
 abbrev pub floats_at_first : List GType → ℕ → Bool
 floats_at_first types class = is_a types class initially_unowned
 
--- the store where an object floats too, and is held once more
-abbrev pub with_floating : ℕ → Store → Store
-with_floating id s = with_count (record s { floating = s.floating ++ id ∷ [] }) id (count_of s.counts id + 1)
-
 -- the store with one object more, which floats if so
 abbrev pub with_born : Bool → Object → Store → Store
 with_born false o s = with_object o s
 with_born true o s = with_floating (suc (length s.objects)) (with_object o s)
 
--- the object was made and finalised again, so that its identity is used up
-abbrev pub UsesUp : Marks → Object → Store → Store → Type 0
-UsesUp weak o old new = (d : Definition) → Knows d weak → Finalises d (suc (length old.objects)) (with_object o old) new
-
--- where no memory was found: all is as it was, or what could not float is gone
-abbrev pub Unmade : Bool → Marks → Object → Store → Store → Type 0
-Unmade false weak o old new = new ≡ old
-Unmade true weak o old new = (new ≡ old) ⊎ UsesUp weak o old new
-
--- One object more under the next identity, or the limit exactly where there is no room. Memory is asked for only where there is room.
-abbrev pub Makes : Result ObjectId CreateError → Bool → Marks → Object → Store → Store → Type 0
-Makes (Ok id) floats weak o old new = (has_room 0 old ≡ true) × (id.0 ≡ suc (length old.objects)) × (new ≡ with_born floats o old)
-Makes (Err ObjectLimit) floats weak o old new = (has_room 0 old ≡ false) × (new ≡ old)
-Makes (Err OutOfMemory) floats weak o old new = (has_room 0 old ≡ true) × Unmade floats weak o old new
+-- One object more under the next identity, or the limit exactly where there is no room. Memory is asked for only where there is room. An error
+-- leaves all as it was.
+abbrev pub Makes : Result ObjectId CreateError → Bool → Object → Store → Store → Type 0
+Makes (Ok id) floats o old new = (has_room 0 old ≡ true) × (id.0 ≡ suc (length old.objects)) × (new ≡ with_born floats o old)
+Makes (Err ObjectLimit) floats o old new = (has_room 0 old ≡ false) × (new ≡ old)
+Makes (Err OutOfMemory) floats o old new = (has_room 0 old ≡ true) × (new ≡ old)

@@ -1,22 +1,20 @@
 //! Objects that are made.
 
-ghost use Rattle.std.specs.Prelude.{◌≡◌, ◌<◌, ℕ, [], IfOk, IsSome, IsSomeAnd, IsTrue, None, OnErr, OnOk, Some, length, slice_get};
+ghost use Rattle.std.specs.Prelude.{◌≡◌, ◌<◌, [], IfOk, IsSomeAnd, IsTrue, None, Some, length, slice_get};
 ghost use Rattle.std.specs.Option.{ForSome};
-ghost use Rattle.ui_machine.specs.Definition as machine;
 ghost use Rattle.ui_machine.specs.State.Objects.{living};
+ghost use Rattle.param_specs.specs.Table.{specs_of};
 ghost use Rattle.native_peers.specs.Pool.{entries, seen};
-ghost use Rattle.instance_tables.specs.Release.{Finalises};
-ghost use Rattle.instance_tables.specs.Store.{Creates, count_of};
-ghost use Rattle.instance_tables.specs.Weak.{Knows};
-ghost use Rattle.instances.specs.Heaps.{ChangesObjects, SameClasses, born_in, classes_of, floats_in, marks_of, objects_of, pool_of};
+ghost use Rattle.instance_tables.specs.Store.{Creates, CreatesFloating};
+ghost use Rattle.instances.specs.Heaps.{SameClasses, born_in, classes_of, floats_in, objects_of, pool_of};
 ghost use Rattle.instances.specs.Lent.{IsFree};
-ghost use Rattle.instances.specs.Making.{Makes, with_floating};
+ghost use Rattle.instances.specs.Making.{Makes};
 
 use crate::classes::Classes;
 use crate::heaps::Heap;
 use instance_tables::{CreateError, Object, Table};
 use native_peers::{Peer, PeerPool};
-use std::alloc::{AllocError, Global};
+use std::alloc::Global;
 use type_tree::TypeId;
 use ui_machine::{ObjectId, Place};
 
@@ -43,8 +41,7 @@ impl Heap<'_> {
     ///
     /// # Errors
     ///
-    /// `ObjectLimit` exactly where as many live as may, or no identity is left, then `OutOfMemory`. All is then as it was, but that the
-    /// identity of an object that could not float may be used up.
+    /// `ObjectLimit` exactly where as many live as may, or no identity is left, then `OutOfMemory`. All is then as it was.
     pub fn create(
         &mut self,
         place: Place,
@@ -53,7 +50,7 @@ impl Heap<'_> {
     ) -> Result<ObjectId, CreateError>
         requires open { ForSome peer (λ number. IsSomeAnd (slice_get (seen (λ p. (⟦<dyn Peer as Peer>⟧ p.peer.vtable).state p.peer.value) (entries (pool_of self.now))) number) (λ p. IsTrue p.state.is_open)) }
         requires free { ForSome peer (IsFree (objects_of self.now).objects) }
-        ensures makes { Makes result (floats_in self.old class) (marks_of self.old)
+        ensures makes { Makes result (floats_in self.old class)
             (born_in self.old place.0 class peer) (objects_of self.old) (objects_of self.new) }
         ensures made { IfOk result (λ id. living (objects_of self.new).objects id.0 ≡ Some (born_in self.old place.0 class peer)) }
         ensures pool { pool_of self.new ≡ pool_of self.old }
@@ -65,45 +62,44 @@ impl Heap<'_> {
         let Ok(values) = self.classes.defaults(self.alloc, class) else {
             return Err(CreateError::OutOfMemory);
         };
-        let id = self.add_object(Object::new(self.alloc, class, place, values, peer))?;
+        let object = Object::new(self.alloc, class, place, values, peer);
         if self.classes.floats_at_first(class) {
-            let Ok(()) = self.float_new(id) else {
-                return Err(CreateError::OutOfMemory);
-            };
+            self.add_floating(object)
+        } else {
+            self.add_object(object)
         }
-        Ok(id)
     }
 
-    // One more object, which nothing holds yet. Its peer, if it has one, is one of the pool and no other object's.
+    // One more object, which nothing holds yet. It has as many properties as its class. Its peer, if it has one, is one of the pool and no
+    // other object's.
     fn add_object(&mut self, object: Object) -> Result<ObjectId, CreateError>
         requires childless { object.children ≡ [] }
         requires parentless { object.parent ≡ None }
+        requires full { length object.values ≡ length (specs_of (classes_of self.now).types.now (classes_of self.now).specs.now object.class) }
         requires inside { ForSome object.peer (λ number. number < length (entries (pool_of self.now))) }
         requires free { ForSome object.peer (IsFree (objects_of self.now).objects) }
         ensures creates { Creates result object (objects_of self.old) (objects_of self.new) }
-        ensures unheld { IfOk result (λ id. count_of (objects_of self.new).counts id.0 ≡ 0) }
         ensures pool { pool_of self.new ≡ pool_of self.old }
         ensures classes { SameClasses self.old self.new }
     {
-        // For the proof: what does not live is not held.
-        let _unheld = self.table.next_unheld();
         let id = self.table.create(object)?;
         self.last_lent = self.last_lent.max(id.0);
         Ok(id)
     }
 
-    // A new object begins floating, or is gone again.
-    fn float_new(&mut self, id: ObjectId) -> Result<(), AllocError>
-        requires live { IsSome (living (objects_of self.now).objects id.0) }
-        requires unheld { count_of (objects_of self.now).counts id.0 ≡ 0 }
-        ensures ok { OnOk result (objects_of self.new ≡ with_floating id.0 (objects_of self.old)) }
-        ensures err { OnErr result ((d : machine.Definition) → Knows d (marks_of self.old) → Finalises d id.0 (objects_of self.old) (objects_of self.new)) }
-        ensures beside { ChangesObjects self.old self.new }
+    // The same of an object that floats.
+    fn add_floating(&mut self, object: Object) -> Result<ObjectId, CreateError>
+        requires childless { object.children ≡ [] }
+        requires parentless { object.parent ≡ None }
+        requires full { length object.values ≡ length (specs_of (classes_of self.now).types.now (classes_of self.now).specs.now object.class) }
+        requires inside { ForSome object.peer (λ number. number < length (entries (pool_of self.now))) }
+        requires free { ForSome object.peer (IsFree (objects_of self.now).objects) }
+        ensures creates { CreatesFloating result object (objects_of self.old) (objects_of self.new) }
+        ensures pool { pool_of self.new ≡ pool_of self.old }
+        ensures classes { SameClasses self.old self.new }
     {
-        if self.table.float(id).is_ok() {
-            return Ok(());
-        }
-        self.table.finalise(self.classes.weak, id);
-        Err(AllocError)
+        let id = self.table.create_floating(object)?;
+        self.last_lent = self.last_lent.max(id.0);
+        Ok(id)
     }
 }

@@ -3,13 +3,15 @@
 ghost use Rattle.std.specs.Prelude.{length};
 ghost use Rattle.native_peers.specs.Pool.{entries};
 ghost use Rattle.instances.specs.Lent.{AreApart, AreLent};
+ghost use Rattle.instances.specs.Slotted.{AreSlotted};
 
 use crate::classes::Classes;
 use instance_tables::Table;
 use native_peers::PeerPool;
 use std::alloc::Global;
 
-/// Objects, how often each is held, and the pool of their peers. No two objects have one peer.
+/// Objects, how often each is held, and the pool of their peers. No two objects have one peer, and each has as many properties as its
+/// class.
 #[derive(Drop)]
 pub struct Heap<'a> {
     pub(crate) classes: Classes<'a>,
@@ -20,4 +22,5 @@ pub struct Heap<'a> {
     pub(crate) alloc: Global,
     ghost lent: { AreLent last_lent (length (entries pool)) table.objects },
     ghost apart: { AreApart table.objects },
+    ghost slotted: { AreSlotted classes.types.now classes.specs.now table.objects },
 }

@@ -1,15 +1,16 @@
 //! What is read of the objects of a heap.
 
-ghost use Rattle.std.specs.Prelude.{◌≡◌, ◌<◌, ◌↔◌, ℕ, IfSome, IsSome, IsTrue, Ok, Some, is_some, nat_eq, option_map};
+ghost use Rattle.std.specs.Prelude.{◌≡◌, ◌<◌, ◌↔◌, ℕ, IfSome, IsSome, IsTrue, Ok, Some, is_some, length, nat_eq, option_map};
 ghost use Rattle.std.specs.List.{list_any};
 ghost use Rattle.ui_machine.specs.Rules.Sets.{is_disposed};
 ghost use Rattle.ui_machine.specs.State.Objects.{asked, class_in, living, value_at};
 ghost use Rattle.ui_machine.specs.State.Objects as machine;
 ghost use Rattle.ui_machine.specs.State.References.{next_unheld};
+ghost use Rattle.param_specs.specs.Table.{specs_of};
 ghost use Rattle.g_values.specs.View.{value_view};
 ghost use Rattle.instance_tables.specs.Store.{count_of, freezes_in, id_of, may_hold};
 ghost use Rattle.instances.specs.Calls.{HasSlot};
-ghost use Rattle.instances.specs.Heaps.{objects_of};
+ghost use Rattle.instances.specs.Heaps.{classes_of, objects_of};
 
 use crate::heaps::Heap;
 use g_values::Value;
@@ -40,10 +41,12 @@ impl Heap<'_> {
         self.table.next_unheld()
     }
 
-    /// The class of an object.
+    /// The class of an object. The object has the slots of its class.
     pub fn type_of(&self, id: ObjectId) -> TypeId
         requires { IsSome (living (objects_of self.now).objects id.0) }
-        ensures { class_in (objects_of self.now).objects id.0 ≡ Some result }
+        ensures class { class_in (objects_of self.now).objects id.0 ≡ Some result }
+        ensures slots { (slot : ℕ) → slot < length (specs_of (classes_of self.now).types.now (classes_of self.now).specs.now result)
+            → HasSlot (objects_of self.now) id.0 slot }
     {
         let Ok(class) = self.table.class_of(id) else {
             unreachable!()

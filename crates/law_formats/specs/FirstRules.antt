@@ -31,7 +31,7 @@ block_faults d p program block [] = []
 block_faults d p program block (b ∷ blocks) =
     broken_at program block (first_broken d p 0 b.entry b.code) ++ block_faults d p program (suc block) blocks
 
--- the same of each program
+-- the first fault of each block of each program, where the first program has this number
 abbrev pub program_faults : Definition → ℕ → List Program → List Fault
 program_faults d program [] = []
 program_faults d program (p ∷ programs) = block_faults d p program 0 p.blocks ++ program_faults d (suc program) programs

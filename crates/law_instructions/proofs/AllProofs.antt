@@ -77,7 +77,7 @@ instructions_are_fine (words.return from) = anyway (returns_are_fine from)
 
 -- ** programs
 
--- what stands within a list
+-- there is an entry at each number within a list
 there : {A : Type 0} (xs : List A) (i : ℕ) → i < length xs → (x : A) × (slice_get xs i ≡ Some x)
 there [] i low = absurd (omega (arith, low))
 there (x ∷ xs) zero low = (x, refl)
@@ -86,7 +86,7 @@ there (x ∷ xs) (suc i) low = there xs i (omega (arith, low))
 pub programs_keep_good : ProgramsKeepGood
 programs_keep_good d well a most_counted within w f rest n g reply = go (next_unheld (mentions d (at_top w f rest n)) w.objects) refl
   where
-    -- the instruction that is taken stands within its block
+    -- the instruction that is taken lies within its block
     due : (i : Instruction) × (instruction_at d f ≡ Some i)
     due =
         let next = (turned d well a most_counted w f rest n g) in

@@ -40,7 +40,7 @@ use Rattle.law_instructions.proofs.Lists.{lists_of, lists_moved}
 use Rattle.law_instructions.proofs.Typed.{Attaches, attaching_is}
 use Rattle.law_instructions.proofs.Data.{OneKind, none, some, HasData, has_data}
 
--- what a program takes of one kind it takes of one that may stand for it
+-- what a program takes of one kind it takes of one that may take its place
 taken_too : (d : Definition) (p : Program) (k l : Option RegisterKind) → OneKind d k l → takes d p (data_kinds k) (Some kinds.bool) ≡ true → takes d p (data_kinds l) (Some kinds.bool) ≡ true
 taken_too d p _ _ none e = e
 taken_too d p _ _ (some a b stands) e =
@@ -59,7 +59,7 @@ attach_writes d w rest f to x number arg e is = rw (e, is) refl
 module _ {d : Definition} {i : Instruction} (t : Due d i) (plain : is_bracket i ≡ false) where
   open t use {a, w, f, rest, g}
 
-  -- a source that is told of
+  -- the world with a new source, and its line said
   source_moved : (x : Attach) (program : ℕ) (arg : Option ℕ) → SourceGood d (standing w.objects) (sources.new_source (suc w.last_source) w.moment program x.priority x.interval arg) →
       Moved t plain (with_source w x program arg)
   source_moved x program arg good =

@@ -1,4 +1,4 @@
--- A program connects a handler, or is told that it was too late or that there is no room.
+-- A program connects a handler, or is given the answer that it was too late or that there is no room.
 use Rattle.std.proofs.Common.{◌≡◌, refl, sym, ap, subst, ◌∙◌, ℕ, zero, suc, ◌+◌, ◌<◌, ◌≤◌, Bool, true, false, cond, List, [], ◌∷◌, ◌++◌, length, Option, None, Some, Ok, arith}
 use Rattle.std.specs.Prelude.{◌&&◌, ◌||◌, not, nat_eq, nat_lt, map, codes, is_some, option_map}
 use Rattle.std.specs.List.{filter}
@@ -109,7 +109,7 @@ connecting_is d ks to object c next e =
       kinds_are = (let f = o.1 in let s : with_kind ks to (kinds.plain kinds.bool) ≡ next = cc in sym s);
     }
 
--- ** what may stand for what
+-- ** what may take the place of what
 
 -- each kind of the second list fits what that of the first does
 pub data StandFor (d : Definition) : Kinds → Kinds → Type 0 where
@@ -153,7 +153,7 @@ takes_too d p ks ls result stands e =
 
 -- ** details
 
--- a detail that a type's signal takes may stand at the same one of a class, at `notify` as well
+-- a detail that a type's signal takes is taken by the same signal of a class, at `notify` as well
 stands_here : (d : Definition) → TypesRead d → (class own type number : ℕ) (name : List ℕ) (s : Signal) (detail : Option (List ℕ)) → class < length d.types → is_a d.types class type ≡ true →
     signal_number d type name ≡ Some number → signal_number d class name ≡ Some own → signal_of d type number ≡ Some s → takes_detail d type number s detail ≡ true →
     may_stand d class own s detail ≡ true

@@ -47,12 +47,12 @@ no_datum : (w : World) (f : Frame) → data_in w f None ≡ Ok None
 unfolding data_in
 no_datum w f = refl
 
--- the kinds of data, by the operand and by where its object stands
+-- the kinds of data, by the operand and by the place of its object
 pub data OneKind (d : Definition) : Option RegisterKind → Option RegisterKind → Type 0 where
   none : OneKind d None None
   some : (a b : RegisterKind) → ((l : RegisterKind) → fits d a l ≡ true → fits d b l ≡ true) → OneKind d (Some a) (Some b)
 
--- the data of an instruction lives, of a kind that may stand for the operand's
+-- the data of an instruction lives, of a kind that may take the place of the operand's
 pub record HasData {d : Definition} {i : Instruction} (t : Due d i) (with : Option ℕ) (k : Option RegisterKind) : Type 0 where
   pub arg : Option ℕ
   pub is : data_in t.w (past t.f) with ≡ Ok arg

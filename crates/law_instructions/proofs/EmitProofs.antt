@@ -139,7 +139,7 @@ emit_starts : (d : Definition) (w : World) (rest : List Task) (f : Frame) (objec
 unfolding emitting signal_to_emit signal_in
 emit_starts d w rest f object e id number o detail vs a b c positive stands given = rw (a, b, c, positive, stands, given) refl
 
--- a detail that the signal of a type takes may stand at the same one of a class
+-- a detail that the signal of a type takes is taken by the same signal of a class
 pub stands_too : (d : Definition) (class own type number : ℕ) (s : Signal) (detail : Option (List ℕ)) → 0 < number → 0 < own → takes_detail d type number s detail ≡ true →
     may_stand d class own s detail ≡ true
 stands_too d class own type number s None positive own_positive e = refl

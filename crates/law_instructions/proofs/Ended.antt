@@ -1,4 +1,4 @@
--- The agenda that is left where a program ends: what stood below it, of which the first task has perhaps changed or ended.
+-- The agenda that is left where a program ends: what lay below it, of which the first task has perhaps changed or ended.
 use Rattle.std.proofs.Common.{◌≡◌, refl, sym, subst, ◌∙◌, ℕ, suc, ◌+◌, ◌≤◌, Bool, true, false, cond, List, [], ◌∷◌, length, drop, arith}
 use Rattle.std.specs.Prelude.{nat_eq}
 use Rattle.ui_machine.specs.Seq.{total}

@@ -63,7 +63,7 @@ each_without P id (i ∷ ids) all = go (nat_eq i id) (each_without P id ids all.
 
 -- ** objects
 
--- what stands in the end where something stood
+-- what is in the end where an object was
 found_after : (f : Object → Object) (i j : ℕ) (os : Objects) (x : Object) → living os j ≡ Some x →
     (y : Object) × (living (put os i (option_map f (living os i))) j ≡ Some y) × (((i ≡ j) × (y ≡ f x)) ⊎ ((i ≡ j → ⊥) × (y ≡ x)))
 found_after f i j os x e = go (nat_eq i j) refl

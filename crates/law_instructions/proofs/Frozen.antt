@@ -15,7 +15,7 @@ pub total_same : {A : Type 0} (f g : A → ℕ) (xs : List A) → ((x : A) → f
 total_same f g [] same = refl
 total_same f g (x ∷ xs) same = let h = same x in let rest = total_same f g xs same in omega (arith, h, rest)
 
--- the same of the registers whose brackets are open
+-- a sum over registers is the same where what is added agrees on those of which brackets are open
 among_same : (f g : ℕ → ℕ) (xs : List ℕ) → ((x : ℕ) → is_among xs x ≡ true → f x ≡ g x) → total f xs ≡ total g xs
 among_same f g [] same = refl
 among_same f g (x ∷ xs) same =

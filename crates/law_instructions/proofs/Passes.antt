@@ -67,7 +67,7 @@ no_register (Some to) c = absurd (let e = c.1 in cc)
 
 -- ** a block that is passed again
 
--- it says so
+-- it says how often it is passed
 repeated : (o : Option ℕ) (code : List Instruction) → RepeatRead o code → 1 < said_or_once o → EndsInJump code
 repeated None code read more = absurd (omega (arith, more))
 repeated (Some n) code read more = read.2

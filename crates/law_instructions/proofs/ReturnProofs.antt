@@ -1,4 +1,4 @@
--- A program ends: what it gives is of the kind that it says, and goes to what stands below it.
+-- A program ends: what it gives is of the kind that it says, and goes to what lies below it.
 use Rattle.std.proofs.Common.{◌≡◌, inl, refl, sym, ap, subst, ◌∙◌, ℕ, suc, ◌≤◌, Bool, true, List, [], ◌∷◌, Option, None, Some, Ok, arith}
 use Rattle.std.specs.Prelude.{is_none}
 use Rattle.ui_machine.specs.Seq.{read, total}

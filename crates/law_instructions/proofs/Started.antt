@@ -1,4 +1,4 @@
--- A program starts a task, which stands in front of it: what is to be shown of the task and of the program that waits below it.
+-- A program starts a task, which comes in front of it: what is to be shown of the task and of the program that waits below it.
 use Rattle.std.proofs.Common.{◌≡◌, refl, sym, ap, subst, ◌∙◌, ℕ, suc, ◌+◌, ◌-◌, ◌<◌, ◌≤◌, Bool, true, false, cond, List, [], ◌∷◌, length, drop, Option, None, Ok, arith}
 use Rattle.std.specs.Prelude.{nat_eq}
 use Rattle.std.proofs.lemmas.Bool.{eqb-true}

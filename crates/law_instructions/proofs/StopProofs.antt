@@ -35,7 +35,7 @@ use Rattle.law_instructions.proofs.Below.{stop_leaves, each_fewer}
 use Rattle.law_instructions.specs.Running.{at_top}
 use Rattle.law_instructions.specs.Stopping.{StopsAreFine}
 
--- an emission that stands first
+-- an emission that comes first
 record Emits (tasks : List Task) : Type 0 where
   pub e : Emission
   pub turns : List PlanEntry

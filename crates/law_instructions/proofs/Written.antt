@@ -113,7 +113,7 @@ module _ {d : Definition} {i : Instruction} (t : Due d i) (plain : is_bracket i 
 
   -- ** the world is another
 
-  -- a world in which all stands where it stood, as often frozen and with the same queues
+  -- a world in which all keep their places, as often frozen and with the same queues
   pub record Moved (v : World) : Type 0 where
     pub whole : Whole d a.weighed.costs a.weighed.depths (Running f ∷ rest) v
     pub stands : standing v.objects ≡ standing w.objects

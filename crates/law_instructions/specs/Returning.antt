@@ -3,6 +3,6 @@ use Rattle.std.specs.Prelude.{ℕ, Option}
 use Rattle.ui_machine.specs.Definition.Programs as words
 use Rattle.law_instructions.specs.Running.{IsFine}
 
--- it is taken well, whatever stands below the program
+-- it is taken well, whatever lies below the program
 abbrev pub ReturnsAreFine : Type 0
 ReturnsAreFine = (from : Option ℕ) → IsFine (words.return from)

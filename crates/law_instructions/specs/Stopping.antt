@@ -2,6 +2,6 @@
 use Rattle.ui_machine.specs.Definition.Programs as words
 use Rattle.law_instructions.specs.Running.{IsFine}
 
--- it is taken well, whatever stands below the program
+-- it is taken well, whatever lies below the program
 abbrev pub StopsAreFine : Type 0
 StopsAreFine = IsFine words.stop

@@ -19,7 +19,8 @@ ghost use Rattle.law_instructions.specs.Calling.{CallsAreFine};
 ghost use Rattle.law_instructions.specs.Families.{FamiliesAreFine};
 ghost use Rattle.law_instructions.specs.Disposing.{DisposesAreFine};
 
-/// Constants, copies, arithmetic, comparisons, truth values, texts and conversions: from what is good, the step is not stuck and leads to what is good.
+/// Constants, copies, arithmetic, comparisons, truth values, texts and conversions: from what is good, the step is not stuck and leads to
+/// what is good.
 pub fn of_registers()
     ensures fine { RegistersAreFine }
 {}
@@ -40,7 +41,7 @@ pub fn disposing()
     ensures fine { DisposesAreFine }
 {}
 
-/// A program attaches a source, or is told that there is no room.
+/// A program attaches a source, or is given the answer that there is no room.
 pub fn attaching()
     ensures fine { AttachmentsAreFine }
 {}
@@ -70,7 +71,7 @@ pub fn emissions()
     ensures fine { EmitsAreFine }
 {}
 
-/// A program connects a handler, or is told that it was too late or that there is no room.
+/// A program connects a handler, or is given the answer that it was too late or that there is no room.
 pub fn connecting()
     ensures fine { ConnectsAreFine }
 {}

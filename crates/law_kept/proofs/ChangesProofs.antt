@@ -1,4 +1,4 @@
--- What a step writes into one object is like what stood there.
+-- What a step writes into one object is like what was there.
 use Rattle.std.proofs.Common.{◌≡◌, refl, sym, ap, subst, ◌∙◌, ℕ, zero, suc, Bool, true, false, cond, List, [], ◌∷◌, ◌++◌, Some, slice_get}
 use Rattle.std.specs.Prelude.{nat_eq, not, ◌||◌, slice_set}
 use Rattle.std.specs.List.{list_any}
@@ -67,7 +67,7 @@ each_queued P queue slot all here = go (list_any (λ s. nat_eq s slot) queue)
     go true = all
     go false = last queue all
 
--- each stands once, where one that is not there yet comes last
+-- each slot is in the queue once, where one that is not there yet comes last
 apart_last : (queue : List ℕ) (slot : ℕ) → list_any (λ s. nat_eq s slot) queue ≡ false → no_two nat_eq queue ≡ true → no_two nat_eq (queue ++ slot ∷ []) ≡ true
 apart_last [] slot none apart = refl
 apart_last (x ∷ xs) slot none apart =

@@ -1,4 +1,4 @@
--- A dispose: who stands afterwards, and what each object is.
+-- A dispose: who is at which place afterwards, and what each object is.
 use Rattle.std.proofs.Common.{◌≡◌, inl, inr, ◌⊎◌, refl, sym, ap, subst, ◌∙◌, ℕ, zero, suc, ◌+◌, Bool, true, false, cond, List, [], ◌∷◌, map, Option, None, Some, slice_get, arith}
 use Rattle.std.specs.Prelude.{◌&&◌, nat_eq, option_map}
 use Rattle.std.proofs.lemmas.Bool.{eqb-true, eqb-false}

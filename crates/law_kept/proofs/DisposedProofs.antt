@@ -164,7 +164,7 @@ module _ (d : Definition) (w : World) (id : ℕ) (o : Object) (is : living w.obj
               ended f.0 m (shed (specs_of d f.0.class) f.0.values) f.0.children f.0.disposed f.1 (h.1 ∙ f.2) (forgot_values f.0 (good j f.0 f.1).values)
               (inr (h.0, refl, refl)) how
 
-  -- ** who stands
+  -- ** who is still at a place
 
   stands_same : standing nos ≡ s
   stands_same = fun_ext (λ j.

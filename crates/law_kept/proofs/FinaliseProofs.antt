@@ -201,7 +201,7 @@ module _ (d : Definition) (costs depths : Tables) (most_counted most : ℕ) (c :
   agenda_free : total (in_task id) c.agenda ≡ 0
   agenda_free = let f = free in omega (arith, f)
 
-  -- who stands
+  -- who is still at a place
   gone : living v.objects id ≡ None
   gone = read_here None v0.objects n None
 

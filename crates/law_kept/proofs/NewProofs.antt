@@ -1,4 +1,4 @@
--- A new object: all that stood stands, and what was good stays.
+-- A new object: each other one keeps its place, and what was good stays good.
 use Rattle.std.proofs.Common.{◌≡◌, inl, inr, ◌⊎◌, refl, sym, ap, subst, ◌∙◌, ℕ, zero, suc, ◌<◌, ◌≤◌, Bool, true, false, cond, List, [], ◌∷◌, ◌++◌, length, map, Option, None, Some, slice_get, arith}
 use Rattle.std.specs.Prelude.{not, ◌&&◌, nat_eq, option_map}
 use Rattle.std.proofs.lemmas.Bool.{eqb-true, eqb-false}
@@ -43,7 +43,7 @@ use Rattle.law_kept.proofs.BindingsProofs.{binding_kept}
 
 -- ** one more object
 
--- what stands at the end of a list that grows
+-- what is at the end of a list that grows
 grown : {A : Type 0} (none : A) (xs : List A) (x : A) (i : ℕ) → ((i < length xs) × (read none (xs ++ x ∷ []) i ≡ read none xs i)) ⊎ (((i ≡ length xs) × (read none (xs ++ x ∷ []) i ≡ x)) ⊎ ((length xs < i) × (read none (xs ++ x ∷ []) i ≡ none)))
 grown none [] x zero = inr (inl (refl, refl))
 grown none [] x (suc i) = inr (inr (omega arith, refl))
@@ -291,7 +291,7 @@ new_objects_good d types w place p o is e free peer all id x there = go (found w
 -- ** handlers and bindings
 
 module _ (d : Definition) (s : Standing) (new : ℕ) (none : s new ≡ None) where
-  -- no handler is on what does not stand
+  -- no handler is on an identity that no object has
   apart : (h : Handler) → HandlerGood d s h → nat_eq h.object new ≡ false
   apart h g = go (nat_eq h.object new) refl
     where

@@ -1,4 +1,4 @@
--- Values, registers and emissions are good wherever what they name stands as it stood.
+-- Values, registers and emissions are good wherever what they name keeps its place.
 use Rattle.std.proofs.Common.{◌≡◌, refl, ap, ◌∙◌, ℕ, zero, suc, ◌≤◌, Bool, true, false, cond, List, [], ◌∷◌, Option, None, Some, arith}
 use Rattle.std.specs.Prelude.{◌&&◌, is_some}
 use Rattle.std.proofs.lemmas.Bool.{eq-eqb}
@@ -28,7 +28,7 @@ both a b p q = ap (λ x. x && b) p ∙ q
 pub keeps_more : (s z : Standing) (m n : ℕ → ℕ) → ((o : ℕ) → m o ≤ n o) → Keeps s z n → Keeps s z m
 keeps_more s z m n less keeps id some = keeps id (let l = less id in omega (arith, l, some))
 
--- what holds of a place that stands
+-- what holds of an identity that keeps its place
 pub stays_at : (s z : Standing) (P : Option ℕ → Bool) → P None ≡ false → (id : ℕ) → Stays s z id → P (s id) ≡ true → P (z id) ≡ true
 stays_at s z P none id stays h = go (s id) refl h
   where

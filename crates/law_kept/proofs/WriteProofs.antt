@@ -69,7 +69,7 @@ after os id o new is other x e = go (nat_eq id other) refl
     go true t = let s = eqb-true id other t in let f = subst (λ i. living (put os id (Some new)) i ≡ Some new) s (find_here os id o new is) in inl (s, (let g = sym e ∙ f in cc))
     go false t = inr (sym (find_apart os id new other (eqb-false id other t)) ∙ e)
 
--- what was found before stands there still, or is the old one
+-- what was found before is there still, or is the old one
 before : (os : Objects) (id : ℕ) (o new : Object) → living os id ≡ Some o → (other : ℕ) (x : Object) → living os other ≡ Some x →
     ((x ≡ o) × (living (put os id (Some new)) other ≡ Some new)) ⊎ (living (put os id (Some new)) other ≡ Some x)
 before os id o new is other x e = go (nat_eq id other) refl
@@ -81,7 +81,7 @@ before os id o new is other x e = go (nat_eq id other) refl
         inl ((let g = sym e ∙ f in cc), subst (λ i. living (put os id (Some new)) i ≡ Some new) s (find_here os id o new is))
     go false t = inr (find_apart os id new other (eqb-false id other t) ∙ e)
 
--- each identity stands where it stood
+-- each identity keeps its place
 stands_same : (os : Objects) (id : ℕ) (o new : Object) → living os id ≡ Some o → new.place ≡ o.place → (other : ℕ) → place_in (put os id (Some new)) other ≡ place_in os other
 stands_same os id o new is same other = go (nat_eq id other) refl
   where
@@ -136,7 +136,7 @@ module _ (d : Definition) (w : World) (id : ℕ) (o new : Object) (is : living w
   same : standing os ≡ standing w.objects
   same = fun_ext (λ i. stands_same w.objects id o new is like.place i)
 
-  -- an object that was good and stands there still
+  -- an object that was good and is there still
   other_good : (i : ℕ) (x : Object) → ObjectGood d w (standing w.objects) i x → ObjectGood d next (standing os) i x
   other_good i x g = record {
     place = g.place;

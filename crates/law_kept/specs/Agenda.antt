@@ -14,7 +14,7 @@ use Rattle.law_typing.specs.Good.ComingDown.{Down}
 use Rattle.law_typing.specs.Good.Agenda.{AgendaGood}
 use Rattle.law_typing.specs.Good.Freezes.{is_due_source}
 
--- an identity stands where it stood, if it did
+-- an identity keeps its place, if it had one
 abbrev pub Stays : Standing → Standing → ℕ → Type 0
 Stays s z id = (place : ℕ) → s id ≡ Some place → z id ≡ Some place
 
@@ -22,14 +22,14 @@ Stays s z id = (place : ℕ) → s id ≡ Some place → z id ≡ Some place
 abbrev pub Keeps : Standing → Standing → (ℕ → ℕ) → Type 0
 Keeps s z counted = (id : ℕ) → 0 < counted id → Stays s z id
 
--- how often a task needs an object to stand: as often as it holds it, and a due set needs its value as well
+-- how often a task needs an object to be there: as often as it holds it, and a due set needs its value as well
 abbrev pub needed : ℕ → Task → ℕ
 needed o (Setting object slot v) = same o object + in_value o v
 needed o task = in_task o task
 
 -- a world that serves an agenda as well as another one
 pub record Serves (d : Definition) (agenda : List Task) (v z : View) : Type 0 where
-  -- what the agenda needs and what the builder holds stands where it stood
+  -- what the agenda needs and what the builder holds keeps its place
   pub stands : Keeps v.stands z.stands (λ o. total (needed o) agenda)
   pub held : (place id : ℕ) → read unbuilt v.builder place ≡ built id → Stays v.stands z.stands id
   pub builder : z.builder ≡ v.builder
@@ -37,7 +37,7 @@ pub record Serves (d : Definition) (agenda : List Task) (v z : View) : Type 0 wh
   pub last : v.last_handler ≤ z.last_handler
   pub handlers : (number : ℕ) → number ≤ v.last_handler → (h : Handler) → handler_of number z.handlers ≡ Some h →
       (g : Handler) × (handler_of number v.handlers ≡ Some g) × (h.object ≡ g.object) × (h.signal ≡ g.signal) × (h.program ≡ g.program)
-  -- a binding that stands stood, as it was
+  -- a binding that is there was there, as it is
   pub bindings : (number : ℕ) (b : Binding) → binding_of number z.bindings ≡ Some b → binding_of number v.bindings ≡ Some b
   -- the sources are the same, or none of them is due
   pub sources : (total is_due_source agenda ≡ 0) ⊎ (z.sources ≡ v.sources)

@@ -12,7 +12,7 @@ use Rattle.law_typing.specs.Good.DueCosts.{unsets}
 use Rattle.law_typing.specs.Good.Bindings.{is_binding, BindingsGood}
 use Rattle.law_kept.specs.Agenda.{Stays}
 
--- those that are left after others ended stay good, where their ends stand as they stood
+-- those that are left after others ended stay good, where their ends keep their places
 abbrev pub BindingsLeft : Type 0
 BindingsLeft =
     (d : Definition) (s z : Standing) (agenda : List Task) (bs : List Binding) (test : Binding → Bool) →

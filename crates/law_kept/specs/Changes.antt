@@ -1,4 +1,4 @@
--- What a step writes into one object is like what stood there: a value, a notification that waits, one more freeze, one less.
+-- What a step writes into one object is like what was there: a value, a notification that waits, one more freeze, one less.
 use Rattle.std.specs.Prelude.{◌≡◌, ℕ, suc, true, Some, slice_set}
 use Rattle.ui_machine.specs.Definition.Values.{Value}
 use Rattle.ui_machine.specs.Definition.Properties.{Spec, is_readable}
@@ -25,7 +25,7 @@ QueueIsLike =
     (d : Definition) (w : World) (id slot : ℕ) (o : Object) (spec : Spec) → ObjectGood d w (standing w.objects) id o →
     spec_of d o.class slot ≡ Some spec → is_readable spec ≡ true → Like d w o (record o { queue = queued o.queue slot })
 
--- one more freeze
+-- the object is frozen once more
 abbrev pub FreezeIsLike : Type 0
 FreezeIsLike =
     (d : Definition) (w : World) (id : ℕ) (o : Object) → ObjectGood d w (standing w.objects) id o →

@@ -1,4 +1,4 @@
--- A dispose: the object lets go of what it held, and is forgotten; all that stood stands, and each object stays good.
+-- A dispose: the object lets go of what it held, and is forgotten; each object keeps its place and stays good.
 use Rattle.std.specs.Prelude.{◌≡◌, ◌⊎◌, ℕ, true, false, List, [], Ok, Option, None, Some, slice_get}
 use Rattle.ui_machine.specs.Seq.{total}
 use Rattle.ui_machine.specs.Definition.{Definition}

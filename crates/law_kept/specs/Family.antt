@@ -18,7 +18,7 @@ pub record Kin (w : World) (os : Objects) (id : ℕ) (x : Object) : Type 0 where
   pub children : Each (Lives (standing w.objects)) x.children
   pub parent : FamilyGood os id x.parent
 
--- the same objects with other families
+-- the objects are the same, with other families
 pub record FamiliesGood (w : World) (os : Objects) : Type 0 where
   pub stands : standing os ≡ standing w.objects
   pub kin : (id : ℕ) (x : Object) → living os id ≡ Some x → Kin w os id x

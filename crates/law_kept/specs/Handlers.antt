@@ -1,4 +1,4 @@
--- Handlers that are disconnected, blocked and unblocked, wherever the objects that the others name stand as they stood.
+-- Handlers that are disconnected, blocked and unblocked, wherever the objects that the others name keep their places.
 use Rattle.std.specs.Prelude.{◌≡◌, ℕ, Bool, true, List, map, Some}
 use Rattle.std.specs.List.{filter}
 use Rattle.ui_machine.specs.Definition.{Definition}
@@ -9,11 +9,11 @@ use Rattle.law_typing.specs.Good.Standing.{Standing}
 use Rattle.law_typing.specs.Good.Handlers.{HandlersGood}
 use Rattle.law_kept.specs.Agenda.{Stays}
 
--- nothing stands that did not
+-- no identity has a place that had none
 abbrev pub NoMore : Standing → Standing → Type 0
 NoMore s z = (id place : ℕ) → z id ≡ Some place → s id ≡ Some place
 
--- those that are left stay good, where what they name stands as it stood
+-- those that are left stay good, where what they name keeps its place
 abbrev pub HandlersLeft : Type 0
 HandlersLeft =
     (d : Definition) (costs depths : Tables) (s z : Standing) (agenda : List Task) (last : ℕ) (hs : List Handler) (test : Handler → Bool) →

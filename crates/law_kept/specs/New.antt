@@ -1,4 +1,4 @@
--- A new object: all that stood stands, and what was good stays.
+-- A new object: each other one keeps its place, and what was good stays good.
 use Rattle.std.specs.Prelude.{◌≡◌, ◌⊎◌, ℕ, suc, ◌≤◌, List, length, None, Some, slice_get}
 use Rattle.ui_machine.specs.Seq.{total}
 use Rattle.ui_machine.specs.Definition.{Definition}
@@ -28,7 +28,7 @@ use Rattle.law_kept.specs.Agenda.{Keeps, Stays, Serves}
 abbrev pub next_identity : World → ℕ
 next_identity w = suc (length w.objects)
 
--- who stands once an object was made: all that stood, and the new one at its place
+-- who is at which place once an object was made: all that were there, and the new one at its place
 pub record OneMoreStands (s z : Standing) (new place : ℕ) : Type 0 where
   pub stay : (id : ℕ) → Stays s z id
   pub none : s new ≡ None
@@ -41,7 +41,7 @@ NewStands =
     OneMoreStands (standing w.objects) (standing (with_object d w o).objects) (next_identity w) o.place
     × (live (with_object d w o).objects ≡ suc (live w.objects))
 
--- a valid value is valid wherever the object that it names stands as it stood
+-- a valid value is valid wherever the object that it names keeps its place
 abbrev pub ValuesStay : Type 0
 ValuesStay =
     (d : Definition) (s z : Standing) (spec : Spec) (v : Value) → Keeps s z (λ o. in_value o v) → ValueGood d s spec (Some v) →

@@ -9,7 +9,7 @@ use Rattle.law_typing.specs.Good.Standing.{Standing}
 use Rattle.law_typing.specs.Good.Bindings.{SourceGood}
 use Rattle.law_kept.specs.Agenda.{Stays}
 
--- a source stays good where its data stands as it stood
+-- a source stays good where its data keeps its place
 abbrev pub SourceStays : Type 0
 SourceStays =
     (d : Definition) (s z : Standing) (source : Source) → ((id : ℕ) → source.arg ≡ Some id → Stays s z id) → SourceGood d s source →
@@ -27,7 +27,7 @@ SourcesAnswered =
     (d : Definition) (s : Standing) (sources : List Source) (moment number : ℕ) (keep : Bool) → Each (SourceGood d s) sources →
     Each (SourceGood d s) (answered moment number keep sources)
 
--- and with one more
+-- and they are good with one more source
 abbrev pub SourcesAttached : Type 0
 SourcesAttached =
     (d : Definition) (s : Standing) (sources : List Source) (source : Source) → Each (SourceGood d s) sources → SourceGood d s source →

@@ -15,7 +15,7 @@ use Rattle.law_typing.specs.Good.Handlers.{HandlersGood}
 use Rattle.law_typing.specs.Good.Bindings.{BindingsGood, SourceGood, HeldGood}
 use Rattle.law_typing.specs.Good.Freezes.{ObjectsFirst}
 
--- the object that is written is like the one that stood there
+-- the object that is written is like the one that was there
 pub record Like (d : Definition) (w : World) (o new : Object) : Type 0 where
   pub place : new.place ≡ o.place
   pub class : new.class ≡ o.class
@@ -39,7 +39,7 @@ pub record Whole (d : Definition) (costs depths : Tables) (agenda : List Task) (
   pub floating : Each (Lives (standing w.objects)) w.floating
   pub objects_first : ObjectsFirst agenda w.bindings
 
--- they stay; as many objects live as before, each where it stood, so that the agenda reads the same
+-- they stay; as many objects live as before, each at its place, so that the agenda reads the same
 pub record Kept (d : Definition) (costs depths : Tables) (agenda : List Task) (w new : World) : Type 0 where
   pub alive : live new.objects ≡ live w.objects
   pub seen : view new ≡ view w

@@ -23,7 +23,7 @@ pub fn write()
     ensures keeps { WriteKeeps }
 {}
 
-/// The agenda stays good, within the same steps and frames, in a world where what it needs stands where it stood, the builder holds the same,
+/// The agenda stays good, within the same steps and frames, in a world where what it needs keeps its place, the builder holds the same,
 /// the handlers and bindings are some of those that were there, and peers keep their shapes.
 pub fn agenda()
     ensures served { AgendaServed }
@@ -36,8 +36,8 @@ pub fn alike()
 {}
 
 /// Handlers that are left after others are disconnected stay good, and so do those that are blocked or unblocked; a number finds among them
-/// what it found. So are they with one more that bytecode connects, where there is room and its program is connectable, and with one that the
-/// build connects, whose cost was reckoned for its item.
+/// what it found. They are good as well with one more that bytecode connects, where there is room and its program is connectable, and with
+/// one that the build connects, whose cost was reckoned for its item.
 pub fn handlers()
     ensures left { HandlersLeft }
     ensures found { LeftAreFound }
@@ -47,7 +47,7 @@ pub fn handlers()
     ensures waits { HandlersWaitLess }
 {}
 
-/// Bindings that are left after others ended stay good, and so do they where one begins to set, is set free, or is made by the build.
+/// Bindings that are left after others ended stay good, also where one begins to set, is set free, or is made by the build.
 pub fn bindings()
     ensures left { BindingsLeft }
     ensures found { LeftBindingsFound }
@@ -65,7 +65,7 @@ pub fn sources()
 {}
 
 /// An object with a valid value written, with one more notification that waits, frozen once more where it has no paired property, or once
-/// less, is like the one that stood there.
+/// less, is like the one that was there.
 pub fn changes()
     ensures value { ValueIsLike }
     ensures queue { QueueIsLike }
@@ -73,9 +73,9 @@ pub fn changes()
     ensures thaw { ThawIsLike }
 {}
 
-/// With a new object all stands that stood, and one more lives. Each agenda is served as before, the new object is good with the defaults of its
-/// class, and objects, handlers and bindings stay so. The peer that it takes was free and is its own, and the pool is as good for those that still
-/// want a peer; so all that is good of the world stays so.
+/// With a new object each other one keeps its place, and one more lives. Each agenda is served as before, the new object is good with
+/// the defaults of its class, and objects, handlers and bindings stay good. The peer that it takes was free and is its own, and the pool
+/// is as good for those that still want a peer. So all that is good of the world stays good.
 pub fn makings()
     ensures stands { NewStands }
     ensures values { ValuesStay }
@@ -88,7 +88,7 @@ pub fn makings()
     ensures whole { NewWholeGood }
 {}
 
-/// A living object is disposed without a fault. All that stood stands, each object stays good, and no weak property names the disposed one.
+/// A living object is disposed without a fault. Each object keeps its place and stays good, and no weak property names the disposed one.
 pub fn disposal()
     ensures keeps { DisposeKeeps }
 {}

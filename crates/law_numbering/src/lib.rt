@@ -10,17 +10,17 @@ pub fn costs()
     ensures solved { CostsAreSolved }
 {}
 
-/// And what solves their rules of depths is the graph's depths.
+/// Where a graph is sketched so, what solves the nodes' rules of depths is the graph's depths.
 pub fn depths()
     ensures solved { DepthsAreSolved }
 {}
 
-/// And the longest chains of nodes of channels are the graph's ranks.
+/// Where a graph is sketched so, the longest chains of nodes of channels are the graph's ranks.
 pub fn ranks()
     ensures solved { ChainsAreRanks }
 {}
 
-/// Each cycle of nodes has the node of a channel.
+/// Each cycle of nodes goes through the node of a channel.
 pub fn cycle_channels()
     ensures present { CyclesHaveChannels }
 {}

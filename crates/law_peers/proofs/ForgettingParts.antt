@@ -41,7 +41,7 @@ pub through : {A B C : Type 0} (f : A → A) (h : B → C) (a b : Answer A) (g :
 through f h a (Ok x) g k e next = ap (λ y. y >>= g) e ∙ next x
 through f h a (Err arm) g k e next = ap (λ y. y >>= g) e
 
--- the first is the same
+-- the first part is the same
 after : {A B C : Type 0} (h : B → C) (a : Answer A) (g : A → Answer C) (k : A → Answer B) →
     ((x : A) → g x ≡ mapped h (k x)) → (a >>= g) ≡ mapped h (a >>= k)
 after h (Ok x) g k next = next x

@@ -72,7 +72,7 @@ mapped_before f (Err arm) g = refl
 abbrev pub other : (List (List ℕ) → List (List ℕ)) → List Peer → World → World
 other retold peers w = record w { peers = peers; transcript = retold w.transcript }
 
--- the same of a configuration
+-- the configuration with other peers, and a transcript made of its own
 abbrev pub other_at : (List (List ℕ) → List (List ℕ)) → List Peer → Config → Config
 other_at retold peers c = record c { world = other retold peers c.world }
 

@@ -24,7 +24,7 @@ use Rattle.law_peers.specs.PeerLines.{peer_lines}
 abbrev pub with_peers : List Peer → World → World
 with_peers peers w = record w { peers = peers }
 
--- the same of a configuration
+-- the configuration with other peers
 abbrev pub with_peers_at : List Peer → Config → Config
 with_peers_at peers c = record c { world = with_peers peers c.world }
 
@@ -105,7 +105,7 @@ StepIsBlind =
     (d : Definition) (reply : Option Reply) (c : Config) (peers : List Peer) → meets_peers d c ≡ false →
     step d reply (with_peers_at peers c) ≡ mapped (with_peers_at peers) (step d reply c)
 
--- the same of a task
+-- with other peers what the first task does leads to the same with these other peers
 abbrev pub TaskIsBlind : Type 0
 TaskIsBlind =
     (d : Definition) (reply : Option Reply) (w : World) (tasks : List Task) (counted : ℕ) (peers : List Peer) →
@@ -116,7 +116,7 @@ TaskIsBlind =
 abbrev pub left_with_peers : List Peer → Left → Left
 left_with_peers peers l = record l { world = with_peers peers l.world }
 
--- the same of an instruction
+-- with other peers an instruction leaves the same with these other peers
 abbrev pub InstructionIsBlind : Type 0
 InstructionIsBlind =
     (d : Definition) (w : World) (rest : List Task) (f : Frame) (i : Instruction) (peers : List Peer) →

@@ -20,7 +20,7 @@ forgotten p = record p { state = forgotten_state p.state }
 abbrev pub forgotten_in : World → World
 forgotten_in w = record w { peers = map forgotten w.peers }
 
--- the same of a configuration
+-- the configuration with each of its world's peers so
 abbrev pub forgotten_at : Config → Config
 forgotten_at c = record c { world = forgotten_in c.world }
 

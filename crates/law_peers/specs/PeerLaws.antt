@@ -104,7 +104,7 @@ pub record LivesTo (d : Definition) (replies : List Reply) (w : World) (shown : 
   pub lines : at.transcript ≡ shown
   pub lives : PeersLive d replies w at
 
--- so do they as far as an event comes that halts
+-- peers live so as far as an event comes that halts
 abbrev pub HaltLives : Type 0
 HaltLives =
     (d : Definition) (event : Event) (replies : List Reply) (w : World) (halt : Halt) (shown : List (List ℕ)) →

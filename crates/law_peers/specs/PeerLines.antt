@@ -26,6 +26,6 @@ has_no_point (x ∷ name) = cond (nat_eq x 46) false (has_no_point name)
 abbrev pub is_peer_line : List ℕ → Bool
 is_peer_line line = is_reply_line line || begins_with (codes "close ") line
 
--- those of a transcript
+-- those lines of a transcript
 abbrev pub peer_lines : List (List ℕ) → List (List ℕ)
 peer_lines lines = filter is_peer_line lines

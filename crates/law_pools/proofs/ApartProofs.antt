@@ -1,4 +1,4 @@
--- The peers of a pool that matches are told apart by their names.
+-- The peers of a pool that matches are kept apart by their names.
 use Rattle.std.proofs.Common.{◌≡◌, ◌<◌, refl, sym, ap, ◌∙◌, ℕ, zero, suc, Bool, true, false, cond, List, [], ◌∷◌, ◌++◌, length, map, None, Some, arith}
 use Rattle.std.specs.Prelude.{◌&&◌, ◌||◌, not}
 use Rattle.std.specs.List.{filter, flat_map, list_all, list_any}

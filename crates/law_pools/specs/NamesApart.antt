@@ -1,4 +1,4 @@
--- The peers of a pool that matches are told apart by their names: none has a point in its name, and no two have one name.
+-- The peers of a pool that matches are kept apart by their names: none has a point in its name, and no two have one name.
 use Rattle.std.specs.Prelude.{◌≡◌, ◌<◌, ℕ, Bool, true, false, List, [], ◌∷◌, None, length, map}
 use Rattle.std.specs.List.{flat_map, list_all}
 use Rattle.ui_machine.specs.Definition.Names.{same_name}

@@ -104,6 +104,6 @@ first_unused needs (p ∷ pool) = cond (is_needed needs p) (first_unused needs p
 abbrev pub mismatch_with : List Need → List Peer → Option Mismatch
 mismatch_with needs pool = or_else (first_wrong pool needs) (first_unused needs pool)
 
--- the same of what a definition needs
+-- how a pool fails to match what a definition needs
 abbrev pub mismatch : Definition → List Peer → Option Mismatch
 mismatch d pool = mismatch_with (needs_of d) pool

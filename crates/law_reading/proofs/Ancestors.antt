@@ -40,7 +40,7 @@ or_false : (b : Bool) → (b || false) ≡ b
 or_false true = refl
 or_false false = refl
 
--- what the last of some types has stands last, where they are taken from the root down
+-- what the last of some types has comes last, where they are taken from the root down
 pub last_own : {A : Type 0} (own : ℕ → List A) (ts : List ℕ) (t : ℕ) → flat_map own (reverse (t ∷ ts)) ≡ flat_map own (reverse ts) ++ own t
 last_own own ts t =
     ap (flat_map own) (reverse-append (t ∷ []) ts) ∙ flat_map-append own (reverse ts) (t ∷ [])
@@ -169,7 +169,7 @@ module _ (types : List GType) (tree : IsTree types) where
             child_specs changed t p e ∙ ap (λ l. l ++ changed t) (rest (before_last t p e)) ∙ ap (λ l. specs_by types own p ++ l) (same t h)
             ∙ sym (child_specs own t p e)
 
-  -- the last type gets a property: it stands last among its own, and the others have theirs
+  -- the last type gets a property: it comes last among its own, and the others have theirs
   module _ (own : ℕ → List Spec) (last : ℕ) (is : suc last ≡ length types) (spec : Spec) where
     pub others : (u : ℕ) → nat_eq u last ≡ false → add_own own last spec u ≡ own u
     others u e = ap (λ b. cond b (own u ++ spec ∷ []) (own u)) e

@@ -14,7 +14,7 @@ use Rattle.law_typing.proofs.Lists.{each_append}
 use Rattle.law_reading.proofs.GivenProofs.{number_within}
 use Rattle.law_reading.proofs.Parts.{on_read, taken}
 
--- what the data of a signal stands for, if it has one: the number of an object's entry
+-- what the data of a signal denotes, if it has one: the number of an object's entry
 pub record IsEntry (objects : ObjectNames) (to : ℕ) : Type 0 where
   pub place : ℕ
   pub number : to ≡ at_most 512 place

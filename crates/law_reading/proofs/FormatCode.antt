@@ -178,7 +178,7 @@ module _ (types : List GType) (place : List ℕ → Option ℕ) where
       (follows _ _ t.0 _ t.1
       (follows _ _ b.0 _ (blocks_carry k.0 r.0 d b.0 b.1) b.2)))))
 
-  -- an outline stands for the same program
+  -- an outline denotes the same program
   pub same_program : (o : Outline) → program_of second o ≡ program_of first o
   unfolding program_of
   same_program o = refl

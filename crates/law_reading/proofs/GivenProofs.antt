@@ -30,7 +30,7 @@ use Rattle.law_reading.proofs.NameProofs.{apart_push}
 use Rattle.law_reading.proofs.Parts.{on_read, taken}
 use Rattle.law_reading.proofs.ValueProofs.{HaveFewBits, value_fits}
 
--- what a name of an object that may come later stands for: the number of its entry, whose class may be one of the kind
+-- what a name of an object that may come later denotes: the number of its entry, whose class may be one of the kind
 pub record Refers (types : List GType) (objects : ObjectNames) (kind : Kind) (to : ℕ) : Type 0 where
   pub type : ℕ
   pub is : kind ≡ kinds.object type

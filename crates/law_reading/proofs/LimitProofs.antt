@@ -71,7 +71,7 @@ no_objects : (ps : List Place) → Each (λ p. p.is_prototype ≡ true) ps → t
 no_objects [] all = refl
 no_objects (p ∷ ps) all = let here : is_object p ≡ 0 = ap (λ b. cond b 0 1) all.0 in let rest = no_objects ps all.1 in omega (arith, here, rest)
 
--- no more places are objects than stand before the prototypes
+-- no more places are objects than come before the prototypes
 pub objects_few : (objects prototypes : List Place) → Each (λ p. p.is_prototype ≡ true) prototypes → total is_object (objects ++ prototypes) ≤ length objects
 objects_few [] prototypes all = let none = no_objects prototypes all in omega (arith, none)
 objects_few (p ∷ ps) prototypes all = by p.is_prototype (objects_few ps prototypes all)

@@ -42,7 +42,7 @@ none_same (k ∷ ks) name e =
 once_more : (names : List (List ℕ)) (name : List ℕ) → AreOnce names → is_among names name ≡ false → AreOnce (names ++ name ∷ [])
 once_more names name once new = as_names (names ++ name ∷ []) (apart_push itself same_name names name (of_names names once) (none_same names name new))
 
--- the same, the other way round
+-- names are apart also with two lists of them the other way round
 once_swapped : (first second : List (List ℕ)) → AreOnce (first ++ second) → AreOnce (second ++ first)
 once_swapped first second once = as_names (second ++ first) (apart_swapped itself first second (of_names (first ++ second) once))
 
@@ -112,7 +112,7 @@ place_once before places p once = subst AreOnce (append_assoc before (peers_of p
     last : peers_of (places ++ p ∷ []) ≡ peers_of places ++ p.peers
     last = flat_map-append (λ (q : Place). q.peers) places (p ∷ []) ∙ ap (λ l. peers_of places ++ l) (append-nil p.peers)
 
--- the peers of objects, which are read behind prototypes and stand before these
+-- the peers of objects, which are read behind prototypes and come before these
 pub places_once : (objects prototypes : List Place) → AreOnce (peers_of prototypes ++ peers_of objects) → AreOnce (peers_of (objects ++ prototypes))
 places_once objects prototypes once =
     subst AreOnce (sym (flat_map-append (λ (q : Place). q.peers) objects prototypes)) (once_swapped (peers_of prototypes) (peers_of objects) once)

@@ -79,7 +79,7 @@ module _ (draft : ClassDraft) (programs : List Program) (built : Built) (prototy
       let found = got_within objects place h in
       (found.0, get_front objects prototypes place found.0 found.1, read.all place found.0 found.1)
 
-  -- a number that stands for a place is the place's
+  -- a number that denotes a place is the place's
   number_is : (n : ℕ) → n < length objects → at_most 512 n ≡ n
   number_is n h = by (nat_lt n 512) refl
     where
@@ -135,7 +135,7 @@ module _ (draft : ClassDraft) (programs : List Program) (built : Built) (prototy
   object_there : (place : ℕ) → place < length objects → IsObject whole place
   object_there place h = let o = object_at place h in (o.0, o.1, o.2.object)
 
-  -- what the number of an entry stands for is an object
+  -- what the number of an entry denotes is an object
   entry_there : (to : ℕ) → IsEntry read.names to → IsObject whole to
   entry_there to r =
       let within : r.place < length objects = let n = read.many in let m = r.there in omega (arith, n, m) in

@@ -43,7 +43,7 @@ module _ (types : List GType) (tree : IsTree types) (heirs : Implements types) (
       child t p up has =
           (has.0, ap (λ ss. slice_get ss has.0) (child_specs types tree own t p up) ∙ get_front (specs_by types own p) (own t) has.0 s has.1)
 
--- an interface stands among the types
+-- an interface is among the types
 pub interface_within : (types : List GType) (i : ℕ) → sort_of types i ≡ sorts.interface → i < length types
 interface_within types i e = by (cases_lt i (length types))
   where

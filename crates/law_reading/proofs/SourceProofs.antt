@@ -30,7 +30,7 @@ use Rattle.law_reading.proofs.PropertyProofs.{OnlyAt}
 abbrev other : ℕ → ℕ → Bool
 other x y = not (nat_eq x y)
 
--- a number stands among others whether or not one that it is not is taken out
+-- whether a number is among others does not change where a different number is taken out
 any_filtered : (a x : ℕ) (ys : List ℕ) → nat_eq a x ≡ false → list_any (nat_eq a) (filter (other x) ys) ≡ list_any (nat_eq a) ys
 any_filtered a x [] apart = refl
 any_filtered a x (y ∷ ys) apart = by (nat_eq x y) refl (any_filtered a x ys apart)
@@ -42,7 +42,7 @@ any_filtered a x (y ∷ ys) apart = by (nat_eq x y) refl (any_filtered a x ys ap
         rest ∙ ap (λ b. b || list_any (nat_eq a) ys) (sym differs)
     by false e rest = ap (λ b. nat_eq a y || b) rest
 
--- each number stands there once if it stands there
+-- taking each number once neither adds nor loses a number
 pub once_any : (a : ℕ) (xs : List ℕ) → list_any (nat_eq a) (each_once xs) ≡ list_any (nat_eq a) xs
 once_any a [] = refl
 once_any a (x ∷ xs) = by (nat_eq a x) refl (once_any a xs)
@@ -59,7 +59,7 @@ without n (y ∷ ys) none =
     let apart = neither (nat_eq n y) (list_any (nat_eq n) ys) none in
     ap (λ b. cond (not b) (y ∷ filter (other n) ys) (filter (other n) ys)) apart.0 ∙ ap (λ l. y ∷ l) (without n ys apart.1)
 
--- a number that stands in neither of two lists, put between them, changes nothing else
+-- a number that is in neither of two lists, put between them, changes nothing else
 pub once_between : (n : ℕ) (xs ys : List ℕ) → list_any (nat_eq n) xs ≡ false → list_any (nat_eq n) ys ≡ false
     → (zs : List ℕ) × (each_once (xs ++ ys) ≡ each_once xs ++ zs) × (each_once (xs ++ n ∷ ys) ≡ each_once xs ++ n ∷ zs)
 once_between n [] ys p q = (each_once ys, refl, ap (λ l. n ∷ l) (without n (each_once ys) (once_any n ys ∙ q)))
@@ -178,7 +178,7 @@ module _ (types : List GType) (g : GType) (tree : IsTree types) (more : IsTree (
 
   module _ (parent : ℕ) (within : parent < length types) (above : g.parent ≡ Some parent) (is : List ℕ) (all : AreInterfaces types is)
       (of_g : implemented g.sort g.interfaces ≡ is) where
-    -- what stands before the class and behind it
+    -- what comes before the class and behind it
     pub parts : (zs : List ℕ) × (each_once (brought types parent ++ is) ≡ each_once (brought types parent) ++ zs)
         × (each_once (brought types parent ++ length types ∷ is) ≡ each_once (brought types parent) ++ length types ∷ zs)
     parts =

@@ -1,4 +1,4 @@
--- A value that JSON stands for is of its kind.
+-- A value that JSON denotes is of its kind.
 use Rattle.std.proofs.Common.{◌≡◌, ℕ, ◌<◌, ◌^◌, ℤ, pos, negsuc, ◌≤ℤ◌, Bool, true, false, not, ◌&&◌, nat_eq, nat_lt, int_lt, length, List, [], ◌∷◌, Option, None, Some, option_map, option_and_then, Result, Ok, Err, refl, ap, subst, ◌∙◌, arith}
 use Rattle.std.specs.Prelude.{unsigned_abs, ◌==◌, bit_or, if◌then◌else◌, IfOk, IfSome}
 use Rattle.std.specs.Option.{option_or}
@@ -18,7 +18,8 @@ use Rattle.ui_machine.specs.Definition.Values as values
 use Rattle.ui_machine.specs.Definition.Types.{GType, Member}
 use Rattle.ui_machine.specs.Output.Text.{members_of}
 use Rattle.ui_machine.specs.Rules.Transform.{least, greatest, is_between, has_number, kind_fits, same_whole}
-use Rattle.g_values.specs.Naming.{number_by, number_called, bits_called, bits_with, is_bar, trimmed}
+use Rattle.type_tree.specs.Naming.{number_by, number_called}
+use Rattle.g_values.specs.Naming.{bits_called, bits_with, is_bar, trimmed}
 use Rattle.g_values.specs.Reading.{whole_number, number_between, called, member_numbered, enum_number, bits_of, flags_bits, text_or_null, expected, value_of, json_value}
 use Rattle.g_values.specs.declared.error.JsonFault.{JsonFault}
 use Rattle.g_values.specs.declared.error.JsonFault.TheVariants.{OutOfRange, UnknownMember}

@@ -72,7 +72,7 @@ pool =
     ∷ peer (codes "u") tally []
     ∷ []
 
--- what its report tells
+-- what its report says
 abbrev pub told : List (List ℕ)
 told =
     codes "depth 2"

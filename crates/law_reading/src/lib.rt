@@ -22,7 +22,7 @@ pub fn formats()
     ensures bytes { BytesAgree }
 {}
 
-/// So what is promised of runs of an accepted definition is so of each that bytes denote, over the events that lines denote: each dispatch
+/// What is promised of runs of an accepted definition holds of each that bytes denote, over the events that lines denote: each dispatch
 /// of each run keeps it, and does so by the numbers of the report; a run leaves the world at rest; all lines together have a run; and where
 /// an event halts no memory is found.
 pub fn runs()

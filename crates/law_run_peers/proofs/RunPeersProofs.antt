@@ -36,7 +36,7 @@ names_so state_of (p ∷ ps) = ap (λ t. string_bytes p.name ∷ t) (names_so st
 pub pools_are_apart : {I : Type 0} {Held : I → Type 0} (state_of : NamedPeer I Held → PeerState) (pool : PeerPool I Held) → AreApart (as_peers (seen state_of (entries pool)))
 pools_are_apart state_of pool = ap (no_two same_name) (names_so state_of (entries pool)) ∙ pool.apart
 
--- the peer of a number is told apart by its name
+-- the peer of a number is kept apart by its name
 is_apart : (bytes : List ℕ) (d : Definition) (peers : List Peer) → IsTaken bytes d peers → AreApart peers → (k : ℕ) → k < length peers → IsNamedApart peers k
 is_apart bytes d peers taken apart k inside = matched_is_apart d peers k (names_peers_plainly bytes d taken.denoted) apart taken.matches inside
 

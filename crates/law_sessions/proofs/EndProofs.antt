@@ -1,5 +1,5 @@
 -- A dispatch that is good comes to its end. Each counted step brings the count nearer to the bound. Each other step leaves what
--- stands below the first task as it is, and puts tasks in its place that have less to do.
+-- lies below the first task as it is, and puts tasks in its place that have less to do.
 use Rattle.std.proofs.Common.{◌≡◌, refl, sym, subst, ap, ℕ, zero, suc, ◌+◌, ◌<◌, ◌≤◌, Bool, true, false, cond, List, [], ◌∷◌, ◌++◌, length, Option, None, Some, Ok, Err, arith}
 use Rattle.std.specs.Prelude.{IfOk, not, ◌&&◌, ◌||◌, nat_eq, nat_lt, slice_get}
 use Rattle.std.specs.List.{list_all}

@@ -111,7 +111,7 @@ module _ (keep : StepsKeepGood) (d : Definition) (well : WellRead d) (a : Accept
         rest = more.rest;
       }
 
-  -- the same of another part
+  -- what leads on does so as another part that it comes to
   led_as : (Part Other : List Reply → World → Tally → World → Type 0) (v w : World) →
       ((replies : List Reply) (tally : Tally) (new : World) → Part replies v tally new → Other replies w tally new) → Leads Part v →
       Leads Other w

@@ -44,7 +44,7 @@ pub record Keeps (d : Definition) (a : Accepted d) (e : Entry) (c : Config) : Ty
   pub shallow : Throughout d c (λ at. frames at.agenda ≤ depth (graph d) a.weighed.depths)
   -- it comes to its end, whatever its peers reply
   pub comes_to_end : ComesToEnd d c
-  -- there its `end` line tells no more steps than the bound, and it leaves the world at rest
+  -- there its `end` line says no more steps than the bound, and it leaves the world at rest
   pub ends : (replies : List Reply) → Each (Fits d) replies → (count : ℕ) (new : World) → Dispatches d replies c count new →
       (count ≤ bound_of d a e) × IsResting d a new
   -- the bound is that of a line of the report; where the report has none for the entry, it is the limit of objects

@@ -30,7 +30,7 @@ pub record Serves (d : Definition) (peers : List Peer) (events : List Event) (ev
   pub run : IsRun d peers before replies tally w
   pub accepted : refusal w event ≡ None
 
--- In a turn from the world w the sources before this one have run and led to the world v, where all replies fit, and it still stands there.
+-- In a turn from the world w the sources before this one have run and led to the world v, where all replies fit, and it is still attached.
 pub record Runs (d : Definition) (w : World) (moment number : ℕ) (v : World) (s : Source) : Type 0 where
   pub before : List ℕ
   pub later : List ℕ

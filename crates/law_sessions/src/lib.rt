@@ -1,4 +1,4 @@
-//! The law over whole runs: no accepted definition is ever stuck, and each of its dispatches keeps within the bound that the report tells.
+//! The law over whole runs: no accepted definition is ever stuck, and each of its dispatches keeps within the bound that the report gives.
 #![tactic(auto)]
 
 ghost use Rattle.law_sessions.specs.NeverStuck.{NeverStuck, ReportIsKept, RunsRest, RunsAreThere};
@@ -9,7 +9,7 @@ ghost use Rattle.law_sessions.specs.WorkedSession.{PremisesMet};
 
 /// Each dispatch of each run of an accepted definition keeps what is promised, as long as its peers' replies fit: it is never stuck,
 /// its counted steps are within the bound of its entry, its frames within the depth, it comes to its end, and it leaves the world at
-/// rest. So it is for what is judged to be accepted, by the numbers of its report. And each list of events has a run. Where
+/// rest. The same holds for what is judged to be accepted, by the numbers of its report. And each list of events has a run. Where
 /// one of them halts, no memory was found.
 pub fn runs()
     ensures keep { NeverStuck }

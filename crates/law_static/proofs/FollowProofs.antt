@@ -19,7 +19,7 @@ use Rattle.law_static.proofs.ItemsProofs.{parts_in}
 use Rattle.law_static.proofs.MakingsProofs.{each_made, each_forward, each_numbered, each_connected, all_zero, late_items, late_make_none, InOrder, bind_count}
 use Rattle.law_static.proofs.PlanCostProofs.{total_append}
 
--- ** where an item stands that is none of the early ones
+-- ** where an item is that is none of the early ones
 
 -- what comes before it is all early ones, and some of the late
 pub record After (early late before items : List Item) (i : Item) : Type 0 where

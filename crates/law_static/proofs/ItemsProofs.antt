@@ -52,7 +52,7 @@ bound_plain : {A : Type 0} (n : ℕ) (xs : List A) → Each Plain (numbered bind
 bound_plain n [] = tt
 bound_plain n (x ∷ xs) = (refl, bound_plain (suc n) xs)
 
--- ** where such an item stands
+-- ** where such an item is
 
 later_in : (early late : List Item) (i : Item) → Each Plain early → connecting i ≡ true → IsIn i (early ++ late) → IsIn i late
 later_in [] late i plain is h = h

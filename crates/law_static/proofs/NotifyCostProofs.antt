@@ -93,7 +93,7 @@ module _ (d : Definition) (costs : Tables) (w : World) (below : List Task) (id p
 
   -- ** transfers
 
-  -- what a standing binding's transfer costs, if it listens
+  -- what the transfer of a binding that has not ended costs, if it listens
   abbrev carries : Binding → ℕ
   carries b = cond (listens id slot b) (transfer_cost d costs below (goes_back id slot b) (slice_get d.bindings b.number)) 0
 

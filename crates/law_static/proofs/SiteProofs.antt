@@ -1,4 +1,4 @@
--- What is known where an instruction of an accepted definition stands: it is found in the lists of sites and faults by its numbers.
+-- What is known where an instruction of an accepted definition is: it is found in the lists of sites and faults by its numbers.
 use Rattle.std.proofs.Common.{◌≡◌, inl, inr, refl, sym, ap, subst, ◌∙◌, ℕ, zero, suc, ◌+◌, Bool, true, false, cond, List, [], ◌∷◌, Option, None, Some, Ok, Err, slice_get, arith}
 use Rattle.ui_machine.specs.Definition.{Definition}
 use Rattle.ui_machine.specs.Definition.Programs.{Instruction, Block, Program}

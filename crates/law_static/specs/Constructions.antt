@@ -15,7 +15,7 @@ use Rattle.law_typing.specs.Good.Bindings.{HeldGood}
 use Rattle.law_typing.specs.Good.Builds.{MakingGood, step_depth}
 use Rattle.law_typing.specs.Good.Freezes.{to_thaw}
 
--- wherever what the builder holds stands at its place
+-- wherever what the builder holds is at its place
 abbrev pub ConstructionsFit : Type 0
 ConstructionsFit =
     (d : Definition) → TypesRead d → Accepted d → (s : Standing) (w : World) (place : ℕ) (p : Place) → HeldGood s w.builder →

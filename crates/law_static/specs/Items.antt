@@ -55,7 +55,7 @@ ForwardsFollow =
     (d : Definition) → Accepted d → (done items : List Item) (place slot to : ℕ) → build_items d ≡ done ++ forwards place slot to ∷ items →
     IsForward d done place slot to
 
--- where it comes to a binding all objects are made, and as many bindings as stand before it
+-- where it comes to a binding all objects are made, and as many bindings as come before it
 pub record IsBind (d : Definition) (done items : List Item) (number : ℕ) : Type 0 where
   pub bind : Bind
   pub is : slice_get d.bindings number ≡ Some bind

@@ -16,7 +16,7 @@ use Rattle.law_typing.specs.Good.Handlers.{connecting_cost}
 -- what is known where the build comes to such an item
 pub record Makes (d : Definition) (done items : List Item) (place : ℕ) : Type 0 where
   pub object : IsObject d place
-  -- as many objects are made as stand before it
+  -- as many objects are made as come before it
   pub order : place ≡ total is_making done
   -- each binding is still to be made
   pub bindings : total is_binding items ≡ length d.bindings

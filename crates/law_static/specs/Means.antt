@@ -11,7 +11,7 @@ use Rattle.law_typing.specs.Laws.WellRead.{TypesRead}
 use Rattle.law_typing.specs.Good.Handlers.{runs_at}
 use Rattle.law_static.specs.Raises.{raised_there}
 
--- the handler is of a signal's name and a detail, as they stand in the class of its object's place
+-- the handler is of a signal's name and a detail, as the class of its object's place keeps them
 abbrev pub HandlersMean : Type 0
 HandlersMean =
     (d : Definition) → TypesRead d → (class : ℕ) (name : List ℕ) (detail : Option (List ℕ)) (h : Handler) (c : Channel) →

@@ -1,4 +1,4 @@
--- What stands under rising numbers.
+-- Lists whose entries have rising numbers.
 use Rattle.std.specs.Prelude.{◌≡◌, ℕ, ◌-◌, ◌≤◌, List, Some, slice_get}
 use Rattle.ui_machine.specs.Seq.{total}
 use Rattle.ui_machine.specs.Definition.Places.{Bind}

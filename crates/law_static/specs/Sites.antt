@@ -1,4 +1,4 @@
--- What is known where an instruction of an accepted definition stands.
+-- What is known at the place of an instruction of an accepted definition.
 use Rattle.std.specs.Prelude.{◌≡◌, ℕ, suc, true, Ok, Some, slice_get}
 use Rattle.ui_machine.specs.Definition.{Definition}
 use Rattle.ui_machine.specs.Definition.Programs.{Instruction, Block, Program}

@@ -42,7 +42,7 @@ PairsPay =
     (d : Definition) → Accepted d → (t : Tables) (place : ℕ) (slots : List ℕ) → no_two nat_eq slots ≡ true →
     total (λ slot. over_cost t (other_end (graph d) (property place slot))) slots ≤ total (node_cost (graph d) t) (paired_at d place)
 
--- whatever stands below, what is due at a property costs no more than its node, and is no deeper than its channel
+-- whatever lies below, what is due at a property costs no more than its node, and is no deeper than its channel
 abbrev pub DueWithin : Type 0
 DueWithin =
     (d : Definition) (a : Accepted d) (below : List Task) (place slot : ℕ) →

@@ -17,7 +17,7 @@ SpecsInherit =
     is_a d.types class type ≡ true → slot_of d type name ≡ Some slot → spec_of d type slot ≡ Some s →
     (own : ℕ) × (slot_of d class name ≡ Some own) × (spec_of d class own ≡ Some s)
 
--- so is a signal
+-- a signal of a type is one of each class that is of the type, under the same name
 abbrev pub SignalsInherit : Type 0
 SignalsInherit =
     (d : Definition) → TypesRead d → (class type number : ℕ) (name : List ℕ) (s : Signal) → class < length d.types →

@@ -1,4 +1,4 @@
-//! Laws of what is good where nothing moves: what stands under rising numbers, and what an emission's plan costs.
+//! Laws of what is good where nothing moves: lists with rising numbers, and what an emission's plan costs.
 #![tactic(auto)]
 
 ghost use Rattle.law_static.specs.Rising.{RisingAreFound, RisingCosts};
@@ -18,7 +18,8 @@ ghost use Rattle.law_static.specs.MakingCost.{AbsentCostsNothing, ConstructionCo
 ghost use Rattle.law_static.specs.Constructions.{ConstructionsFit, ConstructionsShallow, ConstructionsThaw};
 ghost use Rattle.law_typing.specs.Laws.StepsKeepGood.{BuildBegins, RequestsBegin, SourcesBegin};
 
-/// What stands under rising numbers is found by its number, and bindings that do cost together no more than those of the definition.
+/// What is listed under rising numbers is found by its number. Bindings that are so listed cost together no more than those of the
+/// definition.
 pub fn rising()
     ensures found { RisingAreFound }
     ensures costs { RisingCosts }
@@ -96,7 +97,8 @@ pub fn meanings()
     ensures last { SignalsComeLast }
 {}
 
-/// What an instruction raises at the place of its operand's object is within what it may start, and a thaw pays for the paired properties there; what is due at a property is within its node.
+/// What an instruction raises at the place of its operand's object is within what it may start, and a thaw pays for the paired properties
+/// there; what is due at a property is within its node.
 pub fn starts()
     ensures reach { StartsReach }
     ensures thaws { ThawsReach }

@@ -64,7 +64,7 @@ signed d class name test e = go (signal_number d class name) refl e
     go None is e = absurd (cc)
     go (Some number) is e = by number (signal_of d class number) is refl e
 
--- a detail that a class's signal takes may stand at it
+-- a detail that a class's signal takes may be kept at it
 stands_there : (d : Definition) (class number : ℕ) (s : Signal) (detail : Option (List ℕ)) → HasNotify d class → signal_of d class number ≡ Some s → takes_detail d class number s detail ≡ true →
     may_stand d class number s detail ≡ true
 stands_there d class number s None notify has e = refl

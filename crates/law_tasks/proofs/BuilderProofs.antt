@@ -42,7 +42,7 @@ one_longer : (xs : List BuilderEntry) (h : BuilderEntry) → length (xs ++ h ∷
 one_longer [] h = refl
 one_longer (x ∷ xs) h = let more = one_longer xs h in omega (arith, more)
 
--- what stands there is what stood there, or the new one at the end
+-- an entry is the one that was there, or the new one at the end
 read_more : (xs : List BuilderEntry) (h : BuilderEntry) (i : ℕ) → (read unbuilt (xs ++ h ∷ []) i ≡ read unbuilt xs i) ⊎ ((i ≡ length xs) × (read unbuilt (xs ++ h ∷ []) i ≡ h))
 read_more [] h zero = inr (refl, refl)
 read_more [] h (suc i) = inl refl

@@ -1,4 +1,4 @@
--- The build comes to an item that makes no object: what stands then, and what the next items find.
+-- The build comes to an item that makes no object: what is there then, and what the next items find.
 use Rattle.std.proofs.Common.{◌≡◌, refl, sym, ap, subst, ◌∙◌, ℕ, ◌<◌, ◌≤◌, List, [], ◌∷◌, ◌++◌, Some, arith}
 use Rattle.ui_machine.specs.Seq.{read, total}
 use Rattle.ui_machine.specs.Definition.{Definition}

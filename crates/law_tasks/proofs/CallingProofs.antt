@@ -72,7 +72,7 @@ read_there [] n p e = absurd (cc)
 read_there (x ∷ peers) zero p e = cc
 read_there (x ∷ peers) (suc n) p e = read_there peers n p e
 
--- where a peer stands it is written over, whatever would fill up the pool
+-- a peer that is there is written over, whatever would fill up the pool
 write_there : (a b : Peer) (peers : List Peer) (n : ℕ) (p q : Peer) → slice_get peers n ≡ Some p → write a peers n q ≡ write b peers n q
 write_there a b [] n p q e = absurd (cc)
 write_there a b (x ∷ peers) zero p q e = refl

@@ -1,4 +1,4 @@
--- A request that gets a property tells of its value, and one that releases an object lets the builder go of it.
+-- A request that gets a property reports its value, and one that releases an object lets the builder go of it.
 use Rattle.std.proofs.Common.{◌≡◌, refl, sym, ap, subst, ◌∙◌, ℕ, zero, suc, ◌+◌, Bool, false, List, [], ◌∷◌, ◌++◌, length, Some, Ok, slice_get, arith}
 use Rattle.std.specs.Prelude.{true, option_map, nat_eq}
 use Rattle.std.proofs.lemmas.Bool.{eqb-true, eqb-false}

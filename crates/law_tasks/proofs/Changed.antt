@@ -28,7 +28,7 @@ use Rattle.law_kept.proofs.WriteProofs.{find_here, find_apart}
 use Rattle.law_tasks.proofs.First.{First, none_later, objects_told, StepIsFine, fine_where, costs, depths, most, making}
 use Rattle.law_static.proofs.StartProofs.{carried_falls}
 
--- what is said and told is read by nothing
+-- what is said and reported is read by nothing
 pub whole_said : (d : Definition) (costs depths : Tables) (agenda : List Task) (w : World) (lines : List (List ℕ)) (v : Option Value) → Whole d costs depths agenda w →
     Whole d costs depths agenda (record w { transcript = lines; result = v })
 whole_said d costs depths agenda w lines v g = record {

@@ -29,7 +29,7 @@ use Rattle.law_static.proofs.AtClass.{at_class}
 use Rattle.law_static.proofs.Same.{names_same}
 use Rattle.law_static.proofs.SubclassProofs.{signals_inherit}
 
--- ** where a handler stands
+-- ** where a handler is
 
 -- what the first class gives that gives something, one of them gives
 given_by : (f : ℕ → Option ℕ) (line : List ℕ) (program : ℕ) → first_given f line ≡ Some program → (c : ℕ) × IsIn c line × (f c ≡ Some program)

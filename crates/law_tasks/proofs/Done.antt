@@ -24,7 +24,7 @@ module _ {d : Definition} {task : Task} (t : First d task) where
     pub build : BuildGood d w.builder rest (task ∷ rest) → BuildGood d w.builder rest rest
     pub good : AgendaGood d (costs t) (depths t) (view w) (most t) none rest g.agenda.2
 
-  -- a line is perhaps said, and a value told
+  -- a line is perhaps said, and a value reported
   pub done : (lines : List (List ℕ)) (v : Option Value) → Ends → IsGood d a t.most_counted (record { world = record w { transcript = lines; result = v }; agenda = rest; counted = n })
   done lines v e =
       good_of t (record w { transcript = lines; result = v }) rest

@@ -66,9 +66,9 @@ results_in : (d : Definition) (w : World) (e : Emission) (sig : Signal) → Emit
 unfolding resulting signal_at
 results_in d w e sig x = let a = x.lives in let b = x.has in rw (a, b) refl
 
--- ** what is told of it
+-- ** what is reported of it
 
--- a line is perhaps said, and a value told
+-- a line is perhaps said, and a value reported
 record Told (d : Definition) (w : World) (by_event : Bool) (v : Option Value) : Type 0 where
   pub lines : List (List ℕ)
   pub value : Option Value

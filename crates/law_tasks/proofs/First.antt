@@ -77,7 +77,7 @@ pub none_later : (f : Task → ℕ) (agenda : List Task) → total f agenda ≡ 
 none_later f [] e = e
 none_later f (task ∷ agenda) e = omega (arith, e)
 
--- what is said and told is read by nothing
+-- what is said and reported is read by nothing
 pub objects_told : (d : Definition) (w : World) (lines : List (List ℕ)) (v : Option Value) → ObjectsGood d w → ObjectsGood d (record w { transcript = lines; result = v })
 objects_told d w lines v g = objects_stay d w (record w { transcript = lines; result = v }) g
 
@@ -186,7 +186,7 @@ module _ {d : Definition} {task : Task} (t : First d task) where
     objects_first = g.objects_first;
   }
 
-  -- the same where a line is said and a value told, and the agendas are alike
+  -- the world stays good where a line is said and a value reported, and the agendas are alike
   pub whole_told : (agenda : List Task) (lines : List (List ℕ)) (v : Option Value) → Alike (task ∷ rest) agenda → Whole d costs depths agenda (record w { transcript = lines; result = v })
   whole_told agenda lines v alike =
       whole_stays d costs depths (task ∷ rest) agenda (record w { transcript = lines; result = v }) alike

@@ -1,4 +1,4 @@
--- A binding is set free: it stands as it stood, but does not set.
+-- A binding is set free: it is as it was, but does not set.
 use Rattle.std.proofs.Common.{◌≡◌, refl, sym, ap, subst, ℕ, ◌+◌, false, List, [], ◌∷◌, length, arith}
 use Rattle.ui_machine.specs.Seq.{total}
 use Rattle.ui_machine.specs.Definition.{Definition}

@@ -1,4 +1,4 @@
--- Tasks that hold nothing frozen stand above the lowest one that does.
+-- Tasks that hold nothing frozen lie above the lowest one that does.
 use Rattle.std.proofs.Common.{◌≡◌, refl, ℕ, ◌<◌, Bool, true, false, cond, List, ◌∷◌, arith}
 use Rattle.std.specs.Prelude.{nat_eq}
 use Rattle.std.proofs.lemmas.Bool.{eqb-true}

@@ -35,7 +35,7 @@ use Rattle.law_tasks.proofs.Planned.{each_passing}
 
 -- ** bindings under rising numbers
 
--- what stands is not below where the numbers begin
+-- no binding of the list has a number below the one where the numbers begin
 above : (k : ℕ) (bs : List Binding) (b : Binding) → Rising (λ (b : Binding). b.number) k bs → IsIn b bs → k ≤ b.number
 above k [] b r h = absurd h
 above k (x ∷ bs) b r (inl e) = let low = r.0 in let same = ap (λ (b : Binding). b.number) e in omega (arith, low, same)

@@ -1,4 +1,4 @@
--- A property is in one pair at most: whether its pair is setting below is told by that one binding.
+-- A property is in one pair at most: that one binding decides whether its pair is setting below.
 use Rattle.std.proofs.Common.{◌≡◌, inl, refl, ap, ◌∙◌, ℕ, zero, suc, ◌+◌, ◌<◌, Bool, true, false, cond, List, [], ◌∷◌, Some, slice_get, arith}
 use Rattle.std.specs.Prelude.{nat_eq, ◌&&◌}
 use Rattle.std.proofs.lemmas.Bool.{eqb-true}

@@ -64,7 +64,7 @@ frozen_is_frame d id (Building items) some = absurd (omega (arith, some))
 frozen_is_frame d id (Handling request) some = absurd (omega (arith, some))
 frozen_is_frame d id (Due source) some = absurd (omega (arith, some))
 
--- the lowest task that holds an object frozen is a frame, and stands on those below it
+-- the lowest task that holds an object frozen is a frame, and lies on those below it
 pub lowest_stands : (d : Definition) (id : ℕ) (tasks : List Task) → 0 < total (frozen_by d id) tasks → suc (below_lowest d id tasks) ≤ frames tasks
 lowest_stands d id [] some = absurd (omega (arith, some))
 lowest_stands d id (task ∷ tasks) some = go (nat_eq (total (frozen_by d id) tasks) 0) refl (λ some. lowest_stands d id tasks some)

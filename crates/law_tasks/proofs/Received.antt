@@ -33,7 +33,7 @@ use Rattle.law_tasks.proofs.First.{First, good_of, whole_told, pool_alike, build
 use Rattle.law_tasks.proofs.Lowest.{lowest_above}
 use Rattle.law_tasks.proofs.Registers.{kinds_as_many, written_within}
 
--- ** what stands below is a program
+-- ** what lies below is a program
 
 -- a task is the first one, above these, where all is good and nothing is to be finalised before it
 pub record Above (d : Definition) (task : Task) (rest : List Task) : Type 0 where
@@ -155,7 +155,7 @@ module _ {d : Definition} {task : Task} {f : Frame} {tasks : List Task} (x : Abo
     pub kept : (id : ℕ) → frozen_by d id (Running (after_value f to v)) ≡ frozen_by d id (Running f)
     pub good : RunningGood d (costs (first x)) (depths (first x)) (standing w.objects) none (after_value f to v) g.agenda.6.0 g.agenda.6.1
 
-  -- a line is perhaps said, and a value told
+  -- a line is perhaps said, and a value reported
   pub received : (lines : List (List ℕ)) (value : Option Value) → Comes →
       IsGood d a x.most_counted (record { world = record w { transcript = lines; result = value }; agenda = later; counted = n })
   received lines value e =

@@ -73,7 +73,7 @@ owns d w objects id place slot spec is has =
     let class : class_at d place ≡ Some x.0.class = ap (class_at d) (sym x.2) ∙ (ap (option_map (λ (p : Place). p.class)) o.is ∙ ap (λ (c : ℕ). Some c) (sym o.class)) in
     record { o = x.0; lives = x.1; at = x.2; of_class = class; has = sym (ap (spec_if d slot) class) ∙ has; good = o }
 
--- a value that lives by where it stands does
+-- a value that lives by the places of objects lives
 pub lives_there : (os : Objects) (v : Value) → lives_by (standing os) v ≡ true → lives os v ≡ true
 lives_there os (values.bool b) e = refl
 lives_there os (values.whole k n) e = refl

@@ -68,7 +68,7 @@ given_holds d s e h place params is args lives = go h.swapped
     go false =
         (stands_hold d s e.object place is, hold_both d s e.args (data_of h) (map kinds.plain params) (data_kinds (data_kind s h.arg)) (args_hold d s e.args params args) (data_hold d s h lives))
 
--- the same of a class handler, which has no data
+-- values that hold go on to hold with no kinds behind theirs: a class handler has no data
 hold_end : (d : Definition) (s : Standing) (vs : List Value) (ks : Kinds) → AllHold d s vs ks → AllHold d s vs (ks ++ [])
 hold_end d s [] [] all = tt
 hold_end d s [] (k ∷ ks) all = absurd all

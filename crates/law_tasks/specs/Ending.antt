@@ -3,7 +3,7 @@ use Rattle.std.specs.Prelude.{ℕ, true, false, []}
 use Rattle.ui_machine.specs.State.Tasks.{Emission, Emitting, Constructing}
 use Rattle.law_tasks.specs.First.{IsFine}
 
--- an emission ends: the program that waits for its result takes it, an event is told of it, or nobody asks
+-- an emission ends: the program that waits for its result takes it, an event reports it, or nobody asks
 abbrev pub EmissionsEnd : Type 0
 EmissionsEnd = (e : Emission) → IsFine (Emitting e [])
 

@@ -16,7 +16,7 @@ use Rattle.law_typing.specs.Laws.StepsKeepGood.{IsGood, Fine, Replies}
 abbrev pub at_first : World → Task → List Task → ℕ → Config
 at_first w task rest n = record { world = w; agenda = task ∷ rest; counted = n }
 
--- From what is good, the step that takes a task like this is not stuck, and leads to what is good within the same bound. Here what stands
+-- From what is good, the step that takes a task like this is not stuck, and leads to what is good within the same bound. Here what lies
 -- below is of some sort.
 abbrev pub IsFineAbove : (List Task → Type 0) → Task → Type 0
 IsFineAbove Sort task =

@@ -2,7 +2,7 @@
 use Rattle.ui_machine.specs.State.Tasks.{Request, Handling}
 use Rattle.law_tasks.specs.First.{IsFine}
 
--- a `set` is due, with what was given; a `get` tells of the value; an `emit` is due with its arguments; a `release` lets the builder go of
+-- a `set` is due, with what was given; a `get` reports the value; an `emit` is due with its arguments; a `release` lets the builder go of
 -- the object
 abbrev pub RequestsAreFine : Type 0
 RequestsAreFine = (request : Request) → IsFine (Handling request)

@@ -36,7 +36,8 @@ pub fn turns()
     ensures transfers { TransfersAreFine }
 {}
 
-/// A due source starts its program, and a construction a `constructed` one. What a construction sets is due at once, and what waited as it thaws. A source that waits for its program is never the first task.
+/// A due source starts its program, and a construction a `constructed` one. What a construction sets is due at once, and what waited is due
+/// as it thaws. A source that waits for its program is never the first task.
 pub fn starting()
     ensures sources { SourcesAreFine }
     ensures runs { RunsAreFine }
@@ -57,7 +58,7 @@ pub fn endings()
     ensures builder { BuilderTakes }
 {}
 
-/// Each request: a set is due, or an emission; a property is told, or an object released.
+/// Each request: a set is due, or an emission; the value of a property is reported, or an object released.
 pub fn request_step()
     ensures fine { RequestsAreFine }
 {}

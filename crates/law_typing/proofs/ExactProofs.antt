@@ -102,7 +102,7 @@ small_or_refused lines None e = absurd (cc)
 small_or_refused lines (Some x) e = absurd (cc)
 
 module _ (d : Definition) (g : Graph) (paired : IsPaired g) where
-  -- with ranks there are costs and depths, and no cycle is told
+  -- with ranks there are costs and depths, and no cycle is reported
   no_cycle_told : (r : Table) → ranks g ≡ Some r → by_ranks d g (Some r) ≡ has_cycle → ⊥
   no_cycle_told r is e =
       let solved = ranks_are g r is in

@@ -1,4 +1,4 @@
--- The lines of refusals compute, and a verifier has one answer, but for which cycle it tells.
+-- The lines of refusals compute, and a verifier has one answer, apart from which cycle it reports.
 use Rattle.std.specs.Fmt.{digits}
 use Rattle.std.proofs.Common.{◌≡◌, inl, inr, ◌⊎◌, refl, sym, subst, ◌∙◌, Option}
 use Rattle.law_typing.specs.Rules.Typing.{data_in, passing, two_numbers, two_passing, moving, reckoning, comparing, sameness, negating, combining, joining, converting, property_of, get_property, changing_none, set_property, place_for, look_up_object, adopting, arguments, emitting, program_named, connecting, on_handlers, attaching, methods_for, method_named, calling, entering, branching, branching_null, returning}

@@ -40,7 +40,7 @@ module _ (g : Graph) (t : Tables) where
 
 -- ** phases
 
--- a report, and what it tells
+-- a report, and what it says
 record Told (d : Definition) (g : Graph) (lines : List (List ℕ)) : Type 0 where
   pub weighed : Weighed g
   pub is : lines ≡ report d g weighed.ranks weighed.costs weighed.depths

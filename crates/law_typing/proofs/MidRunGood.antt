@@ -33,7 +33,7 @@ abbrev ValueIf : Definition → Standing → Option Value → Option Spec → Ty
 ValueIf d s v None = ⊤
 ValueIf d s v (Some spec) = ValueGood d s spec v
 
--- what the builder has built of a place stands there
+-- what the builder has built of a place is at that place
 abbrev HeldAt : Standing → (place : ℕ) → BuilderEntry → Type 0
 HeldAt s place (built id) = s id ≡ Some place
 HeldAt s place held = ⊤

@@ -38,7 +38,7 @@ begins g = each_flat Begins (arrows_from g) g.raised from
         (each_map (λ (a : Arrow). IsIn a.from (nodes g)) (arrow g r.channel causes.binding) (filter (is_raised g) r.targets) (λ k. here r h))
 
 module _ (g : Graph) (ranks : Table) (solved : IsRanking g ranks) where
-  -- an edge that is told of is one of them
+  -- an edge that the test finds is one of them
   told : (from : Channel) (by : Cause) (to : Channel) → is_edge (arrows g) from by to ≡ true →
       (a : Arrow) × IsIn a (arrows g) × (a.from ≡ from) × (a.to ≡ to)
   told from by to e =

@@ -1,4 +1,5 @@
--- Every cycle of a graph holds one as it is told: it is turned to its first node in the report, and what lies between a node and the same node is left out.
+-- Every cycle of a graph holds one as it is reported: it is turned to its first node in the report, and what lies between a node and the
+-- same node is left out.
 use Rattle.std.proofs.Common.{◌≡◌, inl, inr, ◌⊎◌, refl, sym, ap, subst, ◌∙◌, ℕ, ◌≤◌, ◌<◌, Bool, true, false, List, [], ◌∷◌, ◌++◌, map, Some, None, arith}
 use Rattle.std.specs.Prelude.{◌&&◌, ◌||◌, not, nat_lt}
 use Rattle.std.specs.List.{list_any, list_all}
@@ -143,7 +144,7 @@ module _ (edges : List Arrow) where
               each = (p.0, r.each);
             }
 
--- ** told
+-- ** the cycle that is reported
 
 module _ (g : Graph) where
   abbrev line : Link → ℕ

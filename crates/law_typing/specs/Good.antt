@@ -61,7 +61,7 @@ pub record Good (d : Definition) (costs depths : Tables) (most_counted most : â„
 
 -- ** between dispatches
 
--- the same without an agenda: no count, no queue, no float, and no binding that sets
+-- what is good without an agenda: no count, no queue, no float, and no binding that sets
 pub record Resting (d : Definition) (costs depths : Tables) (w : World) : Type 0 where
   -- each living object is as it should be
   pub objects : ObjectsGood d w

@@ -52,7 +52,7 @@ UnrankedHasCycle = (g : Graph) → ranks g ≡ None → (links : List Link) × (
 
 -- ** judgement
 
--- what is judged to be accepted is, and the report tells its ranks, costs and depths
+-- what is judged to be accepted is accepted, and the report gives its ranks, costs and depths
 abbrev pub JudgedIsAccepted : Type 0
 JudgedIsAccepted =
     (d : Definition) (lines : List (List ℕ)) → inherits d ≡ true → verdict d ≡ accepted lines →

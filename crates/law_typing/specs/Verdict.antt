@@ -24,7 +24,7 @@ use Rattle.law_typing.specs.Verdict.Report.{report}
 pub data Verdict : Type 0 where
   accepted : (report : List (List ℕ)) → Verdict
   refused : Fault → Verdict
-  has_cycle : Verdict  -- whichever is told
+  has_cycle : Verdict  -- whichever is reported
 
 -- all faults but cycles and bounds that are too large, phase by phase, each in document order
 abbrev pub local_faults : Definition → List Fault
@@ -37,7 +37,7 @@ local_faults d =
 abbrev pub most_bound : ℕ
 most_bound = 1_000_000_000_000
 
--- the entries that the report tells of, in its order
+-- the entries that the report lists, in its order
 abbrev pub told : Graph → List Entry
 told g = entries.build ∷ (map (λ (r : Raised). entries.at r.channel) g.raised ++ map entries.source g.sources)
 

@@ -89,7 +89,8 @@ pub fn words()
     ensures brackets { BracketWords }
 {}
 
-/// The line of each refusal. A verifier has an answer, and one only but for which cycle it tells; and costs that are capped one above the greatest bound come out as they do without.
+/// The line of each refusal. A verifier has one answer only, apart from which cycle it reports; and costs that are capped one above the
+/// greatest bound come out as they do without.
 pub fn answers()
     ensures texts { FaultTexts }
     ensures once { JudgesOnce }
@@ -98,7 +99,7 @@ pub fn answers()
     ensures costs { CostsCapped }
 {}
 
-/// What is judged to be accepted is, by ranks, costs and depths that meet their equations, and whatever is accepted is judged so.
+/// What is judged to be accepted is accepted, by ranks, costs and depths that meet their equations, and whatever is accepted is judged so.
 /// What is judged to have a cycle has one. One definition with a program, a binding, a pair and a prototype is accepted.
 pub fn judgement()
     ensures accepted { JudgedIsAccepted }
@@ -117,7 +118,8 @@ pub fn beginning()
     ensures holds { WorkedBegin }
 {}
 
-/// It holds at two configurations in the middle of a run as well, which the machine reaches, and does not at two that a run must not come to.
+/// What each step is to keep holds at two configurations in the middle of a run as well, which the machine reaches. It does not hold at two
+/// that a run must not come to.
 pub fn amid()
     ensures holds { MidRun }
     ensures fails { NotGood }

@@ -62,7 +62,7 @@ pub record Amid (d : Definition) (peers : List Peer) (before : List Event) (r : 
   pub looks : look_of at ≡ look
   pub good : (a : Accepted d) → IsGood d a (bound_of d a (entry_of d r)) at
 
--- the same of the build
+-- what `Amid` says, of the build of an accepted definition
 pub record AmidBuild (d : Definition) (peers : List Peer) (steps : ℕ) (look : Look) : Type 0 where
   pub well : WellRead d
   pub accepted : Accepted d

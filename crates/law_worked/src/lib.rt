@@ -19,13 +19,13 @@ pub fn premises()
     ensures { PremisesMet }
 {}
 
-/// So do the bytes of a definition with a pair, two properties that are bound both ways, and lines that set each of them.
+/// The bytes of a definition with a pair, two properties that are bound both ways, and lines that set each of them, meet it as well.
 pub fn pair()
     ensures { PairMet }
 {}
 
-/// So do the bytes of a definition with a shape, a prototype with a peer and a program that calls it. Bytes that name a peer twice, no peer for an
-/// object whose class has a shape, or a shape for a class below one that has one, denote nothing.
+/// The bytes of a definition with a shape, a prototype with a peer and a program that calls it meet it as well. Bytes that name a peer
+/// twice, no peer for an object whose class has a shape, or a shape for a class below one that has one, denote nothing.
 pub fn peers()
     ensures { PeersMet }
 {}

@@ -74,7 +74,7 @@ mapped_before f (Err arm) g = refl
 same_number : (a b : ℕ) → nat_eq a b ≡ true → a ≡ b
 same_number a b h = grind (arith, nat_tests)
 
--- ** numbers of which none stands
+-- ** numbers that no handler and no binding has
 
 none_found : {A : Type 0} (number_of : A → ℕ) (gone : ℕ → Bool) (xs : List A) (number : ℕ) → list_all (λ x. not (gone (number_of x))) xs ≡ true → gone number ≡ true
     → find (λ x. nat_eq (number_of x) number) xs ≡ None

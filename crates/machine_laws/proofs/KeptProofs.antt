@@ -78,7 +78,7 @@ none_there : {A : Type 0} (o : Option A) → not (is_some o) ≡ true → o ≡ 
 none_there None none = refl
 none_there (Some x) none = absurd (false≢true none)
 
--- the same stand
+-- the same handlers and bindings are there
 pub same_kept : (w v : World) → v.handlers ≡ w.handlers → v.last_handler ≡ w.last_handler → v.bindings ≡ w.bindings → KeepsGone w v
 same_kept w v handlers last bindings = record {
   at = record {
@@ -102,7 +102,7 @@ changed_kept w v last none unbound = record {
   };
 }
 
--- some of them
+-- only some of them are there
 fewer : {A : Type 0} (number_of : A → ℕ) (keeps : A → Bool) (number : ℕ) (xs : List A)
     → find (λ x. nat_eq (number_of x) number) xs ≡ None → find (λ x. nat_eq (number_of x) number) (filter keeps xs) ≡ None
 fewer number_of keeps number [] none = refl
@@ -137,7 +137,7 @@ alike {A} number_of change same number (x ∷ xs) none = by (nat_eq (number_of x
     by true e none rest = absurd (cc none)
     by false e none rest = ap (λ c. cond c (Some (change x)) (found (map change xs))) (ap (λ n. nat_eq n number) (same x) ∙ e) ∙ rest none
 
--- and one more, whose number was not given before
+-- one more handler is there, whose number was not given before
 not_new : (number : ℕ) (hs : List Handler) (h : Handler) → nat_eq h.number number ≡ false → handler_of number hs ≡ None → handler_of number (hs ++ h ∷ []) ≡ None
 not_new number [] h other none = ap (λ b. cond b (Some h) None) other
 not_new number (i ∷ hs) h other none = by (nat_eq i.number number) refl none (λ later. not_new number hs h other later)

@@ -27,7 +27,7 @@ times_thawed (s ∷ queue) slot =
     let split = total_append (same slot) (reverse queue) (s ∷ []) in
     omega (arith, ih, onto, split)
 
--- a slot that is not found stands nowhere
+-- a slot that is not found is nowhere in the list
 nowhere : (here later : Bool) (n : ℕ) → (here || later) ≡ false → (later ≡ false → n ≡ 0) → cond here 1 0 + n ≡ 0
 nowhere true later n e h = absurd (cc)
 nowhere false later n e h = let z = h e in omega (arith, z)
@@ -36,7 +36,7 @@ not_there : (queue : List ℕ) (slot : ℕ) → list_any (λ s. nat_eq s slot) q
 not_there [] slot e = refl
 not_there (s ∷ queue) slot e = nowhere (nat_eq s slot) (list_any (λ s. nat_eq s slot) queue) (times slot queue) e (not_there queue slot)
 
--- one more slot, which is not there yet
+-- one more slot is queued, which is not there yet
 one_more : (queue : List ℕ) (slot s : ℕ) (is : Bool) → nat_eq slot s ≡ is → times s queue ≤ 1 → (slot ≡ s → times s queue ≡ 0) → times s queue + (cond is 1 0 + 0) ≤ 1
 one_more queue slot s true e once none = let z = none (eqb-true slot s e) in omega (arith, z)
 one_more queue slot s false e once none = omega (arith, once)

@@ -13,7 +13,7 @@ use Rattle.ui_machine.specs.Runs.{Steps, Reaches, Dispatches, Halts, Tally, Serv
 abbrev pub fronted : List (List ℕ) → World → World
 fronted front w = record w { transcript = front ++ w.transcript }
 
--- the same of a configuration
+-- the configuration with these lines in front of its world's own
 abbrev pub fronted_at : List (List ℕ) → Config → Config
 fronted_at front c = record c { world = fronted front c.world }
 
@@ -30,7 +30,7 @@ StepAppends =
     (front : List (List ℕ)) (d : Definition) (reply : Option Reply) (c : Config) →
     step d reply (fronted_at front c) ≡ mapped (fronted_at front) (step d reply c)
 
--- and it asks the same
+-- and with lines in front a step asks the same
 abbrev pub QuestionStays : Type 0
 QuestionStays = (front : List (List ℕ)) (d : Definition) (c : Config) → question d (fronted_at front c) ≡ question d c
 

@@ -32,12 +32,12 @@ pruned gone task = task
 abbrev pub pruned_at : Gone → Config → Config
 pruned_at gone c = record c { agenda = map (pruned gone) c.agenda }
 
--- no handler and no binding that stands has one of the numbers
+-- no connected handler and no binding that is there has one of the numbers
 pub record AreGone (gone : Gone) (w : World) : Type 0 where
   pub handlers : list_all (λ (h : Handler). not (gone.handlers h.number)) w.handlers ≡ true
   pub bindings : list_all (λ (b : Binding). not (gone.bindings b.number)) w.bindings ≡ true
 
--- the numbers that were given to handlers of which none stands, and those of which no binding stands
+-- the numbers that were given to handlers which are no longer connected, and those that no binding has
 abbrev pub gone_in : World → Gone
 gone_in w = record {
   handlers = λ number. nat_le number w.last_handler && not (is_some (handler_of number w.handlers));
@@ -69,13 +69,13 @@ StepsDoWithout =
     (next_unheld (mentions d c) c.world.objects ≡ None → is_next gone c.agenda ≡ false) →
     step d reply (pruned_at gone c) ≡ mapped (pruned_at gone) (step d reply c)
 
--- and it asks the same of peers
+-- and a step without them asks the same of peers
 abbrev pub QuestionsDoWithout : Type 0
 QuestionsDoWithout = (gone : Gone) (d : Definition) (c : Config) → question d (pruned_at gone c) ≡ question d c
 
 -- ** which are gone
 
--- those of which none stands
+-- the numbers in `gone_in` are gone
 abbrev pub GivenAreGone : Type 0
 GivenAreGone = (w : World) → AreGone (gone_in w) w
 

@@ -20,11 +20,11 @@ is_entry_of number (config.transfer n back) = 0
 abbrev pub entries_of : ℕ → List PlanEntry → ℕ
 entries_of number entries = total (is_entry_of number) entries
 
--- how often a handler stands
+-- how often a handler is in a list
 abbrev pub stands : ℕ → List Handler → ℕ
 stands number hs = total (λ (h : Handler). same number h.number) hs
 
--- a handler that stands once has one entry at most, and one that does not stand has none
+-- a handler that is there once has one entry at most, and one that is not there has none
 abbrev pub HandlersRunOnce : Type 0
 HandlersRunOnce =
     ((w : World) (p : Planned) (number : ℕ) → p.transfers ≡ [] → entries_of number (plan w p) ≤ stands number w.handlers)

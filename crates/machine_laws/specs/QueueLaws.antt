@@ -4,11 +4,11 @@ use Rattle.ui_machine.specs.Seq.{total}
 use Rattle.ui_machine.specs.State.References.{same}
 use Rattle.ui_machine.specs.Rules.NotifyQueue.{queued, thawed}
 
--- how often a slot stands in a list
+-- how often a slot is in a list
 abbrev pub times : ℕ → List ℕ → ℕ
 times slot slots = total (same slot) slots
 
--- no slot stands twice
+-- no slot is there twice
 abbrev pub EachOnce : List ℕ → Type 0
 EachOnce slots = (slot : ℕ) → times slot slots ≤ 1
 

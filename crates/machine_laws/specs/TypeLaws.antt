@@ -4,7 +4,7 @@ use Rattle.std.specs.List.{list_any}
 use Rattle.ui_machine.specs.Definition.Types.{GType}
 use Rattle.ui_machine.specs.Rules.Ancestry.{parent_of, implemented_by, is_a}
 
--- a parent stands before its children, and an interface is only itself
+-- a parent comes before its children, and an interface is only itself
 pub record IsTree (types : List GType) : Type 0 where
   pub earlier : (t parent : ℕ) → parent_of types t ≡ Some parent → parent < t
   pub alone : (t interface : ℕ) → list_any (nat_eq interface) (implemented_by types t) ≡ true →

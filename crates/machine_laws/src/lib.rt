@@ -16,7 +16,7 @@ pub fn queues()
     ensures once { QueuesOnce }
 {}
 
-/// Each handler that stands runs once at most in an emission, and those of a stage in the order of their connection. The stages
+/// Each connected handler runs once at most in an emission, and those of a stage run in the order of their connection. The stages
 /// come in the order of the signal's flags.
 pub fn plans()
     ensures once { HandlersRunOnce }

@@ -125,6 +125,6 @@ played d peers events script = dispatched d (of_build d peers) script >>= (λ p.
 abbrev pub shown : Definition → List Peer → List Event → List Scripted → Answer (List (List ℕ))
 shown d peers events script = played d peers events script >>= (λ p. Ok p.at.transcript)
 
--- the same, with the value that the last event told
+-- what is played comes to these lines, with the value that the last event reported
 abbrev pub ends_in : Definition → List Peer → List Event → List Scripted → Answer (List (List ℕ) × Option Value)
 ends_in d peers events script = played d peers events script >>= (λ p. Ok (p.at.transcript, p.at.result))

@@ -30,7 +30,7 @@ absent p xs h = let none = find_none p xs h in record { found = none; left = wit
 
 -- ** where one does
 
--- x is the first that passes, and stands at i
+-- x is the first that passes, and is at i
 pub record IsFirst {X : Type 0} (p : X → Bool) (xs : List X) (i : ℕ) (x : X) : Type 0 where
   pub found : find p xs ≡ Some x
   pub left : without_first p xs ≡ remove xs i

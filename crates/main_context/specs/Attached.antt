@@ -1,4 +1,4 @@
--- What a context stands for.
+-- What a context denotes.
 use Rattle.std.specs.Prelude.{ℕ, ◌+◌, ℤ, Bool, List, [], ◌∷◌, Option, None, cond, is_some}
 use Rattle.std.specs.Option.{option_or}
 use Rattle.ui_machine.specs.State.Sources.{Source, attached, new_source, source_of}

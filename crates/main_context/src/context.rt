@@ -62,6 +62,10 @@ impl Context {
     ///
     /// `SourceLimit` where 256 sources are attached, or the numbers are used up: 2^64 - 1 is the last. `OutOfMemory` after
     /// that. An error changes nothing.
+    ///
+    /// # Errors
+    ///
+    /// `SourceLimit` where as many sources are attached as may be, then `OutOfMemory`. The sources are as they were.
     pub fn idle(
         &mut self,
         program: ProgramId,
@@ -78,6 +82,10 @@ impl Context {
     /// Attaches a timeout, which is due one interval (in milliseconds) after the latest moment, the moment 0 before any.
     ///
     /// It is refused as `idle` is. An error changes nothing.
+    ///
+    /// # Errors
+    ///
+    /// `SourceLimit` where as many sources are attached as may be, then `OutOfMemory`. The sources are as they were.
     pub fn timeout(
         &mut self,
         program: ProgramId,
@@ -129,6 +137,10 @@ impl Context {
     /// becomes ready later is not looked at again. They are at most 256.
     ///
     /// `ClockBack` where the moment is before the latest one, then `OutOfMemory`. An error changes nothing.
+    ///
+    /// # Errors
+    ///
+    /// `ClockBack` if the moment is before the latest one, then `OutOfMemory`.
     pub fn iteration(&mut self, moment: u64) -> Result<Batch, TurnError>
         ensures ready { IfOk result
             (λ batch. batch ≡ map (λ s. s.number) (ready moment self.old.sources)) }

@@ -46,14 +46,14 @@ pub(crate) fn reschedule(sources: &mut [Source], number: u64, moment: u64)
     }
 }
 
-// Where the source of the number stands.
+// Where the source of the number is.
 fn index_of(sources: &[Source], number: u64) -> Option<usize>
     ensures { result ≡ position (is_numbered number) sources.now }
 {
     sources.iter().position(|source| source.has_number(number))
 }
 
-// Where the first source of the program stands.
+// Where the first source of the program is.
 fn index_of_program(sources: &[Source], program: ProgramId) -> Option<usize>
     ensures { result ≡ position (runs_program program) sources.now }
 {

@@ -1,4 +1,4 @@
--- Where no two entries of a list have one name, an entry's name is found where it stands, and not before.
+-- Where no two entries of a list have one name, an entry's name is found where it is, and not before.
 use Rattle.std.proofs.Common.{◌≡◌, refl, ap, sym, ◌∙◌, ℕ, zero, suc, ◌+◌, Bool, true, false, cond, not, ◌&&◌, ◌||◌, List, [], ◌∷◌, map, take, None, Some, arith}
 use Rattle.std.specs.List.{list_any}
 use Rattle.std.specs.Prelude.{slice_get}

@@ -22,7 +22,7 @@ none_left (x ∷ xs) (suc n) behind = none_left xs n (omega (arith, behind))
 
 -- ** one after the other
 
--- one more is added
+-- one more number is added
 pub adds_on : (f : ℕ → ℕ) (nodes : List ℕ) (n most so_far : ℕ) → n < length nodes →
     min (so_far + total f (drop n nodes)) most ≡ min (total f nodes) most →
     min (min most (so_far + f (slice_index_or nodes n 0)) + total f (drop (n + 1) nodes)) most ≡ min (total f nodes) most
@@ -36,7 +36,7 @@ adds_all f nodes n most so_far behind within is =
     let e : total f (drop n nodes) ≡ 0 = ap (total f) (none_left nodes n behind) in
     omega (arith, is, e, within)
 
--- one more is looked at
+-- one more number is looked at
 pub looks_on : (f : ℕ → ℕ) (nodes : List ℕ) (n so_far : ℕ) → n < length nodes →
     max so_far (greatest f (drop n nodes)) ≡ greatest f nodes →
     max (max (f (slice_index_or nodes n 0)) so_far) (greatest f (drop (n + 1) nodes)) ≡ greatest f nodes

@@ -8,7 +8,7 @@ ghost use Rattle.node_numbers.specs.Numbers.{LeadInside};
 use dependency_order::Dependencies;
 use std::alloc::{AllocError, Global};
 
-// Some nodes have this number at least.
+// Raises the numbers of some nodes to this one, where they are less.
 fn hand_on(ranks: &mut Vec<u64>, nodes: &[u32], number: u64)
     requires { LeadInside nodes.now ranks.old.items }
     ensures { ranks.new.items ≡ handed_on nodes.now number ranks.old.items }
@@ -19,14 +19,14 @@ fn hand_on(ranks: &mut Vec<u64>, nodes: &[u32], number: u64)
     }
 }
 
-// As many zeros as this.
+// A list of `count` zeros.
 fn zeros(alloc: Global, count: usize) -> Result<Vec<u64>, AllocError>
     ensures { IfOk result (λ zeros. zeros.items ≡ replicate count 0) }
 {
     Ok(vec![in alloc; 0; count]?)
 }
 
-// 1 for a node that counts.
+// 1 for a node that counts, else 0.
 fn one_if(counts: &[bool], node: usize) -> u64
     requires { node < length counts.now }
     ensures { result ≡ one_if (slice_index_or counts.now node false) }

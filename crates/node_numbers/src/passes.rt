@@ -8,7 +8,7 @@ use crate::rules::Rule;
 use dependency_order::Dependencies;
 use std::alloc::{AllocError, Global};
 
-// The sum of the numbers of some nodes, or the most where it is more.
+// The sum of the numbers of some nodes, capped at `most`.
 fn total(values: &[u64], nodes: &[u32], most: u64) -> u64
     requires inside { LeadInside nodes.now values.now }
     requires within { AreWithin values.now most }
@@ -23,7 +23,7 @@ fn total(values: &[u64], nodes: &[u32], most: u64) -> u64
     total
 }
 
-// The greatest of the numbers of some nodes, 0 of none.
+// The greatest of the numbers of some nodes, 0 where there are none.
 fn greatest(values: &[u64], nodes: &[u32]) -> u64
     requires { LeadInside nodes.now values.now }
     ensures { result ≡ greatest (of_node values.now) nodes.now }
@@ -36,7 +36,7 @@ fn greatest(values: &[u64], nodes: &[u32]) -> u64
     greatest
 }
 
-// What a rule counts of the numbers of some nodes, or the most where it is more.
+// What a rule counts of the numbers of some nodes: their sum or the greatest of them, capped at `most`.
 fn counted(adds: bool, values: &[u64], nodes: &[u32], most: u64) -> u64
     requires inside { LeadInside nodes.now values.now }
     requires within { AreWithin values.now most }
@@ -49,7 +49,7 @@ fn counted(adds: bool, values: &[u64], nodes: &[u32], most: u64) -> u64
     greatest(values, nodes).min(most)
 }
 
-// The number of a node that depends on these, by its rule.
+// The number by its rule of a node that depends on these, capped at `most`.
 fn number_of(rule: &Rule, values: &[u64], nodes: &[u32], most: u64) -> u64
     requires inside { LeadInside nodes.now values.now }
     requires within { AreWithin values.now most }

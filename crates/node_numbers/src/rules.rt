@@ -1,6 +1,6 @@
-//! How the number of a node comes of others.
+//! How the number of a node results from others.
 
-/// How the number of a node comes of those of the nodes that it depends on.
+/// How the number of a node results from those of the nodes that it depends on.
 #[derive(Clone, Copy, Debug, PartialEq, Eq)]
 pub struct Rule {
     /// Whether these are added. Else the greatest counts.

@@ -1,4 +1,4 @@
--- What a queue of notifications stands for.
+-- What a queue of notifications denotes.
 use Rattle.std.specs.Prelude.{ℕ, List}
 
 -- how often the object is frozen, and the slots that wait, each once, in order of first queueing

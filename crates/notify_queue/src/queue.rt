@@ -76,6 +76,10 @@ impl NotifyQueue {
     }
 
     /// Queues the notification of a slot, unless it waits already.
+    ///
+    /// # Errors
+    ///
+    /// `AllocError` if memory is refused. Nothing has changed then.
     pub fn add(&mut self, slot: Slot) -> Result<(), AllocError>
         ensures ok { OnOk result (self.new ≡ record self.old { queue = queued self.old.queue slot }) }
         ensures err { OnErr result (self.new ≡ self.old) }

@@ -19,7 +19,7 @@ suc_suc : (u i : ℕ) → nat_eq u i ≡ nat_eq (suc u) (suc i)
 suc_suc u i = grind (arith, nat_tests)
 
 module _ {V : Type 0} (items : V → List Spec) where
-  -- at the place that is written stands one spec more
+  -- at the place that is written is one spec more
   pub AddsSpec-set : (xs : List V) (i : ℕ) (w d : V) (s : Spec) → i < length xs → items w ≡ items (get_or xs i d) ++ s ∷ []
       → AddsSpec (lists_of items xs) (lists_of items (slice_set xs i w)) i (spec_view s)
   AddsSpec-set [] i w d s h e u = absurd (omega arith)

@@ -1,4 +1,4 @@
--- The specs of a type beside the names under which they stand.
+-- The specs of a type beside the names under which they are.
 use Rattle.std.proofs.Common.{◌≡◌, ℕ, suc, ◌+◌, Bool, true, false, cond, not, nat_eq, ◌&&◌, List, [], ◌∷◌, ◌++◌, map, Option, None, Some, position, String, Global, string_eq, string_bytes, if◌then◌else◌, refl, sym, ap, ◌∙◌, add-one, arith}
 use Rattle.std.proofs.Math.Path.{fun_ext}
 use Rattle.std.specs.List.{list_all, position_from}

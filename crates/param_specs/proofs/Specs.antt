@@ -18,7 +18,7 @@ use Rattle.type_tree.specs.Tree.{IsTree}
 use Rattle.type_tree.proofs.Lines.{line_from-parent, line_from-root}
 use Rattle.param_specs.specs.Table.{own_of, specs_of, slot_named}
 
--- what stands at i, where a list was mapped
+-- what is at i, where a list was mapped
 pub read-map : {A B : Type 0} (f : A → B) (d : B) (e : A) (xs : List A) (i : ℕ) → i < length xs → read d (map f xs) i ≡ f (get_or xs i e)
 read-map f d e [] i h = absurd (omega arith)
 read-map f d e (x ∷ xs) zero h = refl
@@ -80,7 +80,7 @@ place_from-shift n i (y ∷ ys) name =
     by true = refl
     by false = refl
 
--- where specs of these names stand, as a place in the pure specs
+-- where specs of these names are, as a place in the pure specs
 pub slot-position : (specs : List Entry.Spec) (name : List ℕ) (r : Option ℕ) (own : List Spec) → map spec_view specs ≡ own
     → r ≡ position (λ s. same_name (string_bytes s.name) (canonical name)) specs → r ≡ slot_named own name
 slot-position specs name r own m h =

@@ -66,7 +66,7 @@ AddsSpec old new t spec = (u : ℕ) → own_of new u ≡ (if nat_eq u t then own
 abbrev pub SameSpecs : List (List Spec) → List (List Spec) → Type 0
 SameSpecs old new = (u : ℕ) → own_of new u ≡ own_of old u
 
--- An installed spec stands last and its slot is answered. Without memory nothing is installed, though nothing forbids it; a fault is answered
+-- An installed spec comes last and its slot is answered. Without memory nothing is installed, though nothing forbids it; a fault is answered
 -- and nothing is installed.
 abbrev pub Installs : Result ℕ SpecError → Option SpecFault → List Spec → ℕ → Spec → List (List Spec) → List (List Spec) → Type 0
 Installs (Ok slot) fault specs t spec old new = (fault ≡ None) × (slot ≡ length specs) × AddsSpec old new t (canonical_spec spec)

@@ -1,4 +1,4 @@
--- What a spec stands for.
+-- What a spec denotes.
 use Rattle.std.specs.Prelude.{◌≡◌, List, [], ◌∷◌, map, Option, None, Some, String, string_bytes}
 use Rattle.std.specs.Global.{Global}
 use Rattle.ui_machine.specs.Definition.Properties as properties
@@ -32,7 +32,7 @@ abbrev pub entries_or_none : Option (List Entry) → List Entry
 entries_or_none None = []
 entries_or_none (Some es) = es
 
--- each spec stands under its own name
+-- each spec is under its own name
 abbrev pub AreNamed : List Entry → Type 0
 AreNamed [] = Unit {0}
 AreNamed (e ∷ es) = (string_bytes e.0 ≡ string_bytes (e.1).name) × AreNamed es

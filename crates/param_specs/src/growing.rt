@@ -10,6 +10,10 @@ use indexmap::IndexMap;
 use std::alloc::{AllocError, Global};
 
 /// Makes room for a list at each place below the length: empty lists are added, which changes no list that is read.
+///
+/// # Errors
+///
+/// `AllocError` if memory is refused.
 pub fn grow(
     alloc: Global,
     lists: &mut Vec<IndexMap<String, Spec>>,
@@ -26,6 +30,10 @@ pub fn grow(
 }
 
 /// Adds a spec to one of the lists, under its name, which none of the list has.
+///
+/// # Errors
+///
+/// `AllocError` if memory is refused.
 pub fn add(
     lists: &mut Vec<IndexMap<String, Spec>>,
     at: usize,

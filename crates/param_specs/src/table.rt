@@ -23,7 +23,7 @@ use ui_machine::Slot;
 /// The most properties of a type, with the inherited ones.
 pub const MOST_PROPERTIES: usize = 64;
 
-/// The properties of each type's own, by their canonical names. Those of its ancestors stand before them: a type's slots are numbered from the
+/// The properties of each type's own, by their canonical names. Those of its ancestors come before them: a type's slots are numbered from the
 /// root down. A contract sees the list of the types' own lists.
 #[derive(Drop)]
 pub struct SpecTable {
@@ -196,6 +196,10 @@ impl SpecTable {
 
     /// Adds a property to a type, under its canonical name, and answers its slot. The name is tested first, then whether the type has it already, its
     /// own or inherited, the flags, the range, the default, and room.
+    ///
+    /// # Errors
+    ///
+    /// The first cause, in this order, or want of memory. The properties are as they were.
     pub fn install(&mut self, tree: &TypeTree, t: TypeId, spec: Spec) -> Result<Slot, SpecError>
         requires { IsKnown tree.now spec.kind }
         ensures { let specs = specs_of tree.now self.old t in
@@ -229,7 +233,7 @@ impl SpecTable {
     }
 }
 
-// Where a property stands, by any spelling of its name. One in the canonical spelling is not searched for.
+// Where a property is, by any spelling of its name. One in the canonical spelling is not searched for.
 fn position_of(own: &IndexMap<String, Spec>, name: &str) -> Option<usize>
     requires { AreNamed own.now.entries }
     ensures place { result ≡ slot_named (map spec_view (specs_in own.now.entries)) name.now }

@@ -230,7 +230,7 @@ fn corrected_object(tree: &TypeTree, spec: &Spec, t: TypeId, id: ObjectId) -> Op
     }
 }
 
-/// Whether the default of a spec may stand in the property; an object's default is null.
+/// Whether the default of a spec may be in the property; an object's default is null.
 pub fn is_valid_default(tree: &TypeTree, spec: &Spec) -> bool
     requires { IsKnown tree.now spec.now.kind }
     ensures { result ≡ is_valid (λ id. None) tree.now (spec_view spec.now) (value_view spec.now.default) }

@@ -1,4 +1,4 @@
--- Entries of a map that are seen as something with a name: where the entry of a name stands, and one more of them.
+-- Entries of a map that are seen as something with a name: where the entry of a name is, and one more of them.
 use Rattle.std.proofs.Common.{◌≡◌, ℕ, suc, Bool, true, false, cond, nat_eq, ◌&&◌, List, [], ◌∷◌, ◌++◌, map, Option, None, Some, position, String, Global, string_eq, string_bytes, if◌then◌else◌, refl, sym, ap, ◌∙◌, add-one, arith}
 use Rattle.std.specs.List.{AllByRecursion, position_from}
 use Rattle.std.specs.Map.{keys_of}

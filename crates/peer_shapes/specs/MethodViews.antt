@@ -16,7 +16,7 @@ method_view m = record { name = string_bytes m.name; params = map kind_view m.pa
 abbrev pub lent_view : MethodRef → machine.Method
 lent_view m = record { name = m.name.now; params = map kind_view m.params.now; result = kind_view m.result }
 
--- the method of a name and what stands under it
+-- the method of a name and what is under it
 abbrev pub signed : String Global × Signature → machine.Method
 signed e = record { name = string_bytes e.0; params = map kind_view e.1.params.items; result = kind_view e.1.result }
 

@@ -43,6 +43,10 @@ pub struct Connects {
 
 impl Connects {
     /// No groups.
+    ///
+    /// # Errors
+    ///
+    /// `AllocError` if memory is refused.
     pub fn new(alloc: Global, lookups: &Lookups<'_>) -> Result<Connects, AllocError>
         ensures { IfOk result (λ x. AreConnected lookups.now x []) }
     {

@@ -1,4 +1,4 @@
--- Once a turn is taken, what stood behind it is to come.
+-- Once a turn is taken, what was behind it is to come.
 use Rattle.std.proofs.Common.{◌≡◌, ◌∙◌, refl, sym, ap, subst, ℕ, ◌<◌, ◌≤◌, ◌++◌, ◌&&◌, Bool, true, false, cond, not, map, nat_eq, nat_le, nat_lt, List, [], ◌∷◌, Option, None, Some, arith}
 use Rattle.std.specs.List.{filter, find}
 use Rattle.std.proofs.lemmas.Bool.{and_parts, le-ltb, lt-ltb, ltb-true}
@@ -45,7 +45,7 @@ module _ (w : Walk) (after : Bool) where
     drop_past number h hs up =
         ap (λ b. map (of_handler stage) (cond b (h ∷ filter (is_ahead w number after) hs) (filter (is_ahead w number after) hs)) ++ rest) (past number h up)
 
-    -- the handler whose turn it is is found: what stands behind it is what is after its number
+    -- the handler whose turn it is is found: what comes after it is what is after its number
     found_goes : (above : ℕ) (hs : List Handler) (last : ℕ) (h : Handler) → Numbered above hs last → find (has_next_turn w given after) hs ≡ Some h →
         after_next (behind given hs) ≡ behind h.number hs
     found_goes above [] last h n e = absurd (cc)
@@ -98,7 +98,7 @@ module _ (w : Walk) (after : Bool) where
         by false e rec = rec e
         by true e rec = blocks (nat_lt 0 x.blocks) e rec
 
--- what is to come once a step is taken stands behind it
+-- what is to come once a step is taken comes after it
 abbrev Goes : Walk → List Handler → List Due → Type 0
 Goes w hs dues = (step : Step) → first_step dues ≡ Some step → turns_from step.then_at w hs ≡ after_next dues
 

@@ -18,7 +18,7 @@ ancestors_come_first types tree signals t p h =
       whole = ap (λ l. notify ∷ l) (rest.1 ∙ ap (λ l. l ++ rest.0) (until_child types signals tree t p h));
     }
 
--- ** numbers that stand in a list
+-- ** numbers that are in a list
 
 stands_beside : (a x : ℕ) (ys : List ℕ) → nat_eq a x ≡ false → list_any (nat_eq a) ys ≡ true → list_any (nat_eq a) (filter (λ y. not (nat_eq x y)) ys) ≡ true
 stands_beside a x [] apart h = h

@@ -21,7 +21,7 @@ suc_suc : (u i : ℕ) → nat_eq u i ≡ nat_eq (suc u) (suc i)
 suc_suc u i = grind (arith, nat_tests)
 
 module _ {V T : Type 0} (items : V → List T) where
-  -- at the place that is written stands one item more
+  -- at the place that is written is one item more
   pub AddsItem-set : (xs : List V) (i : ℕ) (w d : V) (x : T) → i < length xs → items w ≡ items (get_or xs i d) ++ x ∷ [] → AddsItem items xs (slice_set xs i w) i x
   AddsItem-set [] i w d x h e u = absurd (omega arith)
   AddsItem-set (v ∷ xs) zero w d x h e zero = e

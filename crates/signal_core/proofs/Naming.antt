@@ -60,6 +60,6 @@ module _ (old new : List (List ClassHandler)) (t : ℕ) (name : List ℕ) (progr
   pub names-renamed : is_some (handler_in (named_of old t) name) ≡ true → RenamesHandlers old new t name program → Names old new t name program
   names-renamed there renames u = renames u ∙ named-as true there u (nat_eq u t) refl
 
-  -- and a new one stands last
+  -- and a new one comes last
   pub names-added : is_some (handler_in (named_of old t) name) ≡ false → AddsHandler old new t (record { signal = name; program = program }) → Names old new t name program
   names-added none adds u = adds u ∙ named-as false none u (nat_eq u t) refl

@@ -1,4 +1,4 @@
--- Lists in which each number stands once, where it comes first.
+-- Lists in which each number occurs once, where it comes first.
 use Rattle.std.proofs.Common.{◌≡◌, ◌∙◌, ℕ, zero, suc, ◌+◌, ◌*◌, ◌<◌, ◌≤◌, Bool, true, false, cond, not, ◌||◌, nat_eq, List, [], ◌∷◌, ◌++◌, length, length-append, refl, sym, ap, arith, ◌⊎◌, inl, inr}
 use Rattle.std.specs.List.{filter, flat_map, list_any}
 use Rattle.std.proofs.lemmas.Bool.{cases_lt}
@@ -23,7 +23,7 @@ filter_last x s false = ap (λ b. cond (not b) (s ∷ []) []) (nat_eq-comm x s) 
     by true = refl
     by false = refl
 
--- one more stands last, if it does not stand there already
+-- one more comes last, if it is not there already
 pub each_once-more : (xs : List ℕ) (s : ℕ) → each_once (xs ++ s ∷ []) ≡ each_once xs ++ cond (list_any (nat_eq s) xs) [] (s ∷ [])
 each_once-more [] s = refl
 each_once-more (x ∷ xs) s =

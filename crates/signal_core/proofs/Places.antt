@@ -1,4 +1,4 @@
--- Where a name stands in a list, searched part after part.
+-- Where a name is in a list, searched part after part.
 use Rattle.std.proofs.Common.{◌≡◌, ◌∙◌, ℕ, zero, suc, ◌+◌, ◌<◌, ◌≤◌, ◌-◌, Bool, true, false, cond, List, [], ◌∷◌, ◌++◌, length, map, None, Some, option_map, position, slice_get, string_bytes, refl, sym, ap, arith, add-one}
 use Rattle.std.specs.List.{position_from}
 use Rattle.std.proofs.lemmas.Iterator.Adapters.{position_from-zero}
@@ -54,11 +54,11 @@ module _ {A : Type 0} (name_of : A → List ℕ) (name : List ℕ) where
   pub place_within : (xs : List A) (place : ℕ) → place_named name_of xs name ≡ Some place → place < length xs
   place_within xs place h = omega (arith, within 0 place xs h)
 
-  -- what a first part has stays where it stands
+  -- what a first part has stays where it is
   pub place_front : (xs ys : List A) (place : ℕ) → place_named name_of xs name ≡ Some place → place_named name_of (xs ++ ys) name ≡ Some place
   place_front xs ys place h = front 0 place xs ys h
 
-  -- what only the second part has stands behind the first
+  -- what only the second part has comes after the first
   pub place_back : (xs ys : List A) → place_named name_of xs name ≡ None
       → place_named name_of (xs ++ ys) name ≡ option_map (λ k. length xs + k) (place_named name_of ys name)
   place_back xs ys h = back 0 xs ys h ∙ shift (length xs) 0 ys

@@ -16,9 +16,9 @@ use Rattle.signal_core.specs.declared.turn.Turn.TheVariants as turns
 use Rattle.signal_core.proofs.GoingOn.{turns_go_on}
 use Rattle.signal_core.proofs.Numbers.{numbered_lower}
 
--- ** handlers that stand
+-- ** handlers that are connected
 
--- each of these stands under its number
+-- each of these is under its number
 abbrev AllStand : List Handler → List Handler → Type 0
 AllStand hs [] = Unit {0}
 AllStand hs (x ∷ xs) = (handler_of x.number hs ≡ Some x) × AllStand hs xs

@@ -169,7 +169,7 @@ module _ (types : List GType) (signals : List (List Signal)) where
       ap (λ l. flat_map (own_of signals) (each_once (brought_above types t ++ l))) (take-all (brought_by types t))
       ∙ ap (λ l. flat_map (own_of signals) (each_once l)) (sym (all_brought t))
 
-  -- what a walk has come by stands first among all
+  -- what a walk has come by comes first among all
   pub until_first : (t count : ℕ) → (more : List Signal) × (declared_of types signals t ≡ declared_until types signals t count ++ more)
   unfolding declared_until declared_of sources_of
   until_first t count =

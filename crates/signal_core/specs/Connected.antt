@@ -1,4 +1,4 @@
--- What a list of handlers stands for, and what its calls do.
+-- What a list of handlers denotes, and what its calls do.
 use Rattle.std.specs.List.{filter}
 use Rattle.std.specs.Prelude.{Bool, List, [], cond, count_by, map, nat_lt, not, option_map, string_bytes, suc, ℕ, ◌&&◌, ◌+◌, ◌++◌, ◌-◌, ◌<◌, ◌≤◌, ◌∷◌}
 use Rattle.ui_machine.specs.Rules.Connections.{blocked, by_code_to, greatest_handler, is_on, new_handler, unblocked}

@@ -53,12 +53,12 @@ PlanIsWalked = (w : World) (accumulator : Option Accumulator) (p : Planned) → 
 
 -- ** as it goes on
 
--- what stands behind the first turn that is not passed over
+-- what comes after the first turn that is not passed over
 abbrev pub after_next : List Due → List Due
 after_next [] = []
 after_next (d ∷ dues) = cond d.is_blocked (after_next dues) dues
 
--- once a turn is taken, what stood behind it is to come
+-- once a turn is taken, what was behind it is to come
 abbrev pub TurnsGoOn : Type 0
 TurnsGoOn = (w : Walk) (hs : List Handler) (last : ℕ) → Numbered 0 hs last → (step : Step) → next_step w hs ≡ Some step →
     to_come (record w { stage = step.then_at }) hs ≡ after_next (to_come w hs)
@@ -79,7 +79,7 @@ entries_left hs (transfer number back ∷ entries) = transfer number back ∷ en
 
 -- ** where there are no bindings
 
--- the turn and the entry of a handler that stands and is not blocked
+-- the turn and the entry of a handler that is connected and is not blocked
 pub record OfHandler (hs : List Handler) (turn : Turn) (entry : PlanEntry) : Type 0 where
   pub from : Handler
   pub stands : handler_of from.number hs ≡ Some from
@@ -99,7 +99,7 @@ IsToldBy None new hs entries = entries ≡ []
 IsToldBy (Some turn) new hs entries =
     (entry : PlanEntry) × (entries ≡ entry ∷ flat_map (entries_of []) (to_come new hs)) × IsEntry hs turn new.stage entry
 
--- what the next turn of a program tells of the entries
+-- what the next turn of a program says of the entries
 abbrev pub TurnsTell : Type 0
 TurnsTell = (w : Walk) (hs : List Handler) (last : ℕ) → Numbered 0 hs last →
     IsToldBy (program_turn w hs) (after_program w hs) hs (entries_left hs (flat_map (entries_of []) (to_come w hs)))

@@ -1,4 +1,4 @@
--- What a signal stands for.
+-- What a signal denotes.
 use Rattle.std.specs.Prelude.{List, map, option_map, string_bytes}
 use Rattle.ui_machine.specs.Definition.Signals as machine
 use Rattle.g_values.specs.View.{kind_view}

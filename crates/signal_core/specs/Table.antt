@@ -80,7 +80,7 @@ AddsSignal old new t s = (u : ℕ) → own_of new u ≡ (if nat_eq u t then own_
 abbrev pub SameSignals : List (List Signal) → List (List Signal) → Type 0
 SameSignals old new = (u : ℕ) → own_of new u ≡ own_of old u
 
--- A declared signal stands last among its type's own, and no class handler changes. Without memory nothing is declared, though nothing
+-- A declared signal comes last among its type's own, and no class handler changes. Without memory nothing is declared, though nothing
 -- forbids it; a fault is answered and nothing is declared.
 abbrev pub Declares : Result (Unit {0}) SignalError → Option SignalFault → ℕ → Signal → Declared → Declared → Type 0
 Declares (Ok done) fault t s old new =

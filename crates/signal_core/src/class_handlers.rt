@@ -19,6 +19,10 @@ use ui_machine::{ProgramId, SignalId};
 impl SignalTable {
     /// Names the program that a class runs for a signal of a number, in place of the one that it named before (GObject manual, Signals:
     /// `g_signal_override_class_handler`). An error changes nothing.
+    ///
+    /// # Errors
+    ///
+    /// `AllocError` if memory is refused.
     pub fn set_class_handler(
         &mut self,
         tree: &TypeTree,
@@ -45,6 +49,10 @@ impl SignalTable {
 
     /// Adds a class handler behind those that a class names itself. The signal goes by any spelling of its name, and need not be one of the
     /// class's. An error changes nothing.
+    ///
+    /// # Errors
+    ///
+    /// `AllocError` if memory is refused.
     pub fn add_class_handler(
         &mut self,
         t: TypeId,

@@ -75,7 +75,7 @@ impl Handler {
         self.connection.after
     }
 
-    /// The detail as it stands at the signal.
+    /// The detail as it is at the signal.
     pub(crate) fn detail(&self) -> &Option<String>
         ensures { option_map (λ d. string_bytes d) result.now ≡ self.now.detail }
     {

@@ -9,7 +9,7 @@ pub struct Connection {
     pub object: ObjectId,
     /// The signal, by its number in the list of the object's class; 0 is `notify`.
     pub signal: SignalId,
-    /// The detail as it stands at the signal. At `notify` it is a property's canonical name.
+    /// The detail as it is at the signal. At `notify` it is a property's canonical name.
     pub detail: Option<String>,
     /// The program that it runs.
     pub program: ProgramId,

@@ -16,10 +16,14 @@ use g_values::Kind;
 use type_tree::{TypeId, TypeTree, canonical_name, is_property_name};
 
 impl SignalTable {
-    /// Declares a signal for a type of the tree, under its canonical name. It stands last among the type's own.
+    /// Declares a signal for a type of the tree, under its canonical name. It comes last among the type's own.
     ///
-    /// The name is tested first, then whether the type has it already, the accumulator, and room. The first that fails is told. Then
+    /// The name is tested first, then whether the type has it already, the accumulator, and room. The first that fails is reported. Then
     /// `OutOfMemory`. An error changes nothing.
+    ///
+    /// # Errors
+    ///
+    /// The first cause, in this order, or want of memory. The signals are as they were.
     pub fn declare(&mut self, tree: &TypeTree, t: TypeId, signal: Signal) -> Result<(), SignalError>
         requires { t < length tree.now }
         ensures { let s = signal_view signal in

@@ -10,7 +10,7 @@ use g_values::Value;
 use ui_machine::{ObjectId, ProgramId, SignalId};
 
 /// How the results of an emission's programs are put together (GObject manual, Signals: GSignalAccumulator). Without an accumulator the last
-/// one stands.
+/// one counts.
 #[derive(Clone, Copy, Debug, PartialEq, Eq)]
 pub enum Accumulator {
     /// The last one, and the emission stops at the first that is TRUE (`g_signal_accumulator_true_handled`).

@@ -65,6 +65,10 @@ impl Handlers {
     /// `HandlerLimit` where bytecode has connected as many as it may to the signal of the object, or where no number is left for it; for the
     /// builder only where 2^64 - 1 numbers are used up, and so never while some of its handlers are to come. Then `OutOfMemory`. An error
     /// changes nothing.
+    ///
+    /// # Errors
+    ///
+    /// `HandlerLimit` where as many are connected as may be, then `OutOfMemory`. The handlers are as they were.
     pub fn connect(&mut self, connection: Connection) -> Result<u64, ConnectError>
         ensures ok { OnOk result (self.new ≡ with_connection self.old (connection_of connection)) }
         ensures number { IfOk result (λ number. number ≡ self.old.last + 1) }

@@ -9,7 +9,7 @@
 //! sees the machine's list of handlers, with the number of the last one connected.
 //!
 //! An emission is a [`Cursor`]: it goes from turn to turn without a list of them, by the numbers of the handlers. A contract sees it as a
-//! walk, whose turns still to come are taken from the handlers as they stand.
+//! walk, whose turns still to come are taken from the handlers as they are.
 #![tactic(auto)]
 
 mod beginning;

@@ -13,7 +13,7 @@ pub struct Signal {
     /// The kind of its result, if it has one.
     pub result: Option<Kind>,
     pub flags: SignalFlags,
-    /// How the results of an emission are put together. Without one the last stands.
+    /// How the results of an emission are put together. Without one the last one counts.
     pub accumulator: Option<Accumulator>,
 }
 
@@ -27,6 +27,6 @@ pub struct DeclaredSignal<'a> {
     /// The kind of its result, if it has one.
     pub result: Option<Kind>,
     pub flags: SignalFlags,
-    /// How the results of an emission are put together. Without one the last stands.
+    /// How the results of an emission are put together. Without one the last one counts.
     pub accumulator: Option<Accumulator>,
 }

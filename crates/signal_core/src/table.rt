@@ -152,7 +152,7 @@ impl SignalTable {
         }
     }
 
-    // Where a name stands among the signals of a type that were declared, or how many they are.
+    // Where a name is among the signals of a type that were declared, or how many they are.
     fn place(&self, tree: &TypeTree, t: TypeId, name: &str) -> Result<usize, usize>
         ensures found { IfOk result (λ place. place_named (λ s. s.name) (declared_of tree.now self.now.signals t) (canonical name.now) ≡ Some place) }
         ensures none { IfErr result (λ count. place_named (λ s. s.name) (declared_of tree.now self.now.signals t) (canonical name.now) ≡ None) }
@@ -227,7 +227,7 @@ impl SignalTable {
         }
     }
 
-    // The same, where the ancestors bring so many signals, none of which stands there, and what they bring is marked. What the type brings is
+    // The same, where the ancestors bring so many signals, none of which is there, and what they bring is marked. What the type brings is
     // marked then.
     fn signal_added(
         &self,
@@ -338,7 +338,7 @@ fn declared(signal: &Signal) -> DeclaredSignal<'_>
     }
 }
 
-// Where a name stands among signals, in any spelling.
+// Where a name is among signals, in any spelling.
 fn position_of(signals: &[Signal], name: &str) -> Option<usize>
     ensures place { result ≡ position (λ s. same_name (string_bytes s.name) (canonical name.now)) signals.now }
     ensures within { IfSome result (λ place. place < length signals.now) }

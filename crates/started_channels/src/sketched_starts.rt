@@ -25,6 +25,10 @@ pub struct SketchedStarts {
 
 impl SketchedStarts {
     /// No starts but that of what starts nothing, which has the number 0.
+    ///
+    /// # Errors
+    ///
+    /// `AllocError` if memory is refused.
     pub fn new(
         alloc: Global,
         lookups: &Lookups<'_>,

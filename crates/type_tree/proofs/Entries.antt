@@ -14,25 +14,25 @@ use Rattle.type_tree.specs.Tree.{IsTree}
 
 -- ** lists
 
--- past the end stands the default
+-- past the end is the default
 pub read-past : {A : Type 0} (d : A) (xs : List A) (i : ℕ) → length xs ≤ i → read d xs i ≡ d
 read-past d [] i h = refl
 read-past d (x ∷ xs) zero h = absurd (omega arith)
 read-past d (x ∷ xs) (suc i) h = read-past d xs i (omega arith)
 
--- what stands at i is read there
+-- what is at i is read there
 pub read-slice_get : {A : Type 0} (d : A) (xs : List A) (i : ℕ) (x : A) → slice_get xs i ≡ Some x → read d xs i ≡ x
 read-slice_get d [] i x h = cc
 read-slice_get d (y ∷ xs) zero x h = cc
 read-slice_get d (y ∷ xs) (suc i) x h = read-slice_get d xs i x h
 
--- in a list that got one more, what stood before stays
+-- in a list that got one more, what was before stays
 pub read-front : {A : Type 0} (d y : A) (xs : List A) (i : ℕ) → i < length xs → read d (xs ++ y ∷ []) i ≡ read d xs i
 read-front d y [] i h = absurd (omega arith)
 read-front d y (x ∷ xs) zero h = refl
 read-front d y (x ∷ xs) (suc i) h = read-front d y xs i (omega arith)
 
--- and the new one stands last
+-- and the new one comes last
 pub read-last : {A : Type 0} (d y : A) (xs : List A) → read d (xs ++ y ∷ []) (length xs) ≡ y
 read-last d y [] = refl
 read-last d y (x ∷ xs) = read-last d y xs
@@ -55,14 +55,14 @@ Some-injective x y h = cc
 type_of_same : {A : Type 0} (x : String A × TypeEntry) (e : TypeEntry) → x.1 ≡ e → typed x ≡ type_of (typed x).name e
 type_of_same x e h = rw (name-type_of (string_bytes x.0) x.1) (ap (type_of (string_bytes x.0)) h)
 
--- what an entry stands for, but for the name
+-- what an entry denotes, but for the name
 pub type_of_entry : {A : Type 0} (es : List (String A × TypeEntry)) (t : ℕ) (k : String A) (e : TypeEntry) → slice_get es t ≡ Some (k, e)
     → read no_type (map typed es) t ≡ type_of (read no_type (map typed es) t).name e
 type_of_entry [] t k e h = cc
 type_of_entry (x ∷ es) zero k e h = type_of_same x e (ap (λ y. y.1) (Some-injective x (k, e) h))
 type_of_entry (x ∷ es) (suc t) k e h = type_of_entry es t k e h
 
--- parents stand before their children
+-- parents come before their children
 pub parent_before : (types : List GType) → IsTree types → (t : ℕ) (o : Option ℕ) → o ≡ parent_of types t → IfSome o (λ p. p < t)
 parent_before types tree t None h = tt
 parent_before types tree t (Some p) h = tree.parents_first t p (sym h)

@@ -7,3 +7,5 @@ pub mod Nicks
 pub mod Dashes
 mod Bits
 mod Numbered
+mod Called
+mod Spelling

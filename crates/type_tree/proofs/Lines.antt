@@ -10,7 +10,7 @@ use Rattle.type_tree.specs.Tree.{IsTree}
 use Rattle.type_tree.proofs.Entries.{read-past, parent_before}
 
 module _ (types : List GType) (tree : IsTree types) where
-  -- where a parent stands
+  -- where a parent is
   below_more : (t n : ℕ) (o : Option ℕ) → IfSome o (λ p. p < t) → t ≤ n → IfSome o (λ p. p < n)
   below_more t n None h l = tt
   below_more t n (Some p) h l = omega (arith, h)

@@ -1,5 +1,5 @@
 -- The nick of a member, found one after the other.
-use Rattle.std.proofs.Common.{◌≡◌, ℕ, suc, ◌+◌, ◌<◌, ◌≤◌, List, [], ◌∷◌, length, drop, get_or, map, cond, Bool, true, false, ℤ, pos, negsuc, FitsSigned, to_z, of_z, w32, string_bytes, subst, refl, sym, ap, ◌∙◌, arith, add-one}
+use Rattle.std.proofs.Common.{◌≡◌, ℕ, suc, ◌+◌, ◌<◌, ◌≤◌, List, [], ◌∷◌, length, drop, get_or, map, cond, true, false, ℤ, pos, negsuc, FitsSigned, to_z, of_z, w32, string_bytes, subst, refl, sym, ap, ◌∙◌, arith, add-one}
 use Rattle.std.specs.Ordering.{int_eq}
 use Rattle.std.proofs.Math.Seq.{drop-cons}
 use Rattle.std.proofs.lemmas.List.{nil_from_length, length-drop}

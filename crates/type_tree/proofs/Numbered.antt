@@ -1,16 +1,15 @@
 -- The first member of an enum with a number.
 use Rattle.std.proofs.Common.{◌≡◌, ◌∙◌, ℕ, zero, suc, ◌<◌, ℤ, Bor, Bool, true, false, cond, ◌||◌, List, [], ◌∷◌, length, map, drop, get_or, Option, None, Some, is_some, slice_get, option_and_then, string_bytes, refl, sym, ap, arith}
-use Rattle.std.specs.BTreeMap.{BTreeMap, Updates, get, is_at}
+use Rattle.std.specs.BTreeMap.{BTreeMap, Updates}
 use Rattle.std.specs.List.{find}
 use Rattle.std.specs.Option.{option_copied, option_map_or}
 use Rattle.std.specs.Ordering.{int_cmp, int_eq}
-use Rattle.std.proofs.Math.Seq.{drop-cons}
 use Rattle.std.proofs.lemmas.Bool.Decides.{Decides-int_eq}
 use Rattle.ui_machine.specs.Output.Text.{nick_of}
 use Rattle.ui_machine.specs.Rules.Transform.{has_number}
 use Rattle.type_tree.specs.declared.member.EnumMember.{EnumMember}
 use Rattle.type_tree.specs.Entry.{enum_member}
-use Rattle.type_tree.specs.Numbered.{ArePlaces, at_place}
+use Rattle.type_tree.specs.Numbered.{at_place}
 
 pub some_copied : {A : Type 0} (o : Option (Bor A)) → is_some o ≡ is_some (option_copied o)
 some_copied None = refl

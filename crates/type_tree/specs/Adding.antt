@@ -156,7 +156,7 @@ new_flags name members = plain_type name sorts.flags [] members
 
 -- ** what adding does
 
--- An added type stands last. Without memory nothing is added, though nothing forbids it; a fault is answered and nothing is added.
+-- An added type comes last. Without memory nothing is added, though nothing forbids it; a fault is answered and nothing is added.
 abbrev pub Adds : Result ℕ TypeError → Option TypeFault → GType → List GType → List GType → Type 0
 Adds (Ok t) fault added old new = (fault ≡ None) × (t ≡ length old) × (new ≡ old ++ added ∷ [])
 Adds (Err OutOfMemory) fault added old new = (fault ≡ None) × (new ≡ old)

@@ -1,4 +1,4 @@
--- What the entries of a tree stand for.
+-- What the entries of a tree denote.
 use Rattle.std.specs.Prelude.{ℕ, false, List, [], map, None, Some}
 use Rattle.ui_machine.specs.Definition.Types.{GType, Member}
 use Rattle.ui_machine.specs.Definition.Types as sorts

@@ -5,3 +5,5 @@ pub mod Entry
 pub mod Tree
 pub mod Adding
 pub mod Numbered
+pub mod Naming
+pub mod Words

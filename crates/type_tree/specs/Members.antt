@@ -1,4 +1,4 @@
--- What members stand for.
+-- What members denote.
 use Rattle.std.specs.Prelude.{pos, string_bytes}
 use Rattle.ui_machine.specs.Definition.Types.{Member}
 use Rattle.type_tree.specs.declared.member.EnumMember.{EnumMember}

@@ -13,7 +13,7 @@ is_letter_or_digit x = is_within 48 57 x || is_letter x
 abbrev pub is_separator : ℕ → Bool
 is_separator x = nat_eq x 45 || nat_eq x 95
 
--- whether what follows a letter or digit is the rest of a name: each separator stands between two letters or digits
+-- whether what follows a letter or digit is the rest of a name: each separator is between two letters or digits
 abbrev pub segments_follow : List ℕ → Bool
 segments_follow [] = true
 segments_follow (x ∷ []) = is_letter_or_digit x

@@ -256,6 +256,10 @@ impl TypeTree {
 
     /// Adds a class under a parent, with the interfaces that it implements. The name is tested first, then whether it is there already,
     /// parent and interfaces, whether the parent is final, what the interfaces require, and room and depth.
+    ///
+    /// # Errors
+    ///
+    /// The first cause as `Refused`, in this order; `OutOfMemory` if memory is refused. The tree is as it was.
     pub fn add_class(
         &mut self,
         name: &str,
@@ -283,6 +287,10 @@ impl TypeTree {
 
     /// Adds an interface, with the classes and interfaces that it requires. The name is tested first, then whether it is there already,
     /// what is required, and room.
+    ///
+    /// # Errors
+    ///
+    /// The first cause as `Refused`, in this order; `OutOfMemory` if memory is refused. The tree is as it was.
     pub fn add_interface(&mut self, name: &str, required: &[&str]) -> Result<TypeId, TypeError>
         ensures { let names = map (λ n. n.now) required.now in
             Adds result (interface_fault self.old name.now names) (new_interface self.old name.now names) self.old self.new }
@@ -295,6 +303,10 @@ impl TypeTree {
     }
 
     /// Adds an enum. The name is tested first, then whether it is there already, and room.
+    ///
+    /// # Errors
+    ///
+    /// The first cause as `Refused`, in this order; `OutOfMemory` if memory is refused. The tree is as it was.
     pub fn add_enum(&mut self, name: &str, members: Vec<EnumMember>) -> Result<TypeId, TypeError>
         ensures { Adds result (members_fault self.old name.now) (new_enum name.now (map enum_member members.items)) self.old self.new }
     {
@@ -306,16 +318,25 @@ impl TypeTree {
     }
 
     /// Adds a flags type. The name is tested first, then whether it is there already, and room.
+    ///
+    /// # Errors
+    ///
+    /// The first cause as `Refused`, in this order; `OutOfMemory` if memory is refused. The tree is as it was.
     pub fn add_flags(&mut self, name: &str, members: Vec<FlagsMember>) -> Result<TypeId, TypeError>
         ensures { Adds result (members_fault self.old name.now) (new_flags name.now (map flags_member members.items)) self.old self.new }
     {
         if let Some(fault) = self.members_fault(name) {
             return Err(TypeError::Refused(fault));
         }
-        self.append(name, TypeEntry::Flags(FlagsMembers::new(members)))
+        let members = FlagsMembers::new(self.allocator(), members)?;
+        self.append(name, TypeEntry::Flags(members))
     }
 
     /// Adds a class whose name and room were tested: under a parent, with the interfaces that it implements.
+    ///
+    /// # Errors
+    ///
+    /// `AllocError` if memory is refused. Nothing has changed then.
     pub fn append_class(
         &mut self,
         name: &str,
@@ -342,6 +363,10 @@ impl TypeTree {
     }
 
     /// Adds an interface whose name and room were tested, with the types that it requires.
+    ///
+    /// # Errors
+    ///
+    /// `AllocError` if memory is refused. Nothing has changed then.
     pub fn append_interface(
         &mut self,
         name: &str,
@@ -360,6 +385,10 @@ impl TypeTree {
     }
 
     /// Adds an enum whose name and room were tested.
+    ///
+    /// # Errors
+    ///
+    /// `AllocError` if memory is refused. Nothing has changed then.
     pub fn append_enum(
         &mut self,
         name: &str,
@@ -379,6 +408,10 @@ impl TypeTree {
     }
 
     /// Adds a flags type whose name and room were tested.
+    ///
+    /// # Errors
+    ///
+    /// `AllocError` if memory is refused. Nothing has changed then.
     pub fn append_flags(
         &mut self,
         name: &str,
@@ -390,13 +423,18 @@ impl TypeTree {
         ensures flags { IfOk result (λ t. t ≡ length self.old) }
         ensures err { OnErr result (self.new ≡ self.old) }
     {
-        let Ok(t) = self.append(name, TypeEntry::Flags(FlagsMembers::new(members))) else {
+        let members = FlagsMembers::new(self.allocator(), members)?;
+        let Ok(t) = self.append(name, TypeEntry::Flags(members)) else {
             return Err(AllocError);
         };
         Ok(t)
     }
 
     /// The tree with `GObject` and its child `GInitiallyUnowned`.
+    ///
+    /// # Errors
+    ///
+    /// `AllocError` if memory is refused.
     pub fn new(alloc: Global) -> Result<Self, AllocError>
         ensures { IfOk result (λ tree. tree ≡ predeclared) }
     {

@@ -1,10 +1,11 @@
 //! What a tree keeps of a type beside its name.
 
-ghost use Rattle.std.specs.Prelude.{◌≡◌, ◌↔◌, ℕ, List, MatchOption, false, map, true, IsTrue};
+ghost use Rattle.std.specs.Prelude.{◌≡◌, ◌↔◌, ℕ, List, MatchOption, false, map, option_map, pos, true, IsTrue};
 ghost use Rattle.ui_machine.specs.Definition.Types.{enum, flags};
 ghost use Rattle.ui_machine.specs.Rules.Ancestry.{implemented};
 ghost use Rattle.ui_machine.specs.Rules.Transform.{has_number, known_bits};
 ghost use Rattle.type_tree.specs.Entry.{type_of, enum_member, flags_member};
+ghost use Rattle.type_tree.specs.Naming.{number_called};
 
 use crate::enum_members::EnumMembers;
 use crate::flags_members::FlagsMembers;
@@ -150,6 +151,30 @@ impl TypeEntry {
             TypeEntry::Class(_) => None,
             TypeEntry::Interface(_) => None,
             TypeEntry::Flags(_) => None,
+        }
+    }
+
+    /// The number of the member of an enum that is called so: by its name, else by its nick.
+    pub fn number_called(&self, word: &str) -> Option<i32>
+        ensures { (name : List ℕ) → (type_of name self.now).sort ≡ enum → result ≡ number_called (type_of name self.now).members word.now }
+    {
+        match self {
+            TypeEntry::Enum(members) => members.number_called(word),
+            TypeEntry::Class(_) => None,
+            TypeEntry::Interface(_) => None,
+            TypeEntry::Flags(_) => None,
+        }
+    }
+
+    /// The bits of the member of a flags type that is called so: by its name, else by its nick.
+    pub fn bits_called(&self, word: &[u8]) -> Option<u32>
+        ensures { (name : List ℕ) → (type_of name self.now).sort ≡ flags → option_map pos result ≡ number_called (type_of name self.now).members word.now }
+    {
+        match self {
+            TypeEntry::Flags(members) => members.bits_called(word),
+            TypeEntry::Class(_) => None,
+            TypeEntry::Interface(_) => None,
+            TypeEntry::Enum(_) => None,
         }
     }
 

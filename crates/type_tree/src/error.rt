@@ -28,7 +28,7 @@ pub enum TypeFault {
     FinalParent,
     /// An interface requires this type, and the class would not be one.
     Prerequisite(TypeId),
-    /// The tree is full, or the class would stand too deep.
+    /// The tree is full, or the class would be too deep.
     Limit(TypeLimit),
 }
 

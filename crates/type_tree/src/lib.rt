@@ -14,6 +14,7 @@ mod name;
 mod nick;
 mod tree;
 mod type_id;
+mod words;
 
 pub use entry::{TypeFlags, TypeSort};
 pub use error::{TypeError, TypeFault, TypeLimit};

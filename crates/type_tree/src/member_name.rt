@@ -23,17 +23,18 @@ pub fn is_property_name(name: &str) -> bool
 fn segments_follow(bytes: &[u8]) -> bool
     ensures { result ≡ segments_follow bytes.now }
 {
-    match bytes {
-        [] => true,
-        [first] => is_letter_or_digit(*first),
-        [first, second, rest @ ..] => {
-            if is_separator(*first) {
-                is_letter_or_digit(*second) && segments_follow(rest)
-            } else {
-                is_letter_or_digit(*first) && segments_follow(&bytes[1..])
-            }
+    let mut left = bytes;
+    'bytes: while let [first, behind @ ..] = left {
+        let [second, rest @ ..] = behind else {
+            return is_letter_or_digit(*first);
+        };
+        let is_between = is_separator(*first);
+        if !is_letter_or_digit(if is_between { *second } else { *first }) {
+            return false;
         }
+        left = if is_between { rest } else { behind };
     }
+    true
 }
 
 // `-` or `_`.
@@ -72,19 +73,22 @@ pub fn is_spelling(stored: &str, name: &str) -> bool
 fn spells(stored: &[u8], name: &[u8]) -> bool
     ensures { result ≡ same_name stored.now (canonical name.now) }
 {
-    match stored {
-        [] => match name {
-            [] => true,
-            [_, ..] => false,
-        },
-        [wanted, rest @ ..] => match name {
-            [] => false,
-            [byte, others @ ..] => *wanted == dashed(*byte) && spells(rest, others),
-        },
+    if stored.len() != name.len() {
+        return false;
     }
+    'bytes: for place in 0..name.len() {
+        if stored[place] != dashed(name[place]) {
+            return false;
+        }
+    }
+    true
 }
 
 /// The canonical spelling of a name, with `-` for `_`.
+///
+/// # Errors
+///
+/// `AllocError` if memory is refused.
 pub fn canonical_name(alloc: Global, name: &str) -> Result<String, AllocError>
     requires { is_property_name name.now ≡ true }
     ensures { IfOk result (λ s. string_bytes s ≡ canonical name.now) }

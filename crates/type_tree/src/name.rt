@@ -14,7 +14,7 @@ pub fn is_type_name(name: &str) -> bool
     }
 }
 
-// Whether all bytes may stand in a type's name.
+// Whether all bytes may be in a type's name.
 fn are_further(bytes: &[u8]) -> bool
     ensures { result ≡ list_all is_further bytes.now }
 {
@@ -28,7 +28,7 @@ fn is_first(byte: u8) -> bool
     matches!(byte, b'a'..=b'z' | b'A'..=b'Z' | b'_')
 }
 
-// Whether a byte may stand in a type's name.
+// Whether a byte may be in a type's name.
 fn is_further(byte: u8) -> bool
     ensures { result ≡ is_further byte }
 {

@@ -1,6 +1,6 @@
-//! The tree, and what it tells of its types.
+//! The tree, and what it says of its types.
 
-ghost use Rattle.std.specs.Prelude.{◌≡◌, ℕ, ◌+◌, ◌<◌, ◌≤◌, List, [], ◌∷◌, ◌++◌, length, map, string_bytes, Option, None, Some, option_map, IsSome, IfSome, IfNone, MatchOption, ◌↔◌, false, nat_eq, true, IsTrue};
+ghost use Rattle.std.specs.Prelude.{◌≡◌, ℕ, ◌+◌, ◌<◌, ◌≤◌, List, [], ◌∷◌, ◌++◌, length, map, string_bytes, Option, None, Some, option_map, pos, IsSome, IfSome, IfNone, MatchOption, ◌↔◌, false, nat_eq, true, IsTrue};
 ghost use Rattle.std.specs.List.{list_any};
 ghost use Rattle.std.specs.Option.{ForSome};
 ghost use Rattle.ui_machine.specs.Seq.{read};
@@ -10,6 +10,7 @@ ghost use Rattle.ui_machine.specs.Rules.Transform.{has_number, known_bits};
 ghost use Rattle.ui_machine.specs.Rules.Ancestry.{is_a, depth, parent_of, implemented_by, is_or_implements};
 ghost use Rattle.type_tree.specs.Entry.{type_of, enum_member, flags_member, view_of_sort};
 ghost use Rattle.type_tree.specs.Adding.{Adds, find_type, sort_of};
+ghost use Rattle.type_tree.specs.Naming.{number_called};
 
 use crate::entry::{TypeEntry, TypeFlags, TypeSort};
 use crate::error::TypeError;
@@ -106,7 +107,7 @@ impl TypeTree {
         }
     }
 
-    /// The parent of a class; the root and what is no class have none. A parent stands before its children.
+    /// The parent of a class; the root and what is no class have none. A parent comes before its children.
     pub fn parent(&self, t: TypeId) -> Option<TypeId>
         ensures parent { result ≡ parent_of self.now t }
         ensures before { IfSome result (λ p. p < t) }
@@ -189,6 +190,20 @@ impl TypeTree {
             Some(entry) => entry.member_number(number),
             None => None,
         }
+    }
+
+    /// The number of the member of an enum that is called so: by its name, else by its nick.
+    pub fn number_called(&self, t: TypeId, word: &str) -> Option<i32>
+        ensures { sort_of self.now t ≡ enum → result ≡ number_called (members_of self.now t) word.now }
+    {
+        self.entry(t)?.number_called(word)
+    }
+
+    /// The bits of the member of a flags type that is called so: by its name, else by its nick.
+    pub fn bits_called(&self, t: TypeId, word: &[u8]) -> Option<u32>
+        ensures { sort_of self.now t ≡ flags → option_map pos result ≡ number_called (members_of self.now t) word.now }
+    {
+        self.entry(t)?.bits_called(word)
     }
 
     /// All bits of all members of a flags type.

@@ -1,4 +1,4 @@
--- What a session stands at, and what it answers.
+-- What a session has come to, and what it answers.
 use Rattle.std.specs.Prelude.{◌≡◌, Bool, true, false, List, [], map, option_map, string_bytes, ⊤, Option, Some, None, Result, Ok, Err}
 use Rattle.ui_machine.specs.Definition.{Definition}
 use Rattle.ui_machine.specs.Rules.Events.{Refusal, gone, clock_back, refusal}
@@ -17,7 +17,7 @@ use Rattle.ui_engine.specs.declared.faults.SessionFault.TheVariants as faults
 use Rattle.ui_engine.specs.declared.faults.StartFault.{StartFault}
 use Rattle.ui_engine.specs.declared.faults.StartFault.TheVariants as starts
 
--- a definition, the world that stands, and whether the session has stopped
+-- a definition, the world, and whether the session has stopped
 pub record SessionState : Type 0 where
   pub definition : Definition
   pub world : World
@@ -41,7 +41,7 @@ IsSeated pool s = s.stopped ≡ false → Knows s.world pool
 abbrev pub building : Relations → Definition → List Peer → Ways
 building may d peers = carrying_out may d (of_build d peers)
 
--- the part of the run came to its end, with the value that it told
+-- the part of the run came to its end, with the value that it gave
 pub record Ends (reply : Reply) (ways : Ways) (d : Definition) (new : SessionState) : Type 0 where
   pub leads : ways.to (tally_of reply) new.world
   pub value : option_map value_view reply.result ≡ new.world.result

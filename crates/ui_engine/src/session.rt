@@ -1,4 +1,4 @@
-//! A session: a verified definition, its pool of peers, and what stands while its events come.
+//! A session: a verified definition, its pool of peers, and its state while its events come.
 
 ghost use Rattle.std.specs.Prelude.{◌≡◌, None, map, string_bytes, IfOk, IfErr, false};
 ghost use Rattle.ui_machine.specs.Prefix.{IsPrefix};
@@ -139,7 +139,7 @@ impl Session {
     ///
     /// `Stopped` if the session has stopped. Then `Released` if the event names an object that was released, and `ClockBack` if it is a turn of
     /// a moment before the latest one: the session stays as it was. Else `OutOfMemory` if no memory is found, which stops the session; the peer
-    /// that was called last may have replied without a line that tells of it.
+    /// that was called last may have replied without a line that reports it.
     pub fn dispatch(&mut self, event: Event) -> Result<Reply, SessionFault>
         requires read { EventRead self.now.core.definition (event_of event) }
         requires seated { IsSeated (seen (λ p. (⟦<dyn Peer as Peer>⟧ p.peer.vtable).state p.peer.value) (entries self.now.pool)) self.now.core }

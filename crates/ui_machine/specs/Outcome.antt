@@ -41,7 +41,7 @@ abbrev pub Stops : {A : Type 0} → Halt → Answer A → Type 0
 Stops halts.OutOfMemory answer = Unit {0}
 Stops (halts.Stuck arm) answer = answer ≡ Err arm
 
--- the same as `Gives` of code that asks for memory
+-- what `Gives` says, of code that asks for memory
 abbrev pub Follows : {S X Y : Type 0} → (X → Y) → Result X Halt → Answer (After S Y) → S → Type 0
 Follows view (Ok x) answer new = answer ≡ Ok (record { state = new; answer = view x })
 Follows view (Err halt) answer new = Stops halt answer

@@ -85,7 +85,7 @@ abbrev pub Steps : Definition → ℕ → List Reply → Config → Config → T
 Steps d zero replies c e = (replies ≡ []) × (c ≡ e)
 Steps d (suc n) replies c e = Goes d replies c (λ later mid. Steps d n later mid e)
 
--- some steps do
+-- some number of steps leads from one configuration to the other
 pub record Reaches (d : Definition) (replies : List Reply) (c e : Config) : Type 0 where
   pub count : ℕ
   pub steps : Steps d count replies c e
@@ -117,7 +117,7 @@ abbrev pub HaltsAt : Definition → Config → Halt → Type 0
 HaltsAt d c halts.OutOfMemory = Unit {0}
 HaltsAt d c (halts.Stuck arm) = IsStuck d c arm
 
--- a dispatch halts where it stands, and has shown these lines
+-- a dispatch halts at a configuration that it reaches, and has shown these lines by then
 pub record Halts (d : Definition) (replies : List Reply) (c : Config) (halt : Halt) (shown : List (List ℕ)) : Type 0 where
   pub at : Config
   pub reached : Reaches d replies c at
@@ -199,7 +199,7 @@ pub record Carries (d : Definition) (c : Config) (replies : List Reply) (tally :
   pub counts : tally ≡ one_dispatch steps
   pub dispatches : Dispatches d replies c steps new
 
--- a turn's source is run if it still stands at its place
+-- a turn's source is run if it is still attached
 abbrev pub RunsSource : Definition → ℕ → Option Source → List Reply → World → Tally → World → Type 0
 RunsSource d number None replies w tally new = Rests replies w tally new
 RunsSource d number (Some s) replies w tally new = Carries d (beginning w (Due number)) replies tally new
@@ -224,7 +224,7 @@ Comes d event None replies w tally new = Does d event replies w tally new
 abbrev pub Serves : Definition → Event → List Reply → World → Tally → World → Type 0
 Serves d event replies w tally new = Comes d event (refusal w event) replies w tally new
 
--- a list of events does, one after the other
+-- a list of events leads from a world to another, one event after the other
 abbrev pub ServesAll : Definition → List Event → List Reply → World → Tally → World → Type 0
 ServesAll d [] replies w tally new = Rests replies w tally new
 ServesAll d (event ∷ events) replies w tally new = Then (Serves d event) (ServesAll d events) replies w tally new

@@ -1,7 +1,7 @@
 -- Lists that are read and written at an index, with no bound to keep.
 use Rattle.std.specs.Prelude.{ℕ, zero, suc, ◌+◌, List, [], ◌∷◌}
 
--- what stands at i, or the default past the end
+-- the entry at i, or the default past the end
 abbrev pub read : {A : Type 0} → A → List A → ℕ → A
 read d [] i = d
 read d (x ∷ xs) zero = x

@@ -1,4 +1,4 @@
--- What the machine has of objects and of all that is attached to them, and the configuration that it stands at.
+-- What the machine has of objects and of all that is attached to them, and the configuration that it is in.
 pub mod Objects
 pub mod Handlers
 pub mod Tasks

@@ -46,7 +46,7 @@ left n answer = do
   l ← answer
   Ok (record { world = l.world; agenda = l.agenda; counted = n })
 
--- the same of a counted step
+-- a counted step that leaves a whole agenda
 abbrev pub counted_left : ℕ → Answer Left → Answer Config
 counted_left n answer = only_if (nat_lt n most_steps) arms.Steps (left (suc n) answer)
 

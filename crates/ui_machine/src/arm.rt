@@ -11,7 +11,7 @@ use std::alloc::{AllocError, AllocFailed};
 pub enum Arm {
     /// A register is unset or of another kind.
     Register,
-    /// A value that is not valid would stand in a property.
+    /// A property would hold a value that is not valid.
     Value,
     /// A construct-only property would be set after its construction.
     ConstructOnly,

@@ -1,7 +1,7 @@
 //! What bytes come from and what they go to.
 //!
-//! A [`Feed`] gives bytes and a [`Sink`] takes them. A call of either may fail, and the device remembers that it did: so whoever
-//! lent one can tell afterwards whether a run broke off because a device failed.
+//! A [`Feed`] gives bytes and a [`Sink`] takes them. A call of either may fail, and the device remembers that it did. So its lender
+//! can find out afterwards whether a run broke off because a device failed.
 
 ghost use Rattle.std.specs.Prelude.{◌≡◌, ◌<◌, ℕ, Bool, true, false, List, Option, length, IfOk, MatchResult};
 ghost use Rattle.std.specs.Io.{ReadsAtMost, WritesAtMost};
@@ -22,7 +22,10 @@ pub trait Feed {
     ghost failed: { Self → Bool };
 
     /// Reads some bytes into the front of `buf`, and answers how many: none only at the end, or into an empty slice.
-    /// A fault takes none and marks the feed as failed; after it no more reads may be made.
+    ///
+    /// # Errors
+    ///
+    /// `DeviceFault` where the read fails. It takes no bytes and marks the feed as failed; after it no more reads may be made.
     fn read(&mut self, buf: &mut [u8]) -> Result<usize, DeviceFault>
         requires works { failed self.old ≡ false }
         ensures bound { ReadsAtMost result buf.new }
@@ -42,8 +45,11 @@ pub trait Sink {
     /// Whether a write has failed.
     ghost failed: { Self → Bool };
 
-    /// Takes a front of `bytes`, and answers how long it is: at least 1, unless there are none. A fault takes none and marks
-    /// the sink as failed; after it no more writes may be made.
+    /// Takes a front of `bytes`, and answers how long it is: at least 1, unless there are none.
+    ///
+    /// # Errors
+    ///
+    /// `DeviceFault` where the write fails. It takes no bytes and marks the sink as failed; after it no more writes may be made.
     fn write(&mut self, bytes: &[u8]) -> Result<usize, DeviceFault>
         requires works { failed self.old ≡ false }
         ensures bound { WritesAtMost result bytes.now }

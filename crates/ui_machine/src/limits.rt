@@ -37,7 +37,11 @@ pub enum LimitsError {
 }
 
 impl Limits {
-    /// Tests the members in order: 1 to 4,096 objects, at most 16 handlers. The error names the first one outside.
+    /// Tests the members in order: 1 to 4,096 objects, at most 16 handlers.
+    ///
+    /// # Errors
+    ///
+    /// `LimitsError::LimitOutOfRange` where a member is outside of its range. It names the first such member.
     pub fn check(&self) -> Result<(), LimitsError>
         ensures ok { IsOk result
             ↔ ((LEAST_OBJECTS ≤ self.now.objects) × (self.now.objects ≤ MOST_OBJECTS) × (self.now.handlers ≤ MOST_HANDLERS)) }

@@ -1,4 +1,4 @@
--- A definition that breaks no rule is judged by the numbers that are told of it.
+-- A definition that breaks no rule is judged by the numbers that are reported of it.
 use Rattle.std.proofs.Common.{◌≡◌, inl, inr, refl, sym, ap, subst, ◌∙◌, ℕ, ◌+◌, ◌≤◌, min, true, map, None, arith}
 use Rattle.ui_machine.specs.Definition.{Definition}
 use Rattle.law_typing.specs.Graph.{Raised, connections, graph}

@@ -69,7 +69,7 @@ find_joined f (x ∷ xs) ys = by (f x) (find_joined f xs ys)
     by true rest = refl
     by false rest = rest
 
--- ** what is told
+-- ** what is reported
 
 pub raised_entries : (d : Definition) (ns : List Connection) (cs : List Channel) →
     map (λ (r : Raised). entries.at r.channel) (map (raised_at d ns) cs) ≡ map entries.at cs

@@ -1,4 +1,4 @@
--- The numbers of a sketch's nodes are those that are told of the definition.
+-- The numbers of a sketch's nodes are those that are reported of the definition.
 use Rattle.std.proofs.Common.{◌≡◌, refl, sym, ap, ◌∙◌, ℕ, zero, suc, ◌+◌, ◌<◌, ◌≤◌, max, Bool, true, false, cond, List, [], ◌∷◌, ◌++◌, length, map, Some, slice_get, arith}
 use Rattle.std.specs.List.{list_any}
 use Rattle.ui_machine.specs.Seq.{listed}
@@ -90,7 +90,7 @@ sources_same d ss f h number total (p ∷ ps) low all =
         ap (λ k. (number, k) ∷ map (λ (p : ℕ). (p, f p)) (sources_of d ss (suc number) ps)) e ∙ ap (λ (xs : List (ℕ × ℕ)). (number, h number) ∷ xs) rest
     by false rest = rest
 
--- ** what is told
+-- ** what is reported
 
 module _ (d : Definition) (s : Sketch) (n : NodeNumbers) (sketch : IsSketch (graph d) s) (numbers : AreGraphNumbers (graph d) s n) where
   abbrev pub by_cost : Tables

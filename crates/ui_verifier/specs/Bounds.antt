@@ -1,4 +1,4 @@
--- The numbers of a definition as they are reckoned: no bound is told apart above the greatest one.
+-- The numbers of a definition as they are reckoned: no bound is distinguished above the greatest one.
 use Rattle.std.specs.Prelude.{◌≡◌, ◌+◌, ℕ, List, map}
 use Rattle.ui_machine.specs.Definition.{Definition}
 use Rattle.law_typing.specs.Graph.{graph}

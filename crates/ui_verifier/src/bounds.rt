@@ -1,4 +1,4 @@
-//! The numbers that are told of a definition.
+//! The numbers that are reported of a definition.
 
 ghost use Rattle.std.specs.Prelude.{◌≡◌, ◌+◌, ℕ, length, map, max, IfOk};
 ghost use Rattle.ui_machine.specs.Seq.{listed};
@@ -130,7 +130,7 @@ fn depth_of(
     Ok(depth)
 }
 
-/// The numbers that are told of a definition, each bound one above the greatest at most.
+/// The numbers that are reported of a definition, each bound one above the greatest at most.
 ///
 /// # Errors
 ///

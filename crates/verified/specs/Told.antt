@@ -1,4 +1,4 @@
--- The numbers of an accepted definition, as they are told.
+-- The numbers of an accepted definition, as they are reported.
 use Rattle.std.specs.Prelude.{◌≡◌, ℕ, nat_eq, List, map, Option, option_map}
 use Rattle.std.specs.List.{find}
 use Rattle.ui_machine.specs.Definition.{Definition}

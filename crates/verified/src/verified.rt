@@ -155,7 +155,7 @@ impl Verified {
         }
     }
 
-    /// The most frames that ever stand on each other.
+    /// The most frames that are ever on each other.
     pub fn depth(&self) -> u32
         ensures { IsDepth self.now result }
     {

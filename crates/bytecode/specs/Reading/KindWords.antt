@@ -43,7 +43,7 @@ flags_named types name = of_sort is_flags types (find_type types name)
 abbrev pub is_colon : ℕ → Bool
 is_colon x = x == 58
 
--- what stands before the first colon and what stands behind it, if there is one
+-- what comes before the first colon and what comes after it, if there is one
 abbrev pub parted : List ℕ → Option (List ℕ × List ℕ)
 parted word =
     if nat_lt (position_or_len is_colon word) (length word) then Some (before_first is_colon word, after_first is_colon word) else None

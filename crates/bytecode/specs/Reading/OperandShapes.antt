@@ -61,7 +61,7 @@ comparison_at d n = do
   word ← name_at d n
   expected (comparison_named word)
 
--- what stands in `connect` behind the object
+-- the operands of `connect` after the object
 unfoldable pub connect_at : Scope → Data → Result Connect Refusal
 connect_at s d = do
   signal ← name_at d 3

@@ -1,5 +1,5 @@
 -- What a program's value says beside its instructions, or the first fault in document order: a shape that the format does not give, or a
--- name that nothing has. Such a value stands for no program and has no bad instruction.
+-- name that nothing has. Such a value denotes no program and has no bad instruction.
 use Rattle.std.specs.Prelude.{◌≡◌, ℕ, ℤ, pos, unsigned_abs, List, [], ◌∷◌, ◌++◌, length, codes, Bool, true, false, nat_eq, nat_lt, if◌then◌else◌, Option, None, Some, option_map, option_and_then, Result, Ok, Err}
 use Rattle.std.specs.List.{list_any}
 use Rattle.std.specs.Str.{bytes_eq}

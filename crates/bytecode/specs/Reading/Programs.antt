@@ -1,4 +1,4 @@
--- Which program a value stands for, or why it stands for none. Bad instructions come first, then what `shape_fault` says; of one sort the first
+-- Which program a value denotes, or why it denotes none. Bad instructions come first, then what `shape_fault` says; of one sort the first
 -- block, and the first instruction in it.
 use Rattle.std.specs.Prelude.{◌≡◌, ℕ, ◌-◌, min, List, [], ◌∷◌, ◌++◌, length, replicate, if◌then◌else◌, Option, None, Some, Result, Ok, Err}
 use Rattle.serde_json.specs.Data.{Data}
@@ -23,7 +23,7 @@ abbrev pub good_at : {A : Type 0} → (block at : ℕ) → Result A Refusal → 
 good_at block at (Ok x) = Ok x
 good_at block at (Err refusal) = Err (faults.BadInstruction (at_block block) at)
 
--- an instruction, which stands behind none that ends the block
+-- an instruction, which comes after none that ends the block
 abbrev pub instruction_behind : Scope → ℕ → ℕ → List machine.Instruction → Data → Result machine.Instruction ProgramFault
 instruction_behind s block at code d =
     if is_ended code then Err (faults.BadInstruction (at_block block) at) else good_at block at (instruction_at s d)

@@ -1,4 +1,4 @@
--- The rows of the instructions that touch registers alone: what stands behind the word, and the machine's instruction.
+-- The rows of the instructions that touch registers alone: what comes after the word, and the machine's instruction.
 use Rattle.std.specs.Prelude.{Result, Ok}
 use Rattle.serde_json.specs.Data.{Data}
 use Rattle.ui_machine.specs.Outcome.{◌>>=◌}

@@ -77,7 +77,7 @@ register_word s word d =
     (if bytes_eq word (codes "convert") then convert_row s d else
     (object_word s word d)))))))))))))
 
--- the instruction that a JSON array stands for
+-- the instruction that a JSON array denotes
 unfoldable pub instruction_at : Scope → Data → Result Instruction Refusal
 instruction_at s d = do
   word ← name_at d 0

@@ -58,7 +58,7 @@ slot_called path specs name = do
   property ← property_named path specs name
   Ok property.slot
 
--- The slot of the property of a class that a name names. Where the class is not known, that is told of the object itself.
+-- The slot of the property of a class that a name names. Where the class is not known, that is reported of the object itself.
 abbrev pub slot_if_class : List ℕ → (ℕ → List Spec) → Option ℕ → List ℕ → Result ℕ Refusal
 slot_if_class path specs None name = Ok 0
 slot_if_class path specs (Some class) name = slot_called path (specs class) name

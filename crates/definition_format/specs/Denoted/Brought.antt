@@ -1,4 +1,4 @@
--- Which signals the interfaces of a class bring again. That is told at the entry of `implements`, which stands before the class's own signals:
+-- Which signals the interfaces of a class bring again. That is reported at the entry of `implements`, which comes before the class's own signals:
 -- so the names of these are read ahead.
 use Rattle.std.specs.Prelude.{ℕ, Bool, List, [], ◌∷◌, ◌++◌, ◌&&◌, not, codes, if◌then◌else◌, Option, None, Some, is_some, option_and_then, Result, Ok}
 use Rattle.std.specs.List.{list_any}
@@ -32,6 +32,6 @@ own_signals_ahead path d = each (at_entry own_signal_at (under path (codes "sign
 abbrev pub is_brought : (ℕ → List Signal) → List ℕ → List ℕ → Bool
 is_brought has ts name = list_any (λ t. is_some (number_named (has t) name)) ts
 
--- whether one of some types has the signal's name; where the class itself declares the name, that is told there
+-- whether one of some types has the signal's name; where the class itself declares the name, that is reported there
 abbrev pub is_again : (ℕ → List Signal) → List (List ℕ) → List ℕ → Signal → Bool
 is_again has own ts s = not (list_any (bytes_eq s.name) own) && is_brought has ts s.name

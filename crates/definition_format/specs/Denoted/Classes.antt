@@ -55,7 +55,7 @@ abbrev pub parent_ahead : List GType → Option Data → Option ℕ
 parent_ahead types None = class_named types (codes "GObject")
 parent_ahead types (Some d) = option_and_then (class_named types) (as_str d)
 
--- A class under this parent stands at most 16 deep. It is told of the whole entry, so the parent is read ahead.
+-- A class under this parent is at most 16 deep. It is reported of the whole entry, so the parent is read ahead.
 abbrev pub check_depth : List GType → Option ℕ → Result (Unit {0}) Refusal
 check_depth types None = Ok tt
 check_depth types (Some parent) = if nat_le 16 (depth types parent) then Err (limit Depth) else Ok tt

@@ -22,7 +22,7 @@ default_or_zero path types kind (Some d) = or_value_fault path (json_value types
 abbrev pub default_at : List ℕ → List GType → Kind → Data → Result Value Refusal
 default_at path types kind d = default_or_zero (under path (codes "default")) types kind (get (codes "default") d)
 
--- the default may stand in its property
+-- the default may be in its property
 abbrev pub check_default : List ℕ → List GType → Spec → Result (Unit {0}) Refusal
 check_default path types spec = if is_valid (λ id. None) types spec spec.default then Ok tt else Err (not_installed path DefaultInvalid)
 

@@ -74,7 +74,7 @@ ProgramNames = List (Option (List ℕ))
 abbrev pub program_names : Data → ProgramNames
 program_names d = names_under (codes "name") (section (codes "programs") d)
 
--- the number of the program that is called so; one past the 256 programs that there may be stands for those behind
+-- the number of the program that is called so; one past the 256 programs that there may be denotes those behind
 abbrev pub program_named : ProgramNames → List ℕ → Option ℕ
 program_named names name = option_map (at_most 256) (number_from 0 names name)
 
@@ -111,6 +111,6 @@ object_names list = names_of (in_order most_levels list)
 abbrev pub places_in_order : Data → List Data
 places_in_order d = in_order most_levels (section (codes "objects") d) ++ in_order 1 (section (codes "prototypes") d)
 
--- the place of the object or prototype of an id; one past the 512 places that there may be stands for none
+-- the place of the object or prototype of an id; one past the 512 places that there may be denotes none
 abbrev pub place_with_id : Data → List ℕ → Option ℕ
 place_with_id d id = option_map (at_most 512) (number_from 0 (map (name_under (codes "id")) (places_in_order d)) id)

@@ -45,7 +45,7 @@ takes_value path given spec = if is_some given && not (is_writable spec) then Er
 
 -- ** objects as values
 
--- the type of the object and the id, where a text stands for an object
+-- the type of the object and the id, where a text denotes an object
 abbrev pub reference : Kind → Option (List ℕ) → Option (ℕ × List ℕ)
 reference (kinds.object t) (Some id) = Some (t, id)
 reference (kinds.object t) None = None
@@ -59,7 +59,7 @@ reference (kinds.flags t) id = None
 abbrev pub class_ahead : List GType → ObjectNames → ℕ → Option ℕ
 class_ahead types objects place = option_and_then (class_named types) (read None objects.classes place)
 
--- whether an object of the class is one of the type; where the class is not known, that is told of the object itself
+-- whether an object of the class is one of the type; where the class is not known, that is reported of the object itself
 abbrev pub may_be : List GType → ℕ → Option ℕ → Bool
 may_be types t None = true
 may_be types t (Some class) = is_a types class t
@@ -69,7 +69,7 @@ abbrev pub place_called : List ℕ → ObjectNames → List ℕ → Result ℕ R
 place_called path objects id =
     if is_name id then or_refused (unknown path id) (number_from 0 objects.ids id) else Err (shape path)
 
--- The object of a place, which must be of the type. One past the 512 places that there may be stands for none.
+-- The object of a place, which must be of the type. One past the 512 places that there may be denotes none.
 abbrev pub of_type : List ℕ → List GType → ObjectNames → ℕ → ℕ → Result Given Refusal
 of_type path types objects t place =
     if may_be types t (class_ahead types objects place) then Ok (named (at_most 512 place)) else Err (value_fault path WrongJson)
@@ -108,7 +108,7 @@ abbrev pub is_from : ℕ → Option ℕ → Bool
 is_from place None = false
 is_from place (Some to) = nat_le place to
 
--- Whether an entry gives an object that is not there yet to a property that constructions alone set. It is told of the whole entry, so that
+-- Whether an entry gives an object that is not there yet to a property that constructions alone set. It is reported of the whole entry, so that
 -- name and value are read ahead.
 abbrev pub is_too_late : ℕ → ObjectNames → Data → Spec → Bool
 is_too_late place objects d spec =

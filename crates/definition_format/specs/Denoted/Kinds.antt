@@ -73,14 +73,14 @@ abbrev pub flags_named : List GType → List ℕ → Option ℕ
 flags_named types name = of_sort is_flags types (find_type types name)
 
 -- The class or interface of a name: a class of these types, or one of the names, whose type may come later. A number past the 256 types
--- that there may be stands for none.
+-- that there may be denotes none.
 abbrev pub object_type : List GType → TypeNames → List ℕ → Option ℕ
 object_type types names name = option_or (class_named types name) (option_map (at_most 256) (later_type names name))
 
 abbrev pub is_colon : ℕ → Bool
 is_colon x = x == 58
 
--- what stands before the first colon and what stands behind it, if there is one
+-- what comes before the first colon and what comes after it, if there is one
 abbrev pub parted : List ℕ → Option (List ℕ × List ℕ)
 parted word =
     if nat_lt (position_or_len is_colon word) (length word) then Some (before_first is_colon word, after_first is_colon word) else None

@@ -1,6 +1,6 @@
 -- How a class has the properties of its interfaces: each of them, its own or inherited, with the same kind, range, default, weakness and
--- flags (GObject manual, g_object_class_override_property). What is wrong with an override is told at the entry of `implements`, which
--- stands before the class's own properties: so these are read ahead, each by itself.
+-- flags (GObject manual, g_object_class_override_property). What is wrong with an override is reported at the entry of `implements`, which
+-- comes before the class's own properties: so these are read ahead, each by itself.
 use Rattle.std.specs.Prelude.{ℕ, Bool, true, false, List, [], ◌∷◌, ◌++◌, codes, if◌then◌else◌, Option, None, Some, option_map, option_and_then, Result, Ok, Err}
 use Rattle.std.specs.List.{find, list_any}
 use Rattle.std.specs.Str.{bytes_eq}
@@ -63,7 +63,7 @@ abbrev pub compared : Option Spec → Spec → Override
 compared None wanted = missing
 compared (Some s) wanted = if same_spec s wanted then fine else different
 
--- by the class's own property of that name or else by the inherited one; where the entry of the own one is at fault that is told there
+-- by the class's own property of that name or else by the inherited one; where the entry of the own one is at fault that is reported there
 abbrev pub override_by : Option (Option Spec) → Option Spec → Spec → Override
 override_by None inherited wanted = compared inherited wanted
 override_by (Some None) inherited wanted = fine

@@ -49,13 +49,13 @@ abbrev pub or_bad_program : List ℕ → Result Program ProgramFault → Result 
 or_bad_program path (Ok p) = Ok p
 or_bad_program path (Err fault) = Err (bad_program path fault)
 
--- A program, or what the format refuses beside its instructions. A fault of the instructions is told of the whole entry, so that all of it is
+-- A program, or what the format refuses beside its instructions. A fault of the instructions is reported of the whole entry, so that all of it is
 -- read ahead.
 abbrev pub read_ahead : List ℕ → Names → Result Outline OutlineFault → Result (Result Program OutlineFault) Refusal
 read_ahead path names (Ok o) = or_bad_program path (program_of names o) >>= λ p. Ok (Ok p)
 read_ahead path names (Err fault) = Ok (Err fault)
 
--- and what the format refuses is told at its own place
+-- and what the format refuses is reported at its own place
 abbrev pub unless_refused : List ℕ → Result Program OutlineFault → Result Program Refusal
 unless_refused path (Ok p) = Ok p
 unless_refused path (Err fault) = Err (outline_refusal path fault)

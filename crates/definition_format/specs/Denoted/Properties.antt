@@ -51,7 +51,7 @@ weak_at path kind d = weak_or (under path (codes "weak")) kind (get (codes "weak
 abbrev pub room_for_property : List Spec → Result (Unit {0}) Refusal
 room_for_property specs = if nat_le 64 (length specs) then Err (limit Properties) else Ok tt
 
--- a name that a type has not yet: what an ancestor has is told as such
+-- a name that a type has not yet: what an ancestor has is reported as such
 abbrev pub new_name : List ℕ → List Spec → List Spec → List ℕ → Result (Unit {0}) Refusal
 new_name path inherited specs name =
     if is_some (slot_named inherited name) then Err (duplicate path) else

@@ -33,7 +33,7 @@ end_or path kind own (Some d) = end_given path kind d
 abbrev pub check_filled : List ℕ → ℤ → ℤ → Result (Unit {0}) Refusal
 check_filled path low high = if int_lt high low then Err (not_installed path RangeEmpty) else Ok tt
 
--- The range of a property of this kind. It is told at `min` that the range is empty; where `max` itself is at fault, that is told.
+-- The range of a property of this kind. It is reported at `min` that the range is empty; where `max` itself is at fault, that is reported.
 unfoldable pub range_at : List ℕ → Kind → Data → Result Range Refusal
 range_at path kind d = do
   low ← end_or (under path (codes "min")) kind (lowest kind) (get (codes "min") d)

@@ -129,7 +129,7 @@ accumulator_at path result d = accumulator_or (under path (codes "accumulator"))
 abbrev pub room_for_signal : ℕ → Result (Unit {0}) Refusal
 room_for_signal count = if nat_le 64 count then Err (limit Signals) else Ok tt
 
--- how a name is told that a type of this sort has already
+-- how a name is reported that a type of this sort has already
 abbrev pub told_twice : List ℕ → Sort → Refusal
 told_twice path sorts.class = duplicate path
 told_twice path sorts.interface = not_declared path Duplicate

@@ -25,7 +25,7 @@ is_from first (Some t) = nat_le first t
 abbrev pub room_for_type : List GType → Result (Unit {0}) Refusal
 room_for_type types = refused_if (λ fault. limit Types) (room_fault types)
 
--- a name that no type has yet: one of the same section is told as such
+-- a name that no type has yet: one of the same section is reported as such
 abbrev pub new_type_name : List ℕ → ℕ → List GType → List ℕ → Result (Unit {0}) Refusal
 new_type_name path first types name =
     if is_from first (find_type types name) then Err (duplicate path) else refused_if (λ fault. bad_type path (named_cause types fault)) (name_fault types name)

@@ -17,7 +17,7 @@ use bytecode::{
 use serde_json::Value;
 use std::alloc::{AllocError, Global};
 
-// The instruction of a number, which stands behind none that ends the block.
+// The instruction of a number, which comes after none that ends the block.
 fn instruction_behind(
     alloc: Global,
     scope: &Scope<'_>,

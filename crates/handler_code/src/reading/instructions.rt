@@ -29,7 +29,7 @@ use bytecode::{Arithmetic, Instruction, InstructionError};
 use serde_json::Value;
 use std::alloc::Global;
 
-/// Reads the instruction that a JSON array stands for.
+/// Reads the instruction that a JSON array denotes.
 ///
 /// Registers and blocks are numbers below those of the scope. Kinds and values are read as those of properties are, objects by null alone. An
 /// enum or flags type that a kind names is there. Other names are texts: whether they name something, and whether the operands have the right
@@ -37,6 +37,10 @@ use std::alloc::Global;
 ///
 /// `BadInstruction` where the value is no array, its first entry is no word, or its operands are not those of the word: too few, too many, or
 /// of another sort. `OutOfMemory` where a name, a text or a list can't be made.
+///
+/// # Errors
+///
+/// The value denotes no instruction, or memory is refused.
 #[tactic(auto, unfolding(bytecode::specs::Reading::Words::instruction_at))]
 pub fn read_instruction(
     alloc: Global,

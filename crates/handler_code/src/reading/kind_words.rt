@@ -68,7 +68,7 @@ fn flags_named(types: &TypeTree, name: &str) -> Option<TypeId>
     }
 }
 
-// What stands before the first colon and what stands behind it, if there is one.
+// What comes before the first colon and what comes after it, if there is one.
 pub(crate) fn parted(word: &str) -> Option<(&str, &str)>
     ensures { option_map (λ p. (p.0.now, p.1.now)) result ≡ parted word.now }
 {

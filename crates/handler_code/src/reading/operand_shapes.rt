@@ -121,7 +121,7 @@ pub(crate) fn comparison_at(json: &Value, at: usize) -> Result<Comparison, Instr
     }
 }
 
-// What stands in `connect` behind the object.
+// The operands of `connect` after the object.
 #[tactic(auto, unfolding(bytecode::specs::Reading::OperandShapes::connect_at))]
 pub(crate) fn connection_at(
     alloc: Global,

@@ -53,18 +53,18 @@ fn program_of(
     }
 }
 
-/// Reads the program that a JSON value stands for.
+/// Reads the program that a JSON value denotes.
 ///
 /// The value has passed [`check_outline`](crate::check_outline) with these names: whether its parts are those of the format is not answered
 /// here. The first block begins with the parameters in the first registers, each other block with the kinds of its `in`. The other registers
-/// are unset. What names in instructions stand for, and whether registers have the right kinds, is not tested here.
+/// are unset. What names in instructions denote, and whether registers have the right kinds, is not tested here.
 ///
 /// # Errors
 ///
 /// The first of these, in this order:
 ///
-/// 1. `BadInstruction` with the block and the instruction: it is no instruction, names a register or a block that is not there, or stands
-///    behind one that ends the block. Of several the first in document order is told.
+/// 1. `BadInstruction` with the block and the instruction: it is no instruction, names a register or a block that is not there, or is
+///    behind one that ends the block. Of several the first in document order is reported.
 /// 2. `BackwardJump` with the first block that leads to itself or to an earlier one.
 /// 3. `NoReturn` with the first block that does not end with a jump or a return.
 /// 4. `Limit`: more than 32 registers, else more than 64 blocks, else more than 512 instructions in all blocks together.

@@ -14,11 +14,11 @@ use Rattle.law_typing.specs.Good.Builds.{ConstructingGood, item_cost, item_depth
 use Rattle.law_typing.specs.Good.Requests.{CarryingGood}
 use Rattle.ui_machine.specs.State.Sources as sources
 
--- The build alone stands below what the builder makes.
+-- The build alone lies below what the builder makes.
 abbrev pub OnBuild : (held : Bool) → (below : List Task) → Type 0
 OnBuild held below = held ≡ true → (items : List Item) × (below ≡ Building items ∷ [])
 
--- Each task, above these, with what comes down to it. Nothing stands below the build, a request or a due source.
+-- Each task, above these, with what comes down to it. Nothing lies below the build, a request or a due source.
 abbrev pub TaskGood : Definition → Tables → Tables → View → Down → List Task → Task → ℕ → ℕ → Type 0
 TaskGood d costs depths w up below (Setting id slot v) steps frames = TakesNone up
     × SettingGood d costs depths (w.stands) below id slot v steps frames
@@ -55,7 +55,7 @@ is_frame _ = 0
 abbrev pub frames : List Task → ℕ
 frames agenda = total is_frame agenda
 
--- The budget is split along the agenda: each task has its steps, and its frames stand on those of the tasks below.
+-- The budget is split along the agenda: each task has its steps, and its frames lie on those of the tasks below.
 abbrev pub AgendaGood : Definition → Tables → Tables → View → (most : ℕ) → Down → List Task → (budget : ℕ) → Type 0
 AgendaGood d costs depths w most up [] budget = TakesNone up
 AgendaGood d costs depths w most up (task ∷ below) budget =

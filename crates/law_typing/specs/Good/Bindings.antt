@@ -1,4 +1,4 @@
--- Bindings and sources that stand, and what the builder holds.
+-- Bindings and sources that are there, and what the builder holds.
 use Rattle.std.specs.Prelude.{⊤, ◌≡◌, ℕ, ◌+◌, ◌<◌, true, cond, List, length, Some, slice_get}
 use Rattle.ui_machine.specs.Seq.{read, total}
 use Rattle.ui_machine.specs.Definition.Kinds as kinds
@@ -19,7 +19,7 @@ use Rattle.law_typing.specs.Good.Standing.{Standing, LivesIf, Rising}
 use Rattle.law_typing.specs.Good.DueCosts.{unsets}
 use Rattle.law_typing.specs.Good.Handlers.{data_kind}
 
--- a binding that stands: it is the definition's of that number, its ends live at their places, and it is setting just while it is to be
+-- a binding that is there: it is the definition's of that number, its ends live at their places, and it is setting just while it is to be
 -- set free
 pub record BindingGood (d : Definition) (s : Standing) (agenda : List Task) (b : Binding) : Type 0 where
   pub bind : Bind
@@ -43,7 +43,7 @@ pub record BindingsGood (d : Definition) (s : Standing) (agenda : List Task) (bs
   -- and are below the number of those that the build has made
   pub made : Each (λ (b : Binding). b.number + total (of_items is_binding) agenda < length d.bindings) bs
 
--- a source: its data lives, and its program takes it, says whether the source stays, and is one of those that the report tells of
+-- a source: its data lives, and its program takes it, says whether the source stays, and is one of those that the report lists
 pub record SourceGood (d : Definition) (s : Standing) (source : Source) : Type 0 where
   pub arg : LivesIf s source.arg
   pub takes : is_taken_by d (program_at d source.program) (data_kinds (data_kind s source.arg)) (Some kinds.bool) ≡ true

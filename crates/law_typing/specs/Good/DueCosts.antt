@@ -26,7 +26,7 @@ has_end c b = cond (same_channel (source_of b) c) true (same_channel (target_of 
 abbrev pub is_setting_at : List Task → Channel → ℕ → Bind → Bool
 is_setting_at below c number b = (is_pair b && has_end c b) && cond (nat_eq (total (unsets number) below) 0) false true
 
--- the same of some of these bindings, where the first has this number
+-- whether one of these bindings is so, where the first has this number
 abbrev pub is_setting_from : List Task → Channel → ℕ → List Bind → Bool
 is_setting_from below c number [] = false
 is_setting_from below c number (b ∷ bindings) = cond (is_setting_at below c number b) true (is_setting_from below c (suc number) bindings)
@@ -58,7 +58,7 @@ abbrev pub due_depth : Definition → Tables → List Task → Channel → ℕ
 due_depth d depths below c =
     cond (is_setting_below d below c) (1 + depth_within_if depths (raised_of (graph d) c)) (entry depths.channels c)
 
--- the same of a transfer that is due: over a pair it goes no further than the other end
+-- how deep a transfer that is due may go: over a pair it goes no further than the other end
 abbrev pub transfer_depth : Definition → Tables → List Task → Bool → Option Bind → ℕ
 transfer_depth d depths below back None = 0
 transfer_depth d depths below back (Some b) =

@@ -71,7 +71,7 @@ pub record EmissionFits (d : Definition) (s : Standing) (e : Emission) : Type 0 
   pub args : all_fit (kind_fits (class_by d s) d.types) e.args sig.params ≡ true
   pub value : (v : Value) → e.value ≡ Some v → (kind : Kind) × (sig.result ≡ Some kind) × (kind_fits (class_by d s) d.types v kind ≡ true)
 
--- a turn: a class handler takes what it is given, a handler that stands is of the emission's object and signal, a transfer's binding
+-- a turn: a class handler takes what it is given, a connected handler is of the emission's object and signal, a transfer's binding
 -- listens to the property, and only a pair's goes back
 abbrev pub TurnGood : Definition → View → Emission → PlanEntry → Type 0
 TurnGood d w e (class_handler program cleanup) = Stands (w.stands) e.object (λ place. Takes d place e.signal program false None)

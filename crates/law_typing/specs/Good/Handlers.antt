@@ -1,4 +1,4 @@
--- Handlers that stand, and what those of an object cost together at each channel.
+-- Connected handlers, and what those of an object cost together at each channel.
 use Rattle.std.specs.Prelude.{◌≡◌, ℕ, ◌+◌, ◌≤◌, Bool, true, false, cond, not, ◌&&◌, nat_eq, List, length, Option, None, Some, option_map, slice_get}
 use Rattle.std.specs.List.{filter}
 use Rattle.ui_machine.specs.Seq.{total}
@@ -30,12 +30,12 @@ Takes d place number program swapped data_kind =
     (class : ℕ) × (sig : Signal) × (class_at d place ≡ Some class) × (signal_of d class number ≡ Some sig)
     × (is_taken_by d (program_at d program) (given_kinds swapped (kinds.at place) sig.params data_kind) sig.result ≡ true)
 
--- the kind of a handler's data, by where it stands
+-- the kind of a handler's data, by the place of the data object
 abbrev pub data_kind : Standing → Option ℕ → Option RegisterKind
 data_kind s None = None
 data_kind s (Some id) = option_map kinds.at (s id)
 
--- a handler that stands: its object and its data live, and its program takes what it is given there
+-- a connected handler: its object and its data live, and its program takes what it is given there
 pub record HandlerGood (d : Definition) (s : Standing) (h : Handler) : Type 0 where
   pub at : Stands s h.object (λ place. Takes d place h.signal h.program h.swapped (data_kind s h.arg))
   pub arg : LivesIf s h.arg

@@ -49,7 +49,7 @@ pub record ObjectGood (d : Definition) (w : World) (s : Standing) (id : ℕ) (o 
   pub place : Place
   pub is : place_at d o.place ≡ Some place
   pub class : o.class ≡ place.class
-  -- each property stands in its kind and range
+  -- each property is in its kind and range
   pub values : (slot : ℕ) (spec : Spec) → spec_of d o.class slot ≡ Some spec → ValueGood d s spec (slice_get o.values slot)
   -- its children live, and its parent knows it
   pub children : Each (Lives s) o.children

@@ -42,7 +42,7 @@ code_left d f = drop f.at (code_of f.block (program_at d f.program))
 
 -- The rest of a program. Once what it waits for has come, its kinds are those of its place in the code.
 pub record RunningGood (d : Definition) (costs depths : Tables) (s : Standing) (up : Down) (f : Frame) (steps frames : ℕ) : Type 0 where
-  -- it stands at an instruction of its program, with no more passes of the block than there are
+  -- it is at an instruction of its program, with no more passes of the block than there are
   pub p : Program
   pub is : program_at d f.program ≡ Some p
   pub b : Block

@@ -1,6 +1,5 @@
--- Who stands where, and which values and registers are good where they stand. Of the objects this reads only which place each living
--- identity
--- has: a write, a freeze or a dispose leaves that as it is, a construction extends it, and a finalisation takes one identity out.
+-- Which object is at which place, and which values and registers are good then. Of the objects this reads only which place each living
+-- identity has: a write, a freeze or a dispose leaves that as it is, a construction extends it, and a finalisation takes one identity out.
 use Rattle.std.specs.Prelude.{◌≡◌, ℕ, suc, ◌≤◌, ⊤, Bool, true, false, List, [], ◌∷◌, Option, None, Some, is_some}
 use Rattle.ui_machine.specs.Seq.{read}
 use Rattle.ui_machine.specs.Definition.Kinds.{RegisterKind}
@@ -20,7 +19,7 @@ use Rattle.ui_machine.specs.Rules.Programs.{place_in, names_one}
 use Rattle.law_typing.specs.Rules.RegisterKinds.{Kinds, kind_in, class_at, covers}
 use Rattle.law_typing.specs.Graph.{number_for}
 
--- ** who stands where
+-- ** which object is at which place
 
 -- the place of each living identity
 abbrev pub Standing : Type 0
@@ -38,7 +37,7 @@ pub record Stands (s : Standing) (id : ℕ) (P : ℕ → Type 0) : Type 0 where
 abbrev pub Lives : Standing → ℕ → Type 0
 Lives s id = Stands s id (λ place. ⊤)
 
--- the same of an identity that may be left out
+-- an identity that may be left out lives
 abbrev pub LivesIf : Standing → Option ℕ → Type 0
 LivesIf s None = ⊤
 LivesIf s (Some id) = Lives s id

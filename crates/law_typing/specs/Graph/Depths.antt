@@ -1,4 +1,4 @@
--- Depths: how many frames may stand on each other, of programs, emissions and constructions.
+-- Depths: how many frames may lie on each other, of programs, emissions and constructions.
 use Rattle.std.specs.Prelude.{◌≡◌, ℕ, max, ◌+◌, List, length, map, Option, None, Some}
 use Rattle.std.specs.List.{find}
 use Rattle.law_typing.specs.Graph.Channels.{Channel, same_channel, constructed, property, signal}

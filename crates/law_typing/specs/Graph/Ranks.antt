@@ -98,7 +98,7 @@ above ranks a = suc (entry ranks a.from)
 abbrev pub rank_by : List Arrow → Table → Channel → ℕ
 rank_by edges ranks n = greatest (above ranks) (filter (λ (a : Arrow). same_channel a.to n) edges)
 
--- the node of each channel, in the order of the report; a pair stands there twice
+-- the node of each channel, in the order of the report; a pair is there twice
 abbrev pub nodes : Graph → List Channel
 nodes g = map (λ (r : Raised). node g r.channel) g.raised
 

@@ -1,4 +1,4 @@
--- Costs past the greatest bound need not be told apart: capped one above it, sums, greatest values and products come out as they do without,
+-- Costs past the greatest bound need not be kept apart. Capped one above it, sums, greatest values and products come out as without,
 -- and so do the equations of costs.
 use Rattle.std.specs.Prelude.{◌≡◌, ℕ, max, min, ◌+◌, ◌*◌, ◌<◌, List, map}
 use Rattle.law_typing.specs.Graph.Channels.{Channel, Entry}

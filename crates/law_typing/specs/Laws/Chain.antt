@@ -21,7 +21,7 @@ sets_next slot = record {
   next = [];
 } ∷ []
 
--- so many links
+-- a chain of so many links
 pub record IsChain (g : Graph) (links : ℕ) : Type 0 where
   pub handlers : (slot : ℕ) → slot < links → raised_of g (property 0 slot) ≡ Some (at_property slot (slot ∷ []))
   pub last : raised_of g (property 0 links) ≡ Some (at_property links [])

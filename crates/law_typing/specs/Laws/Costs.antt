@@ -25,7 +25,7 @@ CostsSolved =
     ((c : Channel) (r : Raised) → raised_of g c ≡ Some r → entry t.channels c ≡ channel_cost g t r)
     × ((q : ℕ) (stretches : List Stretch) → slice_get g.programs q ≡ Some stretches → of_program t q ≡ program_cost g t stretches)
 
--- the same of depths
+-- each channel of the graph is as deep as its entry says, and each program as its deepest path
 abbrev pub DepthsSolved : Type 0
 DepthsSolved =
     (g : Graph) (t : Tables) → SolvesDepths g t →
@@ -79,7 +79,7 @@ PassesCover =
 
 -- ** what programs raise
 
--- The place of an operand's object is one that the operand's kind covers; what is set or told of there, or emitted, is among what the
+-- The place of an operand's object is one that the operand's kind covers; what is set, notified or emitted there is among what the
 -- instruction may start.
 abbrev pub SetsCover : Type 0
 SetsCover =

@@ -1,4 +1,4 @@
--- The line of each refusal, of worked definitions; and that a verifier has an answer, and one only but for which cycle it tells.
+-- The line of each refusal, of worked definitions; and that a verifier has one answer only, apart from which cycle it reports.
 use Rattle.std.specs.Prelude.{◌≡◌, ◌⊎◌, ℕ, List, [], ◌∷◌, codes, Option}
 use Rattle.ui_machine.specs.Definition.{Definition}
 use Rattle.law_typing.specs.Rules.Answers as rules
@@ -50,7 +50,7 @@ pub record FaultTexts : Type 0 where
       refused_line too_large.definition (faults.bound_too_large (channels.at (channels.property 0 0)))
       ≡ codes "refused: BoundTooLarge property b.p0"
 
--- two answers of a verifier are the same, unless both tell a cycle
+-- two answers of a verifier are the same, unless both report a cycle
 abbrev pub JudgesOnce : Type 0
 JudgesOnce = (d : Definition) (a b : Option Fault) → Judges d a → Judges d b → (a ≡ b) ⊎ (verdict d ≡ has_cycle)
 

@@ -20,7 +20,7 @@ use Rattle.law_typing.specs.Examples.Freezes as freezes
 use Rattle.law_typing.specs.Laws.Beginnings.{costs_of, depths_of}
 use Rattle.law_typing.specs.Good.{Good}
 
--- so many steps, none of which asks a peer
+-- the configuration after so many steps, none of which asks a peer
 abbrev pub after : ℕ → Definition → Config → Answer Config
 after zero d c = Ok c
 after (suc n) d c = step d None c >>= (λ e. after n d e)

@@ -4,6 +4,6 @@ use Rattle.law_typing.specs.Graph.{graph}
 use Rattle.law_typing.specs.Examples.Labels as labels
 use Rattle.law_typing.specs.Examples.LabelsRenamed as stickers
 
--- they have one graph
+-- the two definitions have one graph
 abbrev pub OneGraph : Type 0
 OneGraph = graph labels.definition ≡ graph stickers.definition

@@ -52,7 +52,7 @@ two = record {
   peer = None;
 }
 
--- the program stands at its first instruction, with these registers
+-- the program is at its first instruction, with these registers
 abbrev pub running : List (Option Value) → Config
 running registers = record {
   world = record (first_world definition []) { objects = Some two ∷ []; builder = built 1 ∷ [] };

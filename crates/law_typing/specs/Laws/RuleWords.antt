@@ -1,4 +1,4 @@
--- Each word of a rule that an instruction or a binding may break, told of one that breaks it.
+-- Each word of a rule that an instruction or a binding may break, as the answer for one that breaks it.
 use Rattle.std.specs.Prelude.{◌≡◌, ℕ, pos, true, negsuc, false, [], ◌∷◌, codes, Option, None, Some, Ok, Err}
 use Rattle.ui_machine.specs.Seq.{read}
 use Rattle.ui_machine.specs.Definition.Kinds as kinds

@@ -33,11 +33,11 @@ use Rattle.law_typing.specs.Good.{Good, Resting}
 abbrev pub IsGood : (d : Definition) → Accepted d → (most_counted : ℕ) → Config → Type 0
 IsGood d a most_counted c = Good d a.weighed.costs a.weighed.depths most_counted (depth (graph d) a.weighed.depths) c
 
--- a world at rest, with the same
+-- a world at rest, with the costs and depths of an accepted definition
 abbrev pub IsResting : (d : Definition) → Accepted d → World → Type 0
 IsResting d a w = Resting d a.weighed.costs a.weighed.depths w
 
--- the bound that the report tells of what a dispatch begins with
+-- the bound that the report gives of what a dispatch begins with
 abbrev pub bound_of : (d : Definition) → Accepted d → entries.Entry → ℕ
 bound_of d a e = bound (graph d) a.weighed.costs e
 
@@ -75,7 +75,7 @@ RequestsBegin =
     names_released w r ≡ false →
     IsGood d a (bound_of d a (entry_of d r)) (of_request w r)
 
--- and a source that stands
+-- and a source that is attached
 abbrev pub SourcesBegin : Type 0
 SourcesBegin =
     (d : Definition) → WellRead d → (a : Accepted d) → (w : World) → IsResting d a w → (number : ℕ) (s : Source) →

@@ -1,4 +1,4 @@
--- What holds of each definition that was read, apart from what it is judged by. The laws of runs stand on it.
+-- What holds of each definition that was read, apart from what it is judged by. The laws of runs rest on it.
 use Rattle.std.specs.Prelude.{◌≡◌, ℕ, ◌<◌, ◌≤◌, ◌^◌, ⊤, ℤ, Bool, true, false, cond, not, ◌&&◌, nat_eq, nat_lt, unsigned_abs, List, [], ◌∷◌, ◌++◌, length, map, codes, Option, None, Some, slice_get}
 use Rattle.std.specs.List.{list_any, list_all, flat_map}
 use Rattle.ui_machine.specs.Seq.{total}
@@ -89,7 +89,7 @@ pub record HasNotify (d : Definition) (class : ℕ) : Type 0 where
 pub record TypesRead (d : Definition) : Type 0 where
   -- each type has its entry
   pub classes : length d.classes ≡ length d.types
-  -- a parent stands before its children
+  -- a parent comes before its children
   pub parents : (t parent : ℕ) → parent_of d.types t ≡ Some parent → parent < t
   -- what a type is, its ancestors and interfaces are; a class has what they have
   pub transitive : (a b c : ℕ) → is_a d.types a b ≡ true → is_a d.types b c ≡ true → is_a d.types a c ≡ true
@@ -245,7 +245,7 @@ pub record WellRead (d : Definition) : Type 0 where
   pub types : TypesRead d
   pub programs : (number : ℕ) (p : Program) → program_at d number ≡ Some p → ProgramRead d p
   pub places : (number : ℕ) (p : Place) → place_at d number ≡ Some p → PlaceRead d number p
-  -- objects stand before prototypes
+  -- objects come before prototypes
   pub order : (a b : ℕ) (p q : Place) → place_at d a ≡ Some p → place_at d b ≡ Some q → p.is_prototype ≡ true → q.is_prototype ≡ false →
       b < a
   -- no peer is named twice

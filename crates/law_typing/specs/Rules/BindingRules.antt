@@ -34,7 +34,7 @@ word_one_way d inverts source target =
     (or_word (is_transformable d.types source.kind target.kind) words.kinds
     (or_word (is_invertible inverts source.kind target.kind) words.invert None))))
 
--- the same of properties that have to be there
+-- the first rule that is broken between two properties, both of which have to be there
 abbrev pub word_between : Definition → Bool → Option Spec → Option Spec → Option BindingWord
 word_between d inverts None target = Some words.readable
 word_between d inverts (Some source) None = Some words.writable

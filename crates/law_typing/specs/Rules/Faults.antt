@@ -1,4 +1,4 @@
--- What a definition may be refused for, with the place where it stands, all by number.
+-- What a definition may be refused for, with the place of the fault, all by number.
 use Rattle.std.specs.Prelude.{ℕ, List}
 use Rattle.law_typing.specs.Rules.Answers.{Rule}
 use Rattle.law_typing.specs.Graph.Channels.{Entry, Link}
@@ -9,7 +9,7 @@ pub data Handling : Type 0 where
   constructed : (class : ℕ) → Handling
   attached : (place number : ℕ) → Handling  -- an object's signal, by its number in the object's list
 
--- the rules of a binding; the first one that a binding breaks is told
+-- the rules of a binding; the first one that a binding breaks is reported
 pub data BindingWord : Type 0 where
   same : BindingWord  -- both ends are one property
   readable : BindingWord  -- the source is not

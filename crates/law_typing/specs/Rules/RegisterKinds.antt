@@ -28,7 +28,7 @@ abbrev pub class_of_plain : Kind → Option ℕ
 class_of_plain (kinds.object type) = Some type
 class_of_plain _ = None
 
--- the same of a kind of registers
+-- the class or interface that a kind of registers names
 abbrev pub class_of_kind : Definition → RegisterKind → Option ℕ
 class_of_kind d kinds.unset = None
 class_of_kind d (kinds.plain kind) = class_of_plain kind

@@ -27,7 +27,7 @@ result_fits d (Some kind) (Some wanted) = fits d (kinds.plain kind) (kinds.plain
 abbrev pub takes : Definition → Program → Kinds → Option Kind → Bool
 takes d p given wanted = parameters_fit d given p.params && result_fits d p.result wanted
 
--- the same of a program that has to be there
+-- whether a program that has to be there takes what it is given, and gives what is wanted
 abbrev pub is_taken_by : Definition → Option Program → Kinds → Option Kind → Bool
 is_taken_by d None given wanted = false
 is_taken_by d (Some p) given wanted = takes d p given wanted

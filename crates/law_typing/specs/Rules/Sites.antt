@@ -8,7 +8,7 @@ use Rattle.law_typing.specs.Rules.Answers.{Rule}
 use Rattle.law_typing.specs.Rules.Typing.{after, block_broken}
 use Rattle.law_typing.specs.Rules.Faults.{Fault, ill_typed}
 
--- an instruction, where it stands, and the kinds before it
+-- an instruction, its place, and the kinds before it
 pub record Site : Type 0 where
   pub program : ℕ
   pub block : ℕ
@@ -37,7 +37,7 @@ program_sites d program (p ∷ programs) = block_sites d p program 0 p.blocks ++
 abbrev pub sites : Definition → List Site
 sites d = program_sites d 0 d.programs
 
--- those of a program that may be missing
+-- the sites of a program that may be missing
 abbrev pub sites_if : Definition → ℕ → Option Program → List Site
 sites_if d program None = []
 sites_if d program (Some p) = block_sites d p program 0 p.blocks
@@ -59,7 +59,7 @@ block_faults d p program block [] = []
 block_faults d p program block (b ∷ blocks) =
     broken_at program block (block_broken d p b) ++ block_faults d p program (suc block) blocks
 
--- the same of each program
+-- the first fault of each block of each program, where the first program has this number
 abbrev pub program_faults : Definition → ℕ → List Program → List Fault
 program_faults d program [] = []
 program_faults d program (p ∷ programs) = block_faults d p program 0 p.blocks ++ program_faults d (suc program) programs

@@ -437,7 +437,7 @@ first_broken d p own at ks [] = None
 first_broken d p own at ks (i ∷ rest) =
     unless_broken (λ rule. Some (at, rule)) (λ after. first_broken d p own (suc at) after rest) (typed_in d p own ks i)
 
--- the same of a whole block
+-- the first instruction of a whole block that breaks a rule, by its number
 abbrev pub block_broken : Definition → Program → Block → Option (ℕ × Rule)
 block_broken d p b = first_broken d p (again b) 0 b.entry b.code
 

@@ -18,7 +18,7 @@ abbrev pub Each : {A : Type 0} → (A → Type 0) → List A → Type 0
 Each P [] = ⊤
 Each P (x ∷ xs) = P x × Each P xs
 
--- the numbers that the report tells of a graph, and that each bound is small enough
+-- the numbers that the report gives of a graph, and that each bound is small enough
 pub record Weighed (g : Graph) : Type 0 where
   pub ranks : Table
   pub costs : Tables

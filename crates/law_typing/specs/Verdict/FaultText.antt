@@ -73,15 +73,15 @@ same_parent None (Some q) = false
 same_parent (Some p) None = false
 same_parent (Some p) (Some q) = nat_eq p q
 
--- whether a place stands in the same list as another: of prototypes, of objects without a parent, or of the children of one
+-- whether a place is in the same list as another: of prototypes, of objects without a parent, or of the children of one
 abbrev pub is_beside : Place → Place → Bool
 is_beside p q = cond p.is_prototype q.is_prototype (not q.is_prototype && same_parent p.parent q.parent)
 
--- how many places before this number stand in the same list
+-- how many places before this number are in the same list
 abbrev pub before_in_list : Definition → ℕ → Place → ℕ
 before_in_list d place p = length (filter (is_beside p) (take place d.places))
 
--- the path of a place, where that of its parent is this; an object without a parent stands at the top
+-- the path of a place, where that of its parent is this; an object without a parent is at the top
 abbrev pub place_under : Definition → ℕ → Option Place → List ℕ → List ℕ
 place_under d place None above = []
 place_under d place (Some p) above =
@@ -110,13 +110,13 @@ path_within (suc steps) d place = place_under d place (place_at d place) (path_w
 abbrev pub place_path : Definition → ℕ → List ℕ
 place_path d place = path_within place d place
 
--- where a program stands that does not take what it is given
+-- the path of a program that does not take what it is given
 abbrev pub handling_path : Definition → Handling → List ℕ
 handling_path d (faults.class_handler class number) = class_path d class ++ entry_of (codes "class-handlers") number
 handling_path d (faults.constructed class) = class_path d class ++ codes "/constructed"
 handling_path d (faults.attached place number) = place_path d place ++ entry_of (codes "signals") number
 
--- where a binding stands
+-- the path of a binding
 abbrev pub binding_path : Definition → ℕ → List ℕ
 binding_path d number = of (slice_get d.bindings number)
   where

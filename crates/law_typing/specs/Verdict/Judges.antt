@@ -1,4 +1,4 @@
--- What a verifier may answer: nothing where a definition is accepted, else the fault for which it is refused, or a cycle that it tells.
+-- What a verifier may answer: nothing where a definition is accepted, else the fault for which it is refused, or a cycle that it reports.
 use Rattle.std.specs.Prelude.{◌≡◌, ℕ, suc, Bool, true, cond, not, nat_lt, List, [], ◌∷◌, map, Option, None, Some}
 use Rattle.std.specs.List.{list_all}
 use Rattle.ui_machine.specs.Definition.{Definition}
@@ -21,7 +21,7 @@ abbrev pub begins_first : Graph → List Link → Bool
 begins_first g [] = true
 begins_first g (l ∷ more) = list_all (λ (m : Link). not (nat_lt (line_of g.raised m.from) (line_of g.raised l.from))) more
 
--- a cycle as it is told: from its first node in the report, with no node twice
+-- a cycle as it is reported: from its first node in the report, with no node twice
 pub record IsToldCycle (g : Graph) (links : List Link) : Type 0 where
   pub cycle : is_cycle g links ≡ true
   pub first : begins_first g links ≡ true

@@ -1,5 +1,5 @@
--- An object that is made and then not kept: its construction's thaw notifies, the last first, and then the object goes. While notifications
--- of the thaw are left the construction holds the object too, so that the run does not tell whether they do.
+-- An object that is made and then not kept: its construction's thaw notifies, the last one first, and then the object goes. While
+-- notifications of the thaw are left the construction holds the object too, so that the run does not show whether they do.
 use Rattle.std.specs.Prelude.{◌≡◌, ℕ, pos, negsuc, false, List, [], ◌∷◌, codes, None, Ok}
 use Rattle.ui_machine.specs.Definition.Kinds as kinds
 use Rattle.ui_machine.specs.Definition.Values as values

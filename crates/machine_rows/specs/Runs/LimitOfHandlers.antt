@@ -1,4 +1,4 @@
--- The limit of handlers counts those that stand.
+-- The limit of handlers counts those that are connected.
 use Rattle.std.specs.Prelude.{◌≡◌, ℕ, pos, negsuc, false, List, [], ◌∷◌, codes, None, Some, Ok}
 use Rattle.ui_machine.specs.Definition.Kinds as kinds
 use Rattle.ui_machine.specs.Definition.Values as values

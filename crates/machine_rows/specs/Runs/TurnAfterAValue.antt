@@ -1,4 +1,4 @@
--- A turn after an event that told a value: the value is gone.
+-- A turn after an event that reported a value: the value is gone.
 use Rattle.std.specs.Prelude.{◌≡◌, ℕ, pos, negsuc, false, List, [], ◌∷◌, codes, None, Ok}
 use Rattle.ui_machine.specs.Definition.Kinds as kinds
 use Rattle.ui_machine.specs.Definition.Values as values
@@ -60,6 +60,6 @@ lines =
     ∷ (codes "turn 5")
     ∷ []
 
--- the lines are shown, and no value stands
+-- the lines are shown, and no value is reported
 abbrev pub Holds : Type 0
 Holds = ends_in definition peers events replies ≡ Ok (lines, None)

@@ -1,4 +1,4 @@
--- A turn where no source is ready: it says one line, ends no dispatch and tells no value.
+-- A turn where no source is ready: it says one line, ends no dispatch and reports no value.
 use Rattle.std.specs.Prelude.{◌≡◌, ℕ, false, List, [], ◌∷◌, codes, None, Ok}
 use Rattle.ui_machine.specs.Definition.Types.{plain_class}
 use Rattle.ui_machine.specs.Definition.{Definition}
@@ -54,6 +54,6 @@ lines =
     ∷ (codes "turn 5")
     ∷ []
 
--- the lines are shown, and no value stands
+-- the lines are shown, and no value is reported
 abbrev pub Holds : Type 0
 Holds = ends_in definition peers events replies ≡ Ok (lines, None)

@@ -46,7 +46,7 @@ branching_null d w f on then_to else_to = do
 
 -- ** blocks and their passes
 
--- the block that a program stands in
+-- the block that a program is in
 unfoldable pub block_in : Definition → Frame → Answer Block
 block_in d f = do
   p ← known arms.Code (program_at d f.program)

@@ -75,7 +75,7 @@ operand_in w f from = do
   i ← identity_of v
   only_if (is_some (living w.objects i)) arms.Operand (Ok i)
 
--- the same of an operand that may be left out
+-- the living object of an operand that may be left out
 unfoldable pub data_in : World → Frame → Option ℕ → Answer (Option ℕ)
 data_in w f None = Ok None
 data_in w f (Some from) = do
@@ -100,7 +100,7 @@ written_to w to v f = do
   registers ← with_register to v f.registers
   goes_on w [] (record f { registers = registers })
 
--- the same, with a value
+-- a value is written to a register
 abbrev pub gives : World → ℕ → Value → Frame → Answer Started
 gives w to v f = written_to w to (Some v) f
 

@@ -11,12 +11,12 @@ use Rattle.ui_machine.specs.Output.Lines as lines
 
 -- ** texts as compact JSON
 
--- a byte with an escape of its own, and what stands for it
+-- a byte with an escape of its own, and what denotes it
 pub record Escape : Type 0 where
   pub byte : ℕ
   pub text : List ℕ
 
--- these two
+-- the escape of this byte, with this text
 abbrev pub escape : ℕ → List ℕ → Escape
 escape byte text = record { byte = byte; text = text }
 
@@ -26,11 +26,11 @@ short_escapes =
     escape 34 (codes "\\\"") ∷ escape 92 (codes "\\\\") ∷ escape 8 (codes "\\b") ∷ escape 9 (codes "\\t") ∷ escape 10 (codes "\\n")
     ∷ escape 12 (codes "\\f") ∷ escape 13 (codes "\\r") ∷ []
 
--- what stands for a byte without one: `\u` with four digits for a control character, and else itself
+-- what denotes a byte without one: `\u` with four digits for a control character, and else itself
 abbrev pub plain_or_control : ℕ → List ℕ
 plain_or_control x = cond (nat_lt x 32) (codes "\\u00" ++ (digit_glyph false (x / 16) ∷ digit_glyph false (x % 16) ∷ [])) (x ∷ [])
 
--- what stands for a byte in a JSON string
+-- what denotes a byte in a JSON string
 abbrev pub escaped_byte : ℕ → List ℕ
 escaped_byte x = escape_in short_escapes
   where
@@ -54,7 +54,7 @@ abbrev pub nick_of : List Member → ℤ → List ℕ
 nick_of [] n = []
 nick_of (m ∷ ms) n = cond (int_eq m.number n) m.nick (nick_of ms n)
 
--- what stands for a type that is not there
+-- the default where a type is not there
 abbrev pub no_type : GType
 no_type = plain_class [] None []
 

@@ -107,7 +107,7 @@ suits fits None (Some kind) = false
 suits fits (Some v) None = false
 suits fits (Some v) (Some kind) = fits v kind
 
--- the same, where a program may give none
+-- the emission after one of its programs ended, which may have given no value
 abbrev pub collected : Signal → Emission → List PlanEntry → Option Value → Task
 collected s e entries None = Emitting e entries
 collected s e entries (Some v) = accumulated s e entries v
@@ -184,7 +184,7 @@ abbrev pub passed_down : List Task → Option Value → Answer (List Task)
 passed_down (Running f ∷ rest) v = taken f.into f rest v
 passed_down rest v = Ok rest
 
--- an event tells of its emission's result
+-- an event reports its emission's result
 abbrev pub told : Definition → World → Bool → Option Value → World
 told d w by_event None = w
 told d w false (Some v) = w

@@ -15,11 +15,11 @@ line_from zero types from = []
 line_from (suc n) types None = []
 line_from (suc n) types (Some t) = t ∷ line_from n types (parent_of types t)
 
--- a type and its ancestors, nearest first; a parent stands before its children, so the ancestors are no more than the types
+-- a type and its ancestors, nearest first; a parent comes before its children, so the ancestors are no more than the types
 abbrev pub lineage : List GType → ℕ → List ℕ
 lineage types t = t ∷ line_from (length types) types (parent_of types t)
 
--- how deep a type stands below the root, which has depth 1
+-- how deep a type lies below the root, which has depth 1
 abbrev pub depth : List GType → ℕ → ℕ
 depth types t = length (lineage types t)
 

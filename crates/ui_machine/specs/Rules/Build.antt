@@ -37,7 +37,7 @@ abbrev pub forward_given : ℕ → ℕ → Given → List Item
 forward_given place slot (value v) = []
 forward_given place slot (named to) = cond (nat_le place to) (forwards place slot to ∷ []) []
 
--- the same of a given property
+-- the forward reference of a given property, if its value is one
 abbrev pub forward_of : ℕ → GivenProperty → List Item
 forward_of place g = forward_given place g.slot g.given
 
@@ -70,7 +70,7 @@ identity_held released = None
 abbrev pub held_object : World → ℕ → Answer ℕ
 held_object w place = known arms.Operand (identity_held (builder_entry w place))
 
--- the same of a place that may be left out
+-- that object, of a place that may be left out
 unfoldable pub held_data : World → Option ℕ → Answer (Option ℕ)
 held_data w None = Ok None
 held_data w (Some place) = do

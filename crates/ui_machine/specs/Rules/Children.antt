@@ -15,15 +15,15 @@ most_children = 1024
 abbrev pub is_unadoptable : ℕ → Object → ℕ → Object → Bool
 is_unadoptable parent p child c = is_some c.parent || (nat_eq parent child || nat_le most_children (length p.children))
 
--- with one more child
+-- an object with one more child
 abbrev pub with_child : ℕ → Object → Object
 with_child child o = record o { children = o.children ++ child ∷ [] }
 
--- with this parent, or none
+-- an object with this parent, or none
 abbrev pub with_parent : Option ℕ → Object → Object
 with_parent parent o = record o { parent = parent }
 
--- without a child
+-- an object without this child
 abbrev pub without_child : ℕ → Object → Object
 without_child child o = record o { children = without child o.children }
 

@@ -21,22 +21,22 @@ signal_number d class name = place_named (λ (s : Signal). s.name) (class_of d c
 
 -- ** details (g_signal_connect with `signal::detail`)
 
--- whether a detail may stand at a signal: the signal is detailed, and a detail of `notify` names a property
+-- whether a signal takes a detail: the signal is detailed, and a detail of `notify` names a property
 abbrev pub may_stand : Definition → (class number : ℕ) → Signal → Option (List ℕ) → Bool
 may_stand d class number s None = true
 may_stand d class number s (Some detail) = has_flags 16 s.flags && (not (nat_eq number 0) || is_some (slot_of d class detail))
 
--- a detail of `notify` is a property's name, and stands in its canonical spelling; another is kept as it is written
+-- a detail of `notify` is a property's name, in its canonical spelling; another is kept as it is written
 abbrev pub detail_for : ℕ → Option (List ℕ) → Option (List ℕ)
 detail_for signal detail = cond (nat_eq signal 0) (option_map canonical detail) detail
 
--- a detail as it stands at a signal of a class, by the signal's number
+-- a detail as a signal of a class keeps it, by the signal's number
 unfoldable pub detail_at : Definition → (class number : ℕ) → Option (List ℕ) → Answer (Option (List ℕ))
 detail_at d class number detail = do
   s ← signal_at d class number
   only_if (may_stand d class number s detail) arms.Code (Ok (detail_for number detail))
 
--- the same at a signal of an object
+-- a detail as a signal of an object keeps it
 unfoldable pub detail_in : Definition → World → (id number : ℕ) → Option (List ℕ) → Answer (Option (List ℕ))
 detail_in d w id number detail = do
   o ← object_at w.objects id
@@ -57,7 +57,7 @@ is_disposed_data os (Some id) = is_disposed (living os id)
 abbrev pub is_too_late : Objects → ℕ → Option ℕ → Bool
 is_too_late os id arg = is_disposed (living os id) || is_disposed_data os arg
 
--- what a handler is connected with: an object and its signal by number, the detail as it stands there, and the data object
+-- what a handler is connected with: an object and its signal by number, the detail as the signal keeps it, and the data object
 pub record Connection : Type 0 where
   pub object : ℕ
   pub signal : ℕ
@@ -91,7 +91,7 @@ with_handler w c = record w { handlers = w.handlers ++ new_handler (suc w.last_h
 abbrev pub by_code_to : ℕ → ℕ → Handler → Bool
 by_code_to id signal h = h.by_code && (nat_eq h.object id && nat_eq h.signal signal)
 
--- whether one more may be connected, where so many are still to be connected by the builder
+-- whether bytecode may connect one more handler, where so many are still to be connected by the builder
 abbrev pub has_room_for_handler : Definition → World → ℕ → ℕ → ℕ → Bool
 has_room_for_handler d w to_come id signal =
     nat_lt (length (filter (by_code_to id signal) w.handlers)) d.most_handlers && nat_lt (w.last_handler + to_come) greatest_handler
@@ -117,7 +117,7 @@ disconnected w id program = record w { handlers = filter (λ h. not (is_on id pr
 abbrev pub most_blocks : ℕ
 most_blocks = 18446744073709551615
 
--- one more block
+-- a handler with one more block
 abbrev pub blocked : Handler → Handler
 blocked h = record h { blocks = min (suc h.blocks) most_blocks }
 
@@ -125,6 +125,6 @@ blocked h = record h { blocks = min (suc h.blocks) most_blocks }
 abbrev pub unblocked : Handler → Handler
 unblocked h = record h { blocks = h.blocks - 1 }
 
--- each of them is changed
+-- each handler on the object that runs the program is changed
 abbrev pub with_handlers_on : (Handler → Handler) → World → ℕ → ℕ → World
 with_handlers_on change w id program = record w { handlers = map (λ h. cond (is_on id program h) (change h) h) w.handlers }

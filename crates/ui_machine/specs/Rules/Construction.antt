@@ -83,7 +83,7 @@ abbrev pub set_of : Option Value → ℕ → List ConstructStep
 set_of None slot = []
 set_of (Some v) slot = sets slot v ∷ []
 
--- what stands for a property that is not there
+-- the default where a property is not there
 abbrev pub no_spec : Spec
 no_spec = record { name = []; kind = kinds.bool; flags = 0; default = values.bool false; low = pos 0; high = pos 0; weak = false }
 

@@ -7,7 +7,7 @@ use Rattle.ui_machine.specs.State.Config.{Started, World, starts}
 use Rattle.ui_machine.specs.State.Objects.{Object}
 use Rattle.ui_machine.specs.State.Tasks.{Notifying, Thawing}
 
--- the queue with one more slot: each stands once, in order of first queueing
+-- the queue with one more slot: each slot is in it once, in order of first queueing
 abbrev pub queued : List ℕ → ℕ → List ℕ
 queued queue slot = cond (list_any (λ s. nat_eq s slot) queue) queue (queue ++ slot ∷ [])
 
@@ -21,12 +21,12 @@ thawed queue = reverse queue
 abbrev pub most_freezes : ℕ
 most_freezes = 18446744073709551615
 
--- with one more freeze
+-- an object with one more freeze
 abbrev pub frozen_more : Object → Answer (After Object (Unit {0}))
 frozen_more o =
     only_if (nat_lt o.freezes most_freezes) arms.Freeze (Ok (record { state = record o { freezes = suc o.freezes }; answer = tt }))
 
--- with one freeze taken off of n + 1, and the notifications that are then made
+-- an object with n freezes left of n + 1, and the notifications that are then made
 abbrev pub less_frozen : ℕ → Object → After Object (List ℕ)
 less_frozen zero o = record { state = record o { freezes = 0; queue = [] }; answer = thawed o.queue }
 less_frozen (suc n) o = record { state = record o { freezes = suc n }; answer = [] }

@@ -51,7 +51,7 @@ raising w id slot = do
   raise ← changed w.objects id (raised slot)
   starts (with_objects w raise.state) (cond raise.answer (Notifying id slot ∷ []) [])
 
--- the same, if the test holds
+-- a notification is raised if the test holds
 abbrev pub raising_if : Bool → World → ℕ → ℕ → Answer Started
 raising_if false w id slot = starts w []
 raising_if true w id slot = raising w id slot
@@ -85,7 +85,7 @@ unless_disposed os (values.object (Some i)) = values.object (cond (is_disposed (
 abbrev pub without_disposed : Objects → Spec → Value → Value
 without_disposed os s v = cond s.weak (unless_disposed os v) v
 
--- a value is written and told of, and the notification raised
+-- a value is written, the line of the set is said, and the notification is raised
 unfoldable pub written : Definition → World → ℕ → ℕ → Spec → Value → Answer Started
 written d w id slot s v = do
   write ← changed w.objects id (with_value slot v)

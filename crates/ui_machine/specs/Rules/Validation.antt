@@ -22,7 +22,7 @@ clamp living_class types spec (values.flags t bits) = values.flags t (bit_and bi
 clamp living_class types spec (values.object o) =
     cond (kind_fits living_class types (values.object o) spec.kind) (values.object o) (values.object None)
 
--- whether a value may stand in the property
+-- whether a value is valid for the property
 abbrev pub is_valid : (ℕ → Option ℕ) → List GType → Spec → Value → Bool
 is_valid living_class types spec v =
     kind_fits living_class types v spec.kind && same_value (clamp living_class types spec v) v

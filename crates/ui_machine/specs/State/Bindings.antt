@@ -1,4 +1,4 @@
--- Bindings that stand between two properties: who listens, and how they end (GObject manual, GBinding).
+-- Bindings between two properties: who listens, and how they end (GObject manual, GBinding).
 use Rattle.std.specs.List.{filter, find, list_any}
 use Rattle.std.specs.Prelude.{Bool, List, None, Option, Some, cond, false, map, nat_eq, not, ℕ, ◌&&◌, ◌||◌}
 use Rattle.ui_machine.specs.Definition.{Definition}
@@ -80,6 +80,6 @@ with_busy number busy bindings = map (λ b. cond (nat_eq b.number number) (recor
 
 -- ** by their numbers
 
--- the binding of a number, while it stands
+-- the binding of a number, if it has not ended
 abbrev pub binding_of : ℕ → List Binding → Option Binding
 binding_of number bindings = find (λ b. nat_eq b.number number) bindings

@@ -115,6 +115,6 @@ is_asked w peer = (peer_state w peer).is_open
 
 -- ** small changes of a world
 
--- the world as an event begins, which has told no value yet
+-- the world as an event begins, which has reported no value yet
 abbrev pub untold : World → World
 untold w = record w { result = None }

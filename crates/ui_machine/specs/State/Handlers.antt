@@ -17,6 +17,6 @@ pub record Handler : Type 0 where
 
 -- ** entries
 
--- the handler of a number, while it stands
+-- the handler of a number, if it is connected
 abbrev pub handler_of : ℕ → List Handler → Option Handler
 handler_of number hs = find (λ h. nat_eq h.number number) hs

@@ -19,7 +19,7 @@ pub record Object : Type 0 where
   pub disposed : Bool
   pub peer : Option ℕ  -- its number in the pool
 
--- by identity: identity i + 1 stands at index i, None once the object is finalised
+-- by identity: identity i + 1 is at index i, None once the object is finalised
 abbrev pub Objects : Type 0
 Objects = List (Option Object)
 

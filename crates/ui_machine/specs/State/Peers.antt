@@ -31,7 +31,7 @@ pub record Reply : Type 0 where
   pub answer : Option Value  -- None is a fault
   pub state : PeerState  -- in which it is from then on
 
--- what stands for a peer that is not there
+-- the default where a peer is not there
 abbrev pub no_peer : Peer
 no_peer = record { name = []; state = record { shape = []; is_open = false; calls = 0; faults = 0; values = [] }; holder = None }
 

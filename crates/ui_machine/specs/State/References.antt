@@ -43,7 +43,7 @@ in_value o (values.enum type n) = 0
 in_value o (values.flags type bits) = 0
 in_value o (values.object i) = in_option o i
 
--- the same of a register
+-- 1 where a register holds a value that names o
 abbrev pub in_register : ℕ → Option Value → ℕ
 in_register o None = 0
 in_register o (Some v) = in_value o v
@@ -90,7 +90,7 @@ in_held o unbuilt = 0
 in_held o (built i) = same o i
 in_held o released = 0
 
--- how often an object stands strongly (GObject manual, references)
+-- how often an object is held by a strong reference (GObject manual, references)
 abbrev pub mentions : Definition → Config → ℕ → ℕ
 mentions d c o =
     total (in_object d o) c.world.objects

@@ -4,11 +4,11 @@ use Rattle.engine_pools.proofs.Points.{same_here, same_on}
 use Rattle.ui_engine.specs.SessionView.{state_at, without_lines}
 use Rattle.event_lines.specs.Events.{event_replies}
 use Rattle.event_lines.specs.Lines.{lines_of}
-use Rattle.event_lines.specs.Reading.{most_ahead}
+use Rattle.event_lines.specs.Reading.{IsBegun, IsLate, most_ahead}
 use Rattle.event_lines.specs.EventFileRun.{AllTold, ends, status_after}
 use Rattle.event_lines.proofs.Befores.{line_before}
-use Rattle.event_lines.proofs.LineLemmas.{known_further}
-use Rattle.event_lines.proofs.Runs.{IsAt, IsNear, at_start, at_next, clean_more, came_start, came_on, came_fine, came_told, told_cut, told_torn, told_whole, bytes_of, bytes_of_all, lines_so_far, lines_left, lines_all, near_first, near_end, near_begun, near_ahead, all_told, held_none, status_is_no_fault}
+use Rattle.event_lines.proofs.LineLemmas.{known_further, known_later}
+use Rattle.event_lines.proofs.Runs.{IsAt, IsNear, at_start, at_next, clean_more, came_start, came_on, came_fine, came_told, told_cut, told_torn, told_whole, bytes_of, bytes_of_all, lines_so_far, lines_left, lines_all, near_first, near_end, near_begun, near_ahead, all_told, ended_if, held_none, late_begun, status_is_no_fault}
 use Rattle.event_lines.proofs.event_file.handle_lines.Goals as goal
 
 pub loop-next-init : goal.loop-next-init
@@ -37,7 +37,8 @@ returns-in_default-clause-file_run g c =
     let begun = c.in_default.ensures.begun in
     let waits = c.next_line.ensures.waits in
     let near = known_further _ _ _ _ _ (λ xs zs. IsNear came.0 most_ahead xs zs) came.3 begun (λ xs ys zs h b. near_begun came.0 xs ys zs h b) in
-    let on = came_on (event_replies may) without_lines came.2 waits (λ u. (ap g.R.Reader.left (sym u), λ v. u ∙ v)) near 1 waits.few in
+    let late = known_later _ _ (λ xs ys. IsBegun xs ys) (λ xs ys. IsLate xs ys) begun late_begun in
+    let on = came_on (event_replies may) without_lines came.2 waits (λ u. (ap g.R.Reader.left (sym u), λ v. u ∙ v)) near (ended_if _ _ _ came.0 came.3 (inr late)) 1 waits.few in
     let none = held_none _ _ c.in_default.ensures.marks (λ u. ap g.R.Reader.failed u ∙ c.loop-next.invariant.reader_works) waits.out in
     let heard = known_further _ _ _ _ _ (λ xs zs. AllTold came.1 xs zs) came.3 begun (λ xs ys zs h b. all_told came.0 came.1 xs ys zs h b came.2.counts) in
     let bytes = bytes_of _ _ came.0 came.2.clean (known_further _ _ _ _ _ _ came.3 begun (λ xs ys zs h b. lines_left came.0 xs ys h)) in
@@ -51,7 +52,7 @@ returns-in_default-next-clause-file_run g c =
     let reads = rw c.in_default-next.is at c.in-Ok.ensures.reads in
     let near = near_ahead _ _ came.0 c.next_line.new.self.chunk
     (known_further _ _ _ _ _ (λ xs zs. IsNear came.0 0 xs zs) came.3 reads (λ xs ys zs h e. near_end came.0 xs ys zs h e)) c.next_line.ensures.small in
-    let on = came_fine (event_replies may) without_lines c.in-Ok.ensures.marks.1 came.2 c.next_line.ensures.waits (λ u. (ap g.R.Reader.left (sym u), λ v. u ∙ v)) near in
+    let on = came_fine (event_replies may) without_lines c.in-Ok.ensures.marks.1 came.2 c.next_line.ensures.waits (λ u. (ap g.R.Reader.left (sym u), λ v. u ∙ v)) near (ended_if _ _ _ came.0 came.3 c.in-Ok.ensures.late) in
     let bytes = bytes_of_all _ _ came.0 came.2.clean (known_further _ _ _ _ _ (λ xs zs. _) came.3 reads (λ xs ys zs h e. lines_all came.0 xs ys h e)) in
     let end = told_whole (event_replies may) without_lines (lines_of bytes.0) [] _ _ on c.loop-next.invariant.works c.finish.ensures.finishes
     (bytes.2 ∙ sym (append-nil came.0)) (inl (came.2.counts ∙ ap length (sym bytes.2))) in
@@ -67,7 +68,7 @@ returns-in_default-tell-clause-file_run g c =
     let comes = line_before c.loop-next.invariant.same now t.mid c.loop-next.number reads.line t.outcome (t.comes reads.line reads.is) in
     let near = near_ahead _ _ came.0 c.next_line.new.self.chunk
     (known_further _ _ _ _ _ (λ xs zs. IsNear came.0 0 xs zs) came.3 reads.first (λ xs ys zs h f. near_first came.0 c.in-Some.found reads.line xs ys zs h f)) c.next_line.ensures.small in
-    let on = came_fine (event_replies may) without_lines c.in-Ok.ensures.marks.1 came.2 c.next_line.ensures.waits (λ u. (ap g.R.Reader.left (sym u), λ v. u ∙ v)) near in
+    let on = came_fine (event_replies may) without_lines c.in-Ok.ensures.marks.1 came.2 c.next_line.ensures.waits (λ u. (ap g.R.Reader.left (sym u), λ v. u ∙ v)) near (ended_if _ _ _ came.0 came.3 c.in-Ok.ensures.late) in
     let bytes = bytes_of _ _ (came.0 ++ reads.line ∷ []) (clean_more came.0 reads.line came.2.clean reads.one)
     (known_further _ _ _ _ _ _ came.3 reads.first (λ xs ys zs h f. lines_so_far came.0 c.in-Some.found reads.line xs ys zs h f)) in
     let end = told_torn (event_replies may) without_lines (lines_of bytes.0) bytes.2 reads.line t.outcome _ c.in_default-tell.ensures.marks on comes t.puts bytes.3 in
@@ -83,7 +84,7 @@ returns-then-ends-clause-file_run g c =
     let comes = line_before c.loop-next.invariant.same now t.mid c.loop-next.number reads.line t.outcome (t.comes reads.line reads.is) in
     let near = near_ahead _ _ came.0 c.next_line.new.self.chunk
     (known_further _ _ _ _ _ (λ xs zs. IsNear came.0 0 xs zs) came.3 reads.first (λ xs ys zs h f. near_first came.0 c.in-Some.found reads.line xs ys zs h f)) c.next_line.ensures.small in
-    let on = came_fine (event_replies may) without_lines c.in-Ok.ensures.marks.1 came.2 c.next_line.ensures.waits (λ u. (ap g.R.Reader.left (sym u), λ v. u ∙ v)) near in
+    let on = came_fine (event_replies may) without_lines c.in-Ok.ensures.marks.1 came.2 c.next_line.ensures.waits (λ u. (ap g.R.Reader.left (sym u), λ v. u ∙ v)) near (ended_if _ _ _ came.0 came.3 c.in-Ok.ensures.late) in
     let told = came_told (event_replies may) without_lines reads.line t.outcome on comes reads.one t.puts in
     let status : c.status_after-status.result ≡ status_after c.loop-next.status t.outcome = c.status_after-status.ensures t.is.0 ∙ ap (status_after c.loop-next.status) (sym t.is.1) in
     let ended : c.ends.result ≡ ends t.outcome = c.ends.ensures t.is.0 ∙ ap ends (sym t.is.1) in
@@ -110,7 +111,7 @@ loop-next-preserved g c =
     let comes = line_before c.loop-next.invariant.same now t.mid c.loop-next.number reads.line t.outcome (t.comes reads.line reads.is) in
     let near = near_ahead _ _ came.0 c.next_line.new.self.chunk
     (known_further _ _ _ _ _ (λ xs zs. IsNear came.0 0 xs zs) came.3 reads.first (λ xs ys zs h f. near_first came.0 c.in-Some.found reads.line xs ys zs h f)) c.next_line.ensures.small in
-    let on = came_fine (event_replies may) without_lines c.in-Ok.ensures.marks.1 came.2 c.next_line.ensures.waits (λ u. (ap g.R.Reader.left (sym u), λ v. u ∙ v)) near in
+    let on = came_fine (event_replies may) without_lines c.in-Ok.ensures.marks.1 came.2 c.next_line.ensures.waits (λ u. (ap g.R.Reader.left (sym u), λ v. u ∙ v)) near (ended_if _ _ _ came.0 came.3 c.in-Ok.ensures.late) in
     let told = came_told (event_replies may) without_lines reads.line t.outcome on comes reads.one t.puts in
     let status : c.status_after-status.result ≡ status_after c.loop-next.status t.outcome = c.status_after-status.ensures t.is.0 ∙ ap (status_after c.loop-next.status) (sym t.is.1) in
     let ended : c.ends.result ≡ ends t.outcome = c.ends.ensures t.is.0 ∙ ap ends (sym t.is.1) in

@@ -1,4 +1,4 @@
-use Rattle.std.proofs.Common.{◌≡◌, ◌<◌, ◌-◌, ℕ, suc, Some, drop, length, of_z, to_z, subst, sym, ap, arith, ◌∙◌}
+use Rattle.std.proofs.Common.{◌≡◌, ◌<◌, ◌-◌, suc, Some, drop, length, of_z, to_z, subst, sym, ap, arith, ◌∙◌}
 use Rattle.std.specs.BTreeMap.{Updates}
 use Rattle.std.specs.Int.{w128}
 use Rattle.std.specs.List.{find}

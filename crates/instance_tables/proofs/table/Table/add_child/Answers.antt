@@ -3,6 +3,7 @@ use Rattle.std.specs.Ordering.{nat_cmp}
 use Rattle.std.specs.BTreeMap.{get}
 use Rattle.std.specs.Option.{option_copied_mut}
 use Rattle.ui_machine.specs.Rules.Children.{with_child}
+use Rattle.ui_machine.specs.State.Objects.{Object}
 use Rattle.instance_tables.specs.Store.{with_objects}
 use Rattle.instance_tables.specs.declared.instance.Instance.{Instance}
 use Rattle.instance_tables.proofs.Shown.{given_out, lives}
@@ -30,6 +31,7 @@ invariant_of-self-2 c =
     let here = sym c.get_mut.ensures.value ∙ ap option_copied_mut c.in-Some.is in
     let made = given_out (get nat_cmp c.self.inside.instances) _ c.self.inside.limit c.self.inside.floating.items _ c.self.view_is in
     let y : Instance = record { object = c.add_child.new.self; mentions = c.in-Some.instance.now.mentions } in
-    kin_well c.self.inside.instances (c.get_mut.follows.lender y) _ _ _ _ y here (c.get_mut.follows.holds y) c.self.invariant
+    kin_well c.self.inside.instances (c.get_mut.follows.lender y) _ _ c.self.inside.namers _ _ y here (c.get_mut.follows.holds y) c.self.invariant
     (child_given (get nat_cmp c.self.inside.instances) _ _ c.self.invariant.2 c.in-Some.instance.now here c.add_child.new.self c.args.child.0 c.in_ok-add_child.ensures.ok
     (omega (arith, made, c.requires.given))) refl
+    (ap (λ (o : Object). o.values) c.in_ok-add_child.ensures.ok)

@@ -14,7 +14,7 @@ use Rattle.instance_tables.specs.declared.instance.Instance.{Instance}
 use Rattle.instance_tables.proofs.Families.{length_updated, was_made}
 use Rattle.instance_tables.proofs.Shown.{found_in, not_absent}
 use Rattle.instance_tables.proofs.Maps.{written_updates, written_beside}
-use Rattle.instance_tables.proofs.Kin.{children_made, kin_well, childless_given}
+use Rattle.instance_tables.proofs.Kin.{children_made, named_well, childless_given}
 use Rattle.instance_tables.proofs.table.Table.empty.Goals as goal
 
 pub returns-in_default-clause-objects : goal.returns-in_default-clause-objects
@@ -30,23 +30,23 @@ returns-in_default-clause-children c =
 pub invariant_of-self-2 : goal.invariant_of-self-2
 invariant_of-self-2 c =
     let here = sym c.get_mut.ensures.value ∙ ap option_copied_mut c.in-Some.is in
-    let y : Instance = record { object = c.dispose.new.self; mentions = c.in-Some.instance.now.mentions } in
-    kin_well c.self.inside.instances (c.get_mut.follows.lender y) _ _ _ _ y here (c.get_mut.follows.holds y) c.self.invariant
-    (childless_given (get nat_cmp c.self.inside.instances) _ _ c.self.invariant.2 c.in-Some.instance.now here c.dispose.new.self
+    let y : Instance = record { object = c.dispose.new.object; mentions = c.in-Some.instance.now.mentions } in
+    named_well c.self.inside.instances (c.get_mut.follows.lender y) _ _ c.self.inside.namers _ _ y here (c.get_mut.follows.holds y) c.self.invariant c.dispose.new.self
+    (childless_given (get nat_cmp c.self.inside.instances) _ _ c.self.invariant.2 c.in-Some.instance.now here c.dispose.new.object
     (ap (λ (o : Object). o.children) c.dispose.ensures.object) (ap (λ (o : Object). o.parent) c.dispose.ensures.object))
-    refl
+    refl c.dispose.ensures.others c.dispose.ensures.names
 
 pub returns-clause-objects : goal.returns-clause-objects
 returns-clause-objects c =
     let here = sym c.get_mut.ensures.value ∙ ap option_copied_mut c.in-Some.is in
-    let y : Instance = record { object = c.dispose.new.self; mentions = c.in-Some.instance.now.mentions } in
+    let y : Instance = record { object = c.dispose.new.object; mentions = c.in-Some.instance.now.mentions } in
     written_updates c.self.inside.instances (c.get_mut.follows.lender y) _ c.self.inside.limit c.self.inside.floating.items _ c.self.invariant.0 c.self.view_is _ _ y
     here (c.get_mut.follows.holds y) (emptied c.args.weak.now) c.dispose.ensures.object
 
 pub returns-clause-beside : goal.returns-clause-beside
 returns-clause-beside c =
     let here = sym c.get_mut.ensures.value ∙ ap option_copied_mut c.in-Some.is in
-    let y : Instance = record { object = c.dispose.new.self; mentions = c.in-Some.instance.now.mentions } in
+    let y : Instance = record { object = c.dispose.new.object; mentions = c.in-Some.instance.now.mentions } in
     written_beside c.self.inside.instances (c.get_mut.follows.lender y) _ c.self.inside.limit c.self.inside.floating.items _ c.self.invariant.0 c.self.view_is _ _ y
     here (c.get_mut.follows.holds y) refl
 

@@ -4,6 +4,7 @@ use Rattle.instance_tables.specs.declared.instance.Instance.{Instance}
 use Rattle.instance_tables.proofs.Shown.{absent_changed}
 use Rattle.instance_tables.proofs.Maps.{written_beside, written_changes, written_refused}
 use Rattle.instance_tables.proofs.Kin.{same_well}
+use Rattle.instance_tables.proofs.Naming.{frozen_values}
 use Rattle.instance_tables.proofs.table.Table.freeze.Goals as goal
 
 pub returns-in_default-clause-changes : goal.returns-in_default-clause-changes
@@ -33,4 +34,5 @@ pub invariant_of-self-2 : goal.invariant_of-self-2
 invariant_of-self-2 c =
     let here = sym c.get_mut.ensures.value ∙ ap option_copied_mut c.in-Some.is in
     let y : Instance = record { object = c.freeze.new.self; mentions = c.in-Some.instance.now.mentions } in
-    same_well c.self.inside.instances (c.get_mut.follows.lender y) _ _ _ _ y here (c.get_mut.follows.holds y) c.self.invariant c.freeze.ensures.kin refl
+    same_well c.self.inside.instances (c.get_mut.follows.lender y) _ _ c.self.inside.namers _ _ y here (c.get_mut.follows.holds y) c.self.invariant c.freeze.ensures.kin refl
+    (frozen_values _ c.freeze.result c.in-Some.instance.now.object c.freeze.new.self c.freeze.ensures.changes c.freeze.ensures.refused)

@@ -4,6 +4,7 @@ use Rattle.std.specs.BTreeMap.{BTreeMap, get}
 use Rattle.instance_tables.specs.View.{objects_of}
 use Rattle.std.specs.Option.{option_copied_mut}
 use Rattle.ui_machine.specs.Rules.Children.{with_parent}
+use Rattle.ui_machine.specs.State.Objects.{Object}
 use Rattle.instance_tables.specs.Store.{id_of, Store}
 use Rattle.instance_tables.specs.declared.instance.Instance.{Instance}
 use Rattle.instance_tables.proofs.Shown.{given_out, absent_updated}
@@ -38,6 +39,7 @@ invariant_of-self-2 c =
     let here = sym c.get_mut.ensures.value ∙ ap option_copied_mut c.in-Some.is in
     let made = given_out (get nat_cmp c.self.inside.instances) _ c.self.inside.limit c.self.inside.floating.items _ c.self.view_is in
     let y : Instance = record { object = c.give_parent.new.self; mentions = c.in-Some.instance.now.mentions } in
-    kin_well c.self.inside.instances (c.get_mut.follows.lender y) _ _ _ _ y here (c.get_mut.follows.holds y) c.self.invariant
+    kin_well c.self.inside.instances (c.get_mut.follows.lender y) _ _ c.self.inside.namers _ _ y here (c.get_mut.follows.holds y) c.self.invariant
     (parent_given (get nat_cmp c.self.inside.instances) _ _ c.self.invariant.2 c.in-Some.instance.now here c.give_parent.new.self (id_of c.args.parent) c.give_parent.ensures
     (λ p e. omega (arith, made, c.requires.kin p e))) refl
+    (ap (λ (o : Object). o.values) c.give_parent.ensures)

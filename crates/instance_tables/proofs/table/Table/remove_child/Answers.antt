@@ -56,5 +56,6 @@ pub invariant_of-self-2 : goal.invariant_of-self-2
 invariant_of-self-2 c =
     let here = sym c.get_mut.ensures.value ∙ ap option_copied_mut c.in-Some.is in
     let y : Instance = record { object = c.remove_child.new.self; mentions = c.in-Some.instance.now.mentions } in
-    kin_well c.self.inside.instances (c.get_mut.follows.lender y) _ _ _ _ y here (c.get_mut.follows.holds y) c.self.invariant
+    kin_well c.self.inside.instances (c.get_mut.follows.lender y) _ _ c.self.inside.namers _ _ y here (c.get_mut.follows.holds y) c.self.invariant
     (without_given (get nat_cmp c.self.inside.instances) _ _ c.self.invariant.2 c.in-Some.instance.now here c.remove_child.new.self c.args.child.0 c.remove_child.ensures.object) refl
+    (ap (λ (o : Object). o.values) c.remove_child.ensures.object)

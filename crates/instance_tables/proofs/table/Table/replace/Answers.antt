@@ -1,9 +1,13 @@
-use Rattle.std.proofs.Common.{refl, sym, ap, ◌∙◌}
+use Rattle.std.proofs.Common.{inl, inr, refl, sym, ap, ◌∙◌}
+use Rattle.std.specs.Ordering.{nat_cmp}
+use Rattle.std.specs.BTreeMap.{get}
+use Rattle.g_values.specs.View.{value_view}
 use Rattle.std.specs.Option.{option_copied_mut}
 use Rattle.instance_tables.specs.declared.instance.Instance.{Instance}
 use Rattle.instance_tables.proofs.Shown.{absent_changed}
 use Rattle.instance_tables.proofs.Maps.{written_beside, written_changes, written_refused}
-use Rattle.instance_tables.proofs.Kin.{same_well}
+use Rattle.instance_tables.proofs.Kin.{kin_kept, named_well}
+use Rattle.instance_tables.proofs.Naming.{names_after}
 use Rattle.instance_tables.proofs.table.Table.replace.Goals as goal
 
 pub returns-in_default-clause-changes : goal.returns-in_default-clause-changes
@@ -33,4 +37,12 @@ pub invariant_of-self-2 : goal.invariant_of-self-2
 invariant_of-self-2 c =
     let here = sym c.get_mut.ensures.value ∙ ap option_copied_mut c.in-Some.is in
     let y : Instance = record { object = c.write.new.self; mentions = c.in-Some.instance.now.mentions } in
-    same_well c.self.inside.instances (c.get_mut.follows.lender y) _ _ _ _ y here (c.get_mut.follows.holds y) c.self.invariant c.write.ensures.kin refl
+    named_well c.self.inside.instances (c.get_mut.follows.lender y) _ _ c.self.inside.namers _ _ y here (c.get_mut.follows.holds y) c.self.invariant c.add_any.new.self
+    (kin_kept (get nat_cmp c.self.inside.instances) _ _ c.in-Some.instance.now c.write.new.self c.self.invariant.2 here c.write.ensures.kin) refl
+    (λ t h ne may. c.add_any.ensures.stays t h may)
+    (λ t named.
+    elim (names_after value_view c.write.result c.args.slot t (value_view c.args.value) c.in-Some.instance.now.object c.write.new.self
+    c.write.ensures.changes c.write.ensures.refused named) [
+      | inl old ↦ c.add_any.ensures.stays t c.args.id.0 (c.self.invariant.3 c.args.id.0 t c.in-Some.instance.now here old)
+      | inr new ↦ c.add_any.ensures.added t (c.named.ensures ∙ new)
+    ])

@@ -9,10 +9,10 @@ use Rattle.instance_tables.proofs.table.Table.take_out.Goals as goal
 pub returns : goal.returns
 returns c =
     removed _ _ _ c.self.inside.limit c.self.inside.floating.items _ c.self.invariant.0 c.self.view_is _ c.requires.live
-    (map_updated c.self.inside.instances c.remove.new.self _ _ c.remove.ensures.updates) c.requires.unheld
+    (map_updated c.self.inside.instances c.remove-gone.new.self _ _ c.remove-gone.ensures.updates) c.requires.unheld
 
 pub invariant_of-self : goal.invariant_of-self
 invariant_of-self c =
-    gone_well (get nat_cmp c.self.inside.instances) (get nat_cmp c.remove.new.self) _ _ _
-    (map_updated c.self.inside.instances c.remove.new.self _ _ c.remove.ensures.updates) c.self.invariant
-    (id_of c.lowest_beside-self-inside.result) c.lowest_beside-self-inside.ensures
+    gone_well (get nat_cmp c.self.inside.instances) (get nat_cmp c.remove-gone.new.self) _ _ c.self.inside.namers _
+    (map_updated c.self.inside.instances c.remove-gone.new.self _ _ c.remove-gone.ensures.updates) c.self.invariant
+    (id_of c.lowest_beside-self-inside.result) c.remove_gone.new.self c.lowest_beside-self-inside.ensures c.remove_gone.ensures

@@ -20,17 +20,18 @@ returns-clause-moves c was here room o =
     let strong = strong_in c.args.weak.now c.args.slot (living c.args.self.now.objects c.args.id.0) in
     let read : Ok (value_view c.in_ok-read.field-0.now) ≡ Ok was = sym c.in_ok-read.ensures ∙ here in
     let is : value_view c.in_ok-read.field-0.now ≡ was = cc in
-    let gain : cond c.is_strong-is_strong.result (in_option o (id_of c.named.result)) 0 ≡ cond strong (in_value o new) 0 =
-    ap (λ b. cond b (in_option o (id_of c.named.result)) 0) c.is_strong-is_strong.ensures
-    ∙ ap (λ n. cond strong n 0) (ap (in_option o) c.named.ensures ∙ by_name o new) in
+    let gain : cond c.is_strong-is_strong.result (in_option o (id_of c.named-to.result)) 0 ≡ cond strong (in_value o new) 0 =
+    ap (λ b. cond b (in_option o (id_of c.named-to.result)) 0) c.is_strong-is_strong.ensures
+    ∙ ap (λ n. cond strong n 0) (ap (in_option o) c.named-to.ensures ∙ by_name o new) in
     let loss : cond c.is_strong-is_strong.result (in_option o (id_of c.named-was.result)) 0 ≡ cond strong (in_value o was) 0 =
     ap (λ b. cond b (in_option o (id_of c.named-was.result)) 0) c.is_strong-is_strong.ensures
     ∙ ap (λ n. cond strong n 0)
     (ap (in_option o) c.named-was.ensures ∙ by_name o (value_view c.in_ok-read.field-0.now) ∙ ap (in_value o) is) in
     omega (
       arith,
-      ap (λ (s : Store). count_of s.counts o) c.replace.ensures.beside,
-      c.move_mention.ensures.moves (ap (may_hold_any c.args.self.now) c.named.ensures ∙ room) o,
+      ap (λ (s : Store). count_of s.counts o) (c.remove_namer.ensures ∙ c.replace-old.ensures.beside),
+      c.move_mention.ensures.moves (ap (λ (s : Store). may_hold_any s (id_of c.named-to.result)) c.limit_namers.ensures ∙ ap (may_hold_any c.args.self.now) c.named-to.ensures ∙ room) o,
+      ap (λ (s : Store). count_of s.counts o) c.limit_namers.ensures,
       gain,
       loss,
     )

@@ -1,4 +1,4 @@
-use Rattle.instances.proofs.Kept.{NoMore, apart_on, lent_on, fewer_follows, raising_keeps}
+use Rattle.instances.proofs.Kept.{NoMore, apart_on, lent_on, fewer_follows, raising_keeps, slotted_on}
 use Rattle.std.proofs.Common.{Bool}
 use Rattle.ui_machine.specs.declared.arm.Halt.TheVariants.{Stuck}
 use Rattle.ui_machine.specs.Outcome.{Stops}
@@ -13,6 +13,7 @@ invariant_of-self g c =
     record {
       lent = lent_on _ _ c.args.self.now.table.objects c.add.new.self.objects fewer c.args.self.now.lent;
       apart = apart_on c.args.self.now.table.objects c.add.new.self.objects fewer c.args.self.now.apart;
+      slotted = slotted_on _ _ c.args.self.now.table.objects c.add.new.self.objects fewer c.args.self.now.slotted;
     }
 
 pub unreachable-requires : goal.unreachable-requires

@@ -1,8 +1,7 @@
 use Rattle.std.proofs.Common.{length, sym, subst, ℕ}
 use Rattle.native_peers.specs.Pool.{entries}
 use Rattle.instances.specs.Lent.{AreLent}
-use Rattle.instances.proofs.Kept.{apart_born, lent_born}
-use Rattle.instances.proofs.Living.{born_unheld}
+use Rattle.instances.proofs.Kept.{apart_born, lent_born, slotted_born}
 use Rattle.instances.proofs.heaps.Heap.add_object.Goals as goal
 
 pub invariant_of-self-2-clause-lent : goal.invariant_of-self-2-clause-lent
@@ -15,6 +14,7 @@ pub invariant_of-self-2-clause-apart : goal.invariant_of-self-2-clause-apart
 invariant_of-self-2-clause-apart g c =
     apart_born c.in_ok-id.id.0 c.args.self.now.table c.create.new.self c.args.object c.args.self.now.apart c.requires.free c.in_ok-id.ensures
 
-pub returns-clause-unheld : goal.returns-clause-unheld
-returns-clause-unheld g c =
-    born_unheld c.args.self.now.table c.create.new.self c.in_ok-id.id.0 c.args.object c.next_unheld-unheld.ensures.dead c.in_ok-id.ensures
+pub invariant_of-self-2-clause-slotted : goal.invariant_of-self-2-clause-slotted
+invariant_of-self-2-clause-slotted g c =
+    slotted_born c.args.self.now.classes.types.now c.args.self.now.classes.specs.now c.in_ok-id.id.0 c.args.self.now.table c.create.new.self c.args.object
+    c.args.self.now.slotted c.requires.full c.in_ok-id.ensures

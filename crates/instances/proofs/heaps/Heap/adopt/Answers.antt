@@ -1,4 +1,4 @@
-use Rattle.instances.proofs.Kept.{NoMore, apart_on, lent_on, fewer_adopted}
+use Rattle.instances.proofs.Kept.{NoMore, apart_on, lent_on, fewer_adopted, slotted_on}
 use Rattle.instances.proofs.heaps.Heap.adopt.Goals as goal
 
 pub invariant_of-self : goal.invariant_of-self
@@ -7,4 +7,5 @@ invariant_of-self g c =
     record {
       lent = lent_on _ _ c.args.self.now.table.objects c.adopt.new.self.objects fewer c.args.self.now.lent;
       apart = apart_on c.args.self.now.table.objects c.adopt.new.self.objects fewer c.args.self.now.apart;
+      slotted = slotted_on _ _ c.args.self.now.table.objects c.adopt.new.self.objects fewer c.args.self.now.slotted;
     }

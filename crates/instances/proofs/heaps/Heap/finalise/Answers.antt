@@ -1,6 +1,6 @@
 use Rattle.std.proofs.Common.{length}
 use Rattle.native_peers.specs.Pool.{entries}
-use Rattle.instances.proofs.Kept.{NoMore, apart_on, lent_among, lent_on, fewer_finalising}
+use Rattle.instances.proofs.Kept.{NoMore, apart_on, lent_among, lent_on, fewer_finalising, slotted_on}
 use Rattle.instances.proofs.heaps.Heap.finalise.Goals as goal
 
 pub invariant_of-self : goal.invariant_of-self
@@ -10,4 +10,5 @@ invariant_of-self g c =
       lent = lent_among c.args.self.now.last_lent (length (entries c.args.self.now.pool)) (length (entries c.close_peer.new.pool)) c.finalise.new.self.objects c.close_peer.ensures.as_many
           (lent_on _ _ c.args.self.now.table.objects c.finalise.new.self.objects fewer c.args.self.now.lent);
       apart = apart_on c.args.self.now.table.objects c.finalise.new.self.objects fewer c.args.self.now.apart;
+      slotted = slotted_on _ _ c.args.self.now.table.objects c.finalise.new.self.objects fewer c.args.self.now.slotted;
     }

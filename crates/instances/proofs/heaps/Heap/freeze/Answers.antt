@@ -1,4 +1,4 @@
-use Rattle.instances.proofs.Kept.{NoMore, apart_on, lent_on, fewer_gives, freezing_keeps}
+use Rattle.instances.proofs.Kept.{NoMore, apart_on, lent_on, fewer_gives, freezing_keeps, slotted_on}
 use Rattle.ui_machine.specs.Rules.NotifyQueue.{frozen_more}
 use Rattle.instances.proofs.Living.{freezes_there}
 use Rattle.instances.proofs.heaps.Heap.freeze.Goals as goal
@@ -9,6 +9,7 @@ invariant_of-self g c =
     record {
       lent = lent_on _ _ c.args.self.now.table.objects c.freeze.new.self.objects fewer c.args.self.now.lent;
       apart = apart_on c.args.self.now.table.objects c.freeze.new.self.objects fewer c.args.self.now.apart;
+      slotted = slotted_on _ _ c.args.self.now.table.objects c.freeze.new.self.objects fewer c.args.self.now.slotted;
     }
 
 pub unreachable-requires : goal.unreachable-requires

@@ -1,4 +1,4 @@
-use Rattle.instances.proofs.Kept.{NoMore, apart_on, lent_on, fewer_gives, thawing_keeps}
+use Rattle.instances.proofs.Kept.{NoMore, apart_on, lent_on, fewer_gives, thawing_keeps, slotted_on}
 use Rattle.std.proofs.Common.{ℕ, Vec, reverse}
 use Rattle.std.specs.Global.{Global}
 use Rattle.ui_machine.specs.Rules.NotifyQueue.{frozen_less}
@@ -11,6 +11,7 @@ invariant_of-self g c =
     record {
       lent = lent_on _ _ c.args.self.now.table.objects c.thaw.new.self.objects fewer c.args.self.now.lent;
       apart = apart_on c.args.self.now.table.objects c.thaw.new.self.objects fewer c.args.self.now.apart;
+      slotted = slotted_on _ _ c.args.self.now.table.objects c.thaw.new.self.objects fewer c.args.self.now.slotted;
     }
 
 pub unreachable-requires : goal.unreachable-requires

@@ -1,4 +1,4 @@
-use Rattle.instances.proofs.Kept.{NoMore, apart_on, lent_on, fewer_writing}
+use Rattle.instances.proofs.Kept.{NoMore, apart_on, lent_on, fewer_writing, slotted_on}
 use Rattle.g_values.specs.View.{value_view}
 use Rattle.instances.proofs.Living.{writes_there}
 use Rattle.instances.proofs.Written.{writes}
@@ -10,6 +10,7 @@ invariant_of-self g c =
     record {
       lent = lent_on _ _ c.args.self.now.table.objects c.write.new.self.objects fewer c.args.self.now.lent;
       apart = apart_on c.args.self.now.table.objects c.write.new.self.objects fewer c.args.self.now.apart;
+      slotted = slotted_on _ _ c.args.self.now.table.objects c.write.new.self.objects fewer c.args.self.now.slotted;
     }
 
 pub unreachable-requires : goal.unreachable-requires

@@ -1,0 +1,103 @@
+//! Events, read from one line after the other.
+
+ghost use Rattle.std.specs.Prelude.{◌≡◌, Ok, IfOk, IfSome};
+ghost use Rattle.definition_format.specs.EventMeaning.{Gives, event_denoted, event_meant, line_value};
+ghost use Rattle.definition_format.specs.Meaning.{event_of};
+ghost use Rattle.law_sessions.specs.Sessions.{EventRead};
+ghost use Rattle.plain_lines.specs.LineData.{line_data};
+
+use crate::emit_reading::emit_of;
+use crate::event_reading::{MAX_LINE_BYTES, event_of_line, get_of, release_of, set_of};
+use definition_format::{Event, EventError};
+use definitions::Definition;
+use plain_lines::{PlainLine, Scratch};
+use std::alloc::{AllocError, Global};
+
+/// A reader of events, which keeps what one line needs for the next.
+#[derive(Drop)]
+pub struct EventReader {
+    scratch: Scratch,
+}
+
+// The plain line that a line is, if it is one.
+fn plain_line<'a>(
+    alloc: Global,
+    bytes: &'a [u8],
+    scratch: &'a mut Scratch,
+) -> Result<Option<PlainLine<'a>>, AllocError>
+    ensures { IfOk result (λ line. IfSome line (λ p. line_value bytes.now ≡ Ok (line_data p))) }
+{
+    if bytes.len() > MAX_LINE_BYTES {
+        return Ok(None);
+    }
+    let Ok(text) = str::from_utf8(bytes) else {
+        return Ok(None);
+    };
+    let line = PlainLine::read(alloc, text, scratch)?;
+    Ok(line)
+}
+
+// The event that a plain line asks for.
+#[tactic(auto, using(crate::proofs::PlainEvents::plain_set, crate::proofs::PlainEvents::plain_get, crate::proofs::PlainEvents::plain_release, crate::proofs::PlainEvents::plain_emit))]
+fn event_of_plain(
+    alloc: Global,
+    definition: &Definition,
+    line: PlainLine<'_>,
+) -> Result<Event, EventError>
+    ensures { Gives event_of result (event_meant definition.now (line_data line.entry)) }
+{
+    match line {
+        PlainLine::Set { id, name, value } => set_of(alloc, definition, id, name, &value),
+        PlainLine::Get { id, name } => get_of(alloc, definition, id, name),
+        PlainLine::Release { id } => release_of(alloc, definition, id),
+        PlainLine::Emit { id, name, args } => {
+            emit_of(alloc, definition, id, name, args.as_slice(), None)
+        }
+    }
+}
+
+// The event that a line denotes.
+#[tactic(auto, unfolding(definition_format::specs::EventMeaning::event_denoted))]
+fn event_of_any(
+    alloc: Global,
+    definition: &Definition,
+    bytes: &[u8],
+    scratch: &mut Scratch,
+) -> Result<Event, EventError>
+    ensures { Gives event_of result (event_denoted definition.now bytes.now) }
+{
+    let Some(line) = plain_line(alloc, bytes, scratch)? else {
+        return event_of_line(alloc, definition, bytes);
+    };
+    let event = event_of_plain(alloc, definition, line)?;
+    Ok(event)
+}
+
+impl EventReader {
+    /// A reader that has read nothing.
+    pub fn new(alloc: Global) -> EventReader {
+        EventReader {
+            scratch: Scratch::new(alloc),
+        }
+    }
+
+    /// Reads an event of a definition. What it names is there and may be asked so, and its values fit: a session of the definition takes
+    /// it. What was read before makes no difference.
+    ///
+    /// # Errors
+    ///
+    /// `Refused` with the first fault in the order of `EventFault`, and `OutOfMemory`.
+    pub fn read(
+        &mut self,
+        alloc: Global,
+        definition: &Definition,
+        bytes: &[u8],
+    ) -> Result<Event, EventError>
+        ensures exact { Gives event_of result (event_denoted definition.now bytes.now) }
+        ensures read { IfOk result (λ event. EventRead definition.now (event_of event)) }
+    {
+        // For the proof: some bytes denote the definition.
+        let _types = definition.types();
+        event_of_any(alloc, definition, bytes, &mut self.scratch)
+    }
+}

@@ -1,5 +1,0 @@
-use Rattle.std.proofs.Common.{length}
-use Rattle.engine_tasks.proofs.programs.+all_fit.Given as goal
-
-abbrev pub decreases-all_fit : goal.decreases-all_fit
-decreases-all_fit l = length l.values.now

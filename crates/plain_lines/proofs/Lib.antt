@@ -1,0 +1,2 @@
+pub mod PlainRead
+mod Scalars

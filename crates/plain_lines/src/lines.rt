@@ -1,0 +1,188 @@
+//! Lines of the plain forms, read token by token.
+
+ghost use Rattle.std.specs.Prelude.{◌≡◌, [], ◌∷◌, Some, IfSome, IfOk, codes};
+ghost use Rattle.json.specs.Token.{begin_object, end_object, begin_array, end_array, string, key};
+ghost use Rattle.serde_json.specs.Read.{read};
+ghost use Rattle.serde_json.specs.View.{items_view};
+ghost use Rattle.plain_lines.specs.LineData.{line_data, Says};
+ghost use Rattle.plain_lines.specs.Tokens.{AreNext};
+
+use crate::tokens::{
+    close_array, close_object, end_line, next_key, next_scalar, next_string, open_array,
+    open_object, value_of,
+};
+use json::{Reader, Scratch, Token};
+use serde_json::Value;
+use std::alloc::{AllocError, Global};
+
+/// What a plain line says. Its texts lie in the line, or where they have escapes, in the scratch.
+#[derive(Drop)]
+pub enum PlainLine<'a> {
+    /// `{"set":[id,name,value]}`
+    Set {
+        id: &'a str,
+        name: &'a str,
+        value: Value,
+    },
+    /// `{"get":[id,name]}`
+    Get {
+        id: &'a str,
+        name: &'a str,
+    },
+    /// `{"release":id}`
+    Release {
+        id: &'a str,
+    },
+    /// `{"emit":[id,name,args]}`
+    Emit {
+        id: &'a str,
+        name: &'a str,
+        args: Vec<Value>,
+    },
+}
+
+// The bracket of a list of words, with the id and the name that it begins with.
+fn open_words<'a>(reader: &mut Reader<'a>) -> Option<(&'a str, &'a str)>
+    ensures { IfSome result (λ w. reader.old ≡ begin_array ∷ string w.0.now ∷ string w.1.now ∷ reader.new) }
+{
+    open_array(reader)?;
+    let id = next_string(reader)?;
+    let name = next_string(reader)?;
+    Some((id, name))
+}
+
+// The brackets behind the words, which end the line.
+fn close_words(reader: &mut Reader<'_>) -> Option<()>
+    ensures { IfSome result (λ _. reader.old ≡ end_array ∷ end_object ∷ []) }
+{
+    close_array(reader)?;
+    close_object(reader)?;
+    end_line(reader)
+}
+
+// The values of a list behind its opening bracket. None where one of them is a list or an object.
+fn next_scalars(alloc: Global, reader: &mut Reader<'_>) -> Result<Option<Vec<Value>>, AllocError>
+    ensures { IfOk result (λ values. IfSome values (λ vs. AreNext reader.old (items_view vs.items) reader.new)) }
+{
+    let mut values = Vec::new(alloc);
+    'values: while let Some(token) = reader.next() {
+        if matches!(token, Token::EndArray) {
+            return Ok(Some(values));
+        }
+        let Some(value) = value_of(alloc, token)? else {
+            return Ok(None);
+        };
+        values.push(value)?;
+    }
+    Ok(None)
+}
+
+// A set, behind its key.
+fn read_set<'a>(alloc: Global, reader: &mut Reader<'a>) -> Result<Option<PlainLine<'a>>, AllocError>
+    ensures { IfOk result (λ line. IfSome line (λ p. Says (begin_object ∷ key (codes "set") ∷ reader.old) p)) }
+{
+    let Some((id, name)) = open_words(reader) else {
+        return Ok(None);
+    };
+    let Some(value) = next_scalar(alloc, reader)? else {
+        return Ok(None);
+    };
+    let Some(()) = close_words(reader) else {
+        return Ok(None);
+    };
+    Ok(Some(PlainLine::Set { id, name, value }))
+}
+
+// A get, behind its key.
+fn read_get<'a>(reader: &mut Reader<'a>) -> Option<PlainLine<'a>>
+    ensures { IfSome result (λ p. Says (begin_object ∷ key (codes "get") ∷ reader.old) p) }
+{
+    let (id, name) = open_words(reader)?;
+    close_words(reader)?;
+    Some(PlainLine::Get { id, name })
+}
+
+// A release, behind its key.
+fn read_release<'a>(reader: &mut Reader<'a>) -> Option<PlainLine<'a>>
+    ensures { IfSome result (λ p. Says (begin_object ∷ key (codes "release") ∷ reader.old) p) }
+{
+    let id = next_string(reader)?;
+    close_object(reader)?;
+    end_line(reader)?;
+    Some(PlainLine::Release { id })
+}
+
+// An emission without a detail, behind its key.
+fn read_emit<'a>(
+    alloc: Global,
+    reader: &mut Reader<'a>,
+) -> Result<Option<PlainLine<'a>>, AllocError>
+    ensures { IfOk result (λ line. IfSome line (λ p. Says (begin_object ∷ key (codes "emit") ∷ reader.old) p)) }
+{
+    let Some((id, name)) = open_words(reader) else {
+        return Ok(None);
+    };
+    let Some(()) = open_array(reader) else {
+        return Ok(None);
+    };
+    let Some(args) = next_scalars(alloc, reader)? else {
+        return Ok(None);
+    };
+    let Some(()) = close_words(reader) else {
+        return Ok(None);
+    };
+    Ok(Some(PlainLine::Emit { id, name, args }))
+}
+
+// The brace that opens a line, and its first key.
+fn open_line<'a>(reader: &mut Reader<'a>) -> Option<&'a str>
+    ensures { IfSome result (λ k. reader.old ≡ begin_object ∷ key k.now ∷ reader.new) }
+{
+    open_object(reader)?;
+    next_key(reader)
+}
+
+// What tokens say, if they are those of a plain line.
+fn read_line<'a>(
+    alloc: Global,
+    reader: &mut Reader<'a>,
+) -> Result<Option<PlainLine<'a>>, AllocError>
+    ensures { IfOk result (λ line. IfSome line (λ p. Says reader.old p)) }
+{
+    let Some(key) = open_line(reader) else {
+        return Ok(None);
+    };
+    if key == "set" {
+        return read_set(alloc, reader);
+    }
+    if key == "get" {
+        return Ok(read_get(reader));
+    }
+    if key == "release" {
+        return Ok(read_release(reader));
+    }
+    if key == "emit" {
+        return read_emit(alloc, reader);
+    }
+    Ok(None)
+}
+
+impl<'a> PlainLine<'a> {
+    /// Reads a text that is a plain line. `None` says nothing of the text: it may still be JSON.
+    ///
+    /// # Errors
+    ///
+    /// `AllocError` where the scratch cannot grow to the length of the text, or there is no memory for a value.
+    #[tactic(auto, using(crate::proofs::PlainRead::read_plain))]
+    pub fn read(
+        alloc: Global,
+        text: &'a str,
+        scratch: &'a mut Scratch,
+    ) -> Result<Option<PlainLine<'a>>, AllocError>
+        ensures { IfOk result (λ line. IfSome line (λ p. read text.now ≡ Some (line_data p))) }
+    {
+        let mut reader = Reader::new(text, scratch)?;
+        let line = read_line(alloc, &mut reader)?;
+        Ok(line)
+    }
+}

@@ -1,0 +1,5 @@
+use Rattle.std.proofs.Common.{◌≡◌, ◌++◌, drop, map, string_bytes}
+use Rattle.type_tree.proofs.enum_members.nicks_of.Given as goal
+
+abbrev pub invariant-loop-member : goal.invariant-loop-member
+invariant-loop-member l = map (λ w. w.now) l.nicks.items ++ map (λ m. string_bytes m.nick) (drop l.member-index l.members) ≡ map (λ m. string_bytes m.nick) l.members
