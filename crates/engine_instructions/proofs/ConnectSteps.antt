@@ -19,6 +19,7 @@ use Rattle.ui_machine.specs.Steps.{left}
 use Rattle.std.specs.Prelude.{codes}
 use Rattle.engine_world.specs.ConnectView.{connection_in, is_connected, is_full, left_by, told_by}
 use Rattle.engine_world.specs.EngineView.{config_of}
+use Rattle.engine_world.specs.Quiet.{IsQuiet}
 use Rattle.engine_world.specs.TaskView.{agenda_of}
 use Rattle.engine_world.specs.View.{world_of}
 use Rattle.engine_world.specs.declared.connections.Outcome.{Outcome}
@@ -107,7 +108,7 @@ module _ (d : Definition) (e m : Engine) (f : Frame) (to object : ℕ) (k : Conn
       (written_elsewhere e.counted (agenda_of d e) to (Some (values.bool (is_connected o))) f (world_of m.world) (world_of m.world) (config_of d mid) (sym same_place ∙ wrote)).0
 
 -- no line is reported by the connection itself
-pub left_transcript : (o : Outcome) (w : World) (x : Connection) → (left_by o w x).transcript ≡ w.transcript
-left_transcript outcomes.Connected w x = refl
-left_transcript outcomes.TooLate w x = refl
-left_transcript outcomes.Full w x = refl
+pub left_quiet : (o : Outcome) (w : World) (x : Connection) → IsQuiet w (left_by o w x)
+left_quiet outcomes.Connected w x = (refl, refl)
+left_quiet outcomes.TooLate w x = (refl, refl)
+left_quiet outcomes.Full w x = (refl, refl)

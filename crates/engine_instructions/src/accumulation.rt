@@ -13,6 +13,7 @@ ghost use Rattle.signal_core.specs.Emission.{accumulator_of};
 ghost use Rattle.definition_format.specs.Meaning.{IsKnownKind};
 ghost use Rattle.instance_tables.specs.Store.{count_of};
 ghost use Rattle.engine_world.specs.KnownHandlers.{AllTakeKnownHandlers, EndsWithoutTransfers};
+ghost use Rattle.engine_world.specs.Quiet.{IsQuiet};
 ghost use Rattle.engine_world.specs.declared.task.Transfers.TheVariants as at;
 ghost use Rattle.engine_instructions.specs.CollectView.{TestsNone, collects, stops_at};
 ghost use Rattle.engine_world.specs.Counting.{Counts, HoldsTasks, KeepsCounts, OnlyCounts, OnlyTasks};
@@ -147,7 +148,7 @@ fn accumulate(
 fn answer(engine: &mut Engine, source: u64, given: Option<Value>) -> Result<(), Halt>
     requires held { HoldsSources engine.now }
     ensures kept { Goes result (kept_source (world_of engine.old.world) source (option_map value_view given)) (world_of engine.new.world) }
-    ensures quiet { (world_of engine.new.world).transcript ≡ (world_of engine.old.world).transcript }
+    ensures quiet { IsQuiet (world_of engine.old.world) (world_of engine.new.world) }
     ensures same { (engine.new.stack ≡ engine.old.stack) × (engine.new.counted ≡ engine.old.counted) }
     ensures handlers { engine.new.world.handlers ≡ engine.old.world.handlers }
     ensures counted { OnOk result ((d : machine.Definition) → KeepsCounts d engine.old engine.new) }
@@ -171,7 +172,7 @@ pub(crate) fn give_down(
     ensures step { Goes result
         (given_down definition.now (world_of engine.old.world) (agenda_of definition.now engine.old) (option_map value_view given))
         (record { world = world_of engine.new.world; agenda = agenda_of definition.now engine.new }) }
-    ensures quiet { (world_of engine.new.world).transcript ≡ (world_of engine.old.world).transcript }
+    ensures quiet { IsQuiet (world_of engine.old.world) (world_of engine.new.world) }
     ensures same { engine.new.counted ≡ engine.old.counted }
     ensures counted { OnOk result (KeepsCounts definition.now engine.old engine.new) }
 {

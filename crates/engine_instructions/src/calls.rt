@@ -13,6 +13,7 @@ ghost use Rattle.frames.specs.FrameView.{frame_view};
 ghost use Rattle.engine_world.specs.Counting.{Counts, in_frame, nothing};
 ghost use Rattle.engine_world.specs.EngineView.{config_of};
 ghost use Rattle.engine_world.specs.GivenView.{Finds};
+ghost use Rattle.engine_world.specs.Quiet.{IsQuiet};
 ghost use Rattle.engine_world.specs.SeatView.{HasKnownKinds};
 ghost use Rattle.engine_world.specs.TaskView.{agenda_of, call_of};
 ghost use Rattle.engine_world.specs.View.{world_of};
@@ -117,7 +118,7 @@ pub(crate) fn call_from_program(
         (left engine.old.counted (in_front (agenda_of definition.now engine.old) (calling definition.now (world_of engine.old.world) (frame_view frame)
         call.now.to.0 call.now.object.0 (string_bytes call.now.method) (map number_of call.now.args.items))))
         (config_of definition.now engine.new) }
-    ensures quiet { OnErr result ((world_of engine.new.world).transcript ≡ (world_of engine.old.world).transcript) }
+    ensures quiet { OnErr result (IsQuiet (world_of engine.old.world) (world_of engine.new.world)) }
     ensures counted { OnOk result (Counts definition.now nothing engine.new) }
 {
     let due = due_call(engine, definition, &frame, call)?;

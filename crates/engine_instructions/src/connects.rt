@@ -12,6 +12,7 @@ ghost use Rattle.engine_world.specs.ConnectView.{connection_in};
 ghost use Rattle.engine_world.specs.Counting.{Counts, in_frame, nothing};
 ghost use Rattle.engine_world.specs.EngineView.{config_of};
 ghost use Rattle.engine_world.specs.GivenView.{Finds};
+ghost use Rattle.engine_world.specs.Quiet.{IsQuiet};
 ghost use Rattle.engine_world.specs.TaskView.{agenda_of};
 ghost use Rattle.engine_world.specs.View.{world_of};
 
@@ -72,7 +73,7 @@ pub(crate) fn connect_from_program(
         (left engine.old.counted (in_front (agenda_of definition.now engine.old)
         (connecting definition.now (world_of engine.old.world) (agenda_of definition.now engine.old) (frame_view frame) to.0 object.0 (connect_view connect.now))))
         (config_of definition.now engine.new) }
-    ensures quiet { OnErr result ((world_of engine.new.world).transcript ≡ (world_of engine.old.world).transcript) }
+    ensures quiet { OnErr result (IsQuiet (world_of engine.old.world) (world_of engine.new.world)) }
     ensures counted { OnOk result (Counts definition.now nothing engine.new) }
 {
     let connection = new_connection(engine, definition, &frame, object, connect)?;

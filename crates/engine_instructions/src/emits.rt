@@ -1,6 +1,6 @@
 //! `emit`: a program emits a signal (GObject manual, Signals: `g_signal_emit`).
 
-ghost use Rattle.std.specs.Prelude.{◌≡◌, OnOk, OnErr};
+ghost use Rattle.std.specs.Prelude.{OnOk, OnErr};
 ghost use Rattle.ui_machine.specs.Instructions.{in_front};
 ghost use Rattle.ui_machine.specs.Instructions.Signals.{emitting, signal_in, signal_to_emit};
 ghost use Rattle.ui_machine.specs.Outcome.{Goes};
@@ -10,6 +10,7 @@ ghost use Rattle.engine_world.specs.Counting.{Counts, in_frame, nothing};
 ghost use Rattle.engine_world.specs.EngineView.{config_of};
 ghost use Rattle.engine_instructions.specs.EmitView.{emission_by_code, emit_of};
 ghost use Rattle.engine_world.specs.GivenView.{Finds};
+ghost use Rattle.engine_world.specs.Quiet.{IsQuiet};
 ghost use Rattle.engine_world.specs.TaskView.{agenda_of, new_of};
 ghost use Rattle.engine_world.specs.View.{world_of};
 
@@ -101,7 +102,7 @@ pub(crate) fn emit_from_program(
     ensures step { Goes result
         (left engine.old.counted (in_front (agenda_of definition.now engine.old) (emitting definition.now (world_of engine.old.world) (frame_view frame) object.0 (emit_of emit.entry))))
         (config_of definition.now engine.new) }
-    ensures quiet { OnErr result ((world_of engine.new.world).transcript ≡ (world_of engine.old.world).transcript) }
+    ensures quiet { OnErr result (IsQuiet (world_of engine.old.world) (world_of engine.new.world)) }
     ensures counted { OnOk result (Counts definition.now nothing engine.new) }
 {
     let emission = new_emission(engine, definition, &frame, object, emit)?;

@@ -9,6 +9,7 @@ ghost use Rattle.g_values.specs.View.{IsKnown};
 ghost use Rattle.frames.specs.FrameView.{frame_view};
 ghost use Rattle.bytecode.specs.Known.{HasKnownKinds};
 ghost use Rattle.bytecode.specs.View.{control_view, instruction_view, object_instruction_view, program_view, property_instruction_view, signal_instruction_view, source_instruction_view};
+ghost use Rattle.engine_world.specs.Quiet.{IsQuiet};
 ghost use Rattle.engine_world.specs.View.{world_of};
 ghost use Rattle.engine_world.specs.TaskView.{agenda_of};
 ghost use Rattle.engine_world.specs.Counting.{Counts, in_frame, nothing};
@@ -60,7 +61,7 @@ pub fn execute(
     ensures step { GoesWithoutGone result
         (left engine.old.counted (instruction_step definition.now (world_of engine.old.world) (agenda_of definition.now engine.old) (frame_view frame) (instruction_view instruction.now)))
         (config_of definition.now engine.new) }
-    ensures quiet { OnErr result ((world_of engine.new.world).transcript ≡ (world_of engine.old.world).transcript) }
+    ensures quiet { OnErr result (IsQuiet (world_of engine.old.world) (world_of engine.new.world)) }
     ensures closing { OnOk result (LeavesClosed (instruction_view instruction.now) (world_of engine.old.world) (frame_view frame) engine.old.closing engine.new.closing) }
     ensures counted { OnOk result (Counts definition.now nothing engine.new) }
 {
@@ -95,7 +96,7 @@ fn execute_control(
     ensures step { Goes result
         (left engine.old.counted (instruction_step definition.now (world_of engine.old.world) (agenda_of definition.now engine.old) (frame_view frame) (control_view instruction.now)))
         (config_of definition.now engine.new) }
-    ensures quiet { OnErr result ((world_of engine.new.world).transcript ≡ (world_of engine.old.world).transcript) }
+    ensures quiet { OnErr result (IsQuiet (world_of engine.old.world) (world_of engine.new.world)) }
     ensures counted { OnOk result (Counts definition.now nothing engine.new) }
 {
     match instruction {
@@ -127,7 +128,7 @@ fn execute_on_properties(
     ensures step { Goes result
         (left engine.old.counted (instruction_step definition.now (world_of engine.old.world) (agenda_of definition.now engine.old) (frame_view frame) (property_instruction_view instruction.now)))
         (config_of definition.now engine.new) }
-    ensures quiet { OnErr result ((world_of engine.new.world).transcript ≡ (world_of engine.old.world).transcript) }
+    ensures quiet { OnErr result (IsQuiet (world_of engine.old.world) (world_of engine.new.world)) }
     ensures counted { OnOk result (Counts definition.now nothing engine.new) }
 {
     match instruction {
@@ -160,7 +161,7 @@ fn execute_on_objects(
     ensures step { GoesWithoutGone result
         (left engine.old.counted (instruction_step definition.now (world_of engine.old.world) (agenda_of definition.now engine.old) (frame_view frame) (object_instruction_view instruction.now)))
         (config_of definition.now engine.new) }
-    ensures quiet { OnErr result ((world_of engine.new.world).transcript ≡ (world_of engine.old.world).transcript) }
+    ensures quiet { OnErr result (IsQuiet (world_of engine.old.world) (world_of engine.new.world)) }
     ensures closing { OnOk result (LeavesClosed (object_instruction_view instruction.now) (world_of engine.old.world) (frame_view frame) engine.old.closing engine.new.closing) }
     ensures counted { OnOk result (Counts definition.now nothing engine.new) }
 {
@@ -189,7 +190,7 @@ fn execute_on_signals(
     ensures step { GoesWithoutGone result
         (left engine.old.counted (instruction_step definition.now (world_of engine.old.world) (agenda_of definition.now engine.old) (frame_view frame) (signal_instruction_view instruction.now)))
         (config_of definition.now engine.new) }
-    ensures quiet { OnErr result ((world_of engine.new.world).transcript ≡ (world_of engine.old.world).transcript) }
+    ensures quiet { OnErr result (IsQuiet (world_of engine.old.world) (world_of engine.new.world)) }
     ensures counted { OnOk result (Counts definition.now nothing engine.new) }
 {
     match instruction {
@@ -237,7 +238,7 @@ fn execute_on_sources(
     ensures step { Goes result
         (left engine.old.counted (instruction_step definition.now (world_of engine.old.world) (agenda_of definition.now engine.old) (frame_view frame) (source_instruction_view instruction.now)))
         (config_of definition.now engine.new) }
-    ensures quiet { OnErr result ((world_of engine.new.world).transcript ≡ (world_of engine.old.world).transcript) }
+    ensures quiet { OnErr result (IsQuiet (world_of engine.old.world) (world_of engine.new.world)) }
     ensures counted { OnOk result (Counts definition.now nothing engine.new) }
 {
     match instruction {

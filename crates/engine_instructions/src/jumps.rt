@@ -10,6 +10,7 @@ ghost use Rattle.ui_machine.specs.Steps.{left};
 ghost use Rattle.bytecode.specs.Computing.{of_one, registers_of};
 ghost use Rattle.frames.specs.FrameView.{frame_view};
 ghost use Rattle.bytecode.specs.View.{program_view};
+ghost use Rattle.engine_world.specs.Quiet.{IsQuiet};
 ghost use Rattle.engine_world.specs.View.{world_of};
 ghost use Rattle.engine_world.specs.TaskView.{agenda_of};
 ghost use Rattle.engine_world.specs.Counting.{Counts, in_frame, nothing};
@@ -48,7 +49,7 @@ pub(crate) fn jump(
     ensures step { Goes result
         (left engine.old.counted (in_front (agenda_of definition.now engine.old) (jumping definition.now (world_of engine.old.world) (frame_view frame) to.0)))
         (config_of definition.now engine.new) }
-    ensures quiet { OnErr result ((world_of engine.new.world).transcript ≡ (world_of engine.old.world).transcript) }
+    ensures quiet { OnErr result (IsQuiet (world_of engine.old.world) (world_of engine.new.world)) }
     ensures counted { OnOk result (Counts definition.now nothing engine.new) }
 {
     // For the proof: the clauses speak of the definition.
@@ -73,7 +74,7 @@ pub(crate) fn branch(
     ensures step { Goes result
         (left engine.old.counted (in_front (agenda_of definition.now engine.old) (branching definition.now (world_of engine.old.world) (frame_view frame) on.0 then_to.0 else_to.0)))
         (config_of definition.now engine.new) }
-    ensures quiet { OnErr result ((world_of engine.new.world).transcript ≡ (world_of engine.old.world).transcript) }
+    ensures quiet { OnErr result (IsQuiet (world_of engine.old.world) (world_of engine.new.world)) }
     ensures counted { OnOk result (Counts definition.now nothing engine.new) }
 {
     let Some(truth) = truth_at(frame.registers.as_slice(), on) else {
@@ -100,7 +101,7 @@ pub(crate) fn branch_null(
     ensures step { Goes result
         (left engine.old.counted (in_front (agenda_of definition.now engine.old) (branching_null definition.now (world_of engine.old.world) (frame_view frame) on.0 then_to.0 else_to.0)))
         (config_of definition.now engine.new) }
-    ensures quiet { OnErr result ((world_of engine.new.world).transcript ≡ (world_of engine.old.world).transcript) }
+    ensures quiet { OnErr result (IsQuiet (world_of engine.old.world) (world_of engine.new.world)) }
     ensures counted { OnOk result (Counts definition.now nothing engine.new) }
 {
     let Some(is_null) = null_at(frame.registers.as_slice(), on) else {

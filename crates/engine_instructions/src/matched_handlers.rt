@@ -13,6 +13,7 @@ ghost use Rattle.engine_world.specs.Counting.{Counts, KeepsCounts, in_frame, not
 ghost use Rattle.engine_world.specs.EngineView.{config_of};
 ghost use Rattle.engine_world.specs.GivenView.{Finds};
 ghost use Rattle.engine_instructions.specs.HandlersView.{matched_in, matched_of};
+ghost use Rattle.engine_world.specs.Quiet.{IsQuiet};
 ghost use Rattle.engine_world.specs.Standing.{GoesWithoutGone, gone_handlers};
 ghost use Rattle.engine_world.specs.TaskView.{agenda_of};
 ghost use Rattle.engine_world.specs.View.{world_of};
@@ -105,7 +106,7 @@ pub(crate) fn disconnect_matched(
     ensures step { GoesWithoutGone result
         (left engine.old.counted (in_front (agenda_of definition.now engine.old) (disconnecting definition.now (world_of engine.old.world) (frame_view frame) object.0 program.now)))
         (config_of definition.now engine.new) }
-    ensures quiet { OnErr result ((world_of engine.new.world).transcript ≡ (world_of engine.old.world).transcript) }
+    ensures quiet { OnErr result (IsQuiet (world_of engine.old.world) (world_of engine.new.world)) }
     ensures counted { OnOk result (Counts definition.now nothing engine.new) }
 {
     let matched = matched_in(engine, definition, &frame, object, program)?;
@@ -126,7 +127,7 @@ pub(crate) fn block_matched(
     ensures step { Goes result
         (left engine.old.counted (in_front (agenda_of definition.now engine.old) (blocking definition.now (world_of engine.old.world) (frame_view frame) object.0 program.now)))
         (config_of definition.now engine.new) }
-    ensures quiet { OnErr result ((world_of engine.new.world).transcript ≡ (world_of engine.old.world).transcript) }
+    ensures quiet { OnErr result (IsQuiet (world_of engine.old.world) (world_of engine.new.world)) }
     ensures counted { OnOk result (Counts definition.now nothing engine.new) }
 {
     let matched = matched_in(engine, definition, &frame, object, program)?;
@@ -147,7 +148,7 @@ pub(crate) fn unblock_matched(
     ensures step { Goes result
         (left engine.old.counted (in_front (agenda_of definition.now engine.old) (unblocking definition.now (world_of engine.old.world) (frame_view frame) object.0 program.now)))
         (config_of definition.now engine.new) }
-    ensures quiet { OnErr result ((world_of engine.new.world).transcript ≡ (world_of engine.old.world).transcript) }
+    ensures quiet { OnErr result (IsQuiet (world_of engine.old.world) (world_of engine.new.world)) }
     ensures counted { OnOk result (Counts definition.now nothing engine.new) }
 {
     let matched = matched_in(engine, definition, &frame, object, program)?;

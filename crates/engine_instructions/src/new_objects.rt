@@ -15,6 +15,7 @@ ghost use Rattle.definitions.specs.EntryView.{entry_view};
 ghost use Rattle.engine_instructions.specs.CreateView.{created, has_room, prototype_named, prototype_of};
 ghost use Rattle.engine_world.specs.EngineView.{config_of};
 ghost use Rattle.engine_world.specs.PeerPlaces.{is_there};
+ghost use Rattle.engine_world.specs.Quiet.{IsQuiet};
 ghost use Rattle.engine_world.specs.TaskView.{agenda_of, task_of};
 ghost use Rattle.engine_world.specs.View.{world_of};
 
@@ -120,7 +121,7 @@ fn create_at(
     ensures step { Goes result
         (left engine.old.counted (in_front (agenda_of definition.now engine.old) (created definition.now (world_of engine.old.world) (frame_view frame) to.0 place.0 peer)))
         (config_of definition.now engine.new) }
-    ensures quiet { OnErr result ((world_of engine.new.world).transcript ≡ (world_of engine.old.world).transcript) }
+    ensures quiet { OnErr result (IsQuiet (world_of engine.old.world) (world_of engine.new.world)) }
     ensures counted { OnOk result (Counts definition.now nothing engine.new) }
 {
     let new = make(engine, definition, place, peer)?;
@@ -149,7 +150,7 @@ pub(crate) fn create(
         (left engine.old.counted (in_front (agenda_of definition.now engine.old)
         (creating definition.now (world_of engine.old.world) (agenda_of definition.now engine.old) (frame_view frame) to.0 id.now)))
         (config_of definition.now engine.new) }
-    ensures quiet { OnErr result ((world_of engine.new.world).transcript ≡ (world_of engine.old.world).transcript) }
+    ensures quiet { OnErr result (IsQuiet (world_of engine.old.world) (world_of engine.new.world)) }
     ensures counted { OnOk result (Counts definition.now nothing engine.new) }
 {
     // For the proof: what is known of a definition's places.

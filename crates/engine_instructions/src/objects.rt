@@ -14,6 +14,7 @@ ghost use Rattle.frames.specs.FrameView.{frame_view};
 ghost use Rattle.instance_tables.specs.Family.{parent_in};
 ghost use Rattle.instance_tables.specs.Weak.{Knows};
 ghost use Rattle.machine_laws.specs.GoneLaws.{pruned};
+ghost use Rattle.engine_world.specs.Quiet.{IsQuiet};
 ghost use Rattle.engine_world.specs.View.{world_of};
 ghost use Rattle.engine_world.specs.TaskView.{agenda_of};
 ghost use Rattle.engine_world.specs.ClosingView.{closed_with, or_number};
@@ -52,7 +53,7 @@ pub(crate) fn look_up_object(
     ensures step { Goes result
         (left engine.old.counted (in_front (agenda_of definition.now engine.old) (look_up_object definition.now (world_of engine.old.world) (frame_view frame) to.0 id.now)))
         (config_of definition.now engine.new) }
-    ensures quiet { OnErr result ((world_of engine.new.world).transcript ≡ (world_of engine.old.world).transcript) }
+    ensures quiet { OnErr result (IsQuiet (world_of engine.old.world) (world_of engine.new.world)) }
     ensures counted { OnOk result (Counts definition.now nothing engine.new) }
 {
     let Some(place) = definition.place(id) else {
@@ -79,7 +80,7 @@ pub(crate) fn sink(
     ensures step { Goes result
         (left engine.old.counted (in_front (agenda_of definition.now engine.old) (sinking (world_of engine.old.world) (frame_view frame) object.0)))
         (config_of definition.now engine.new) }
-    ensures quiet { OnErr result ((world_of engine.new.world).transcript ≡ (world_of engine.old.world).transcript) }
+    ensures quiet { OnErr result (IsQuiet (world_of engine.old.world) (world_of engine.new.world)) }
     ensures counted { OnOk result (Counts definition.now nothing engine.new) }
 {
     // For the proof: the clauses speak of the definition.
@@ -101,7 +102,7 @@ pub(crate) fn freeze_notify(
     ensures step { Goes result
         (left engine.old.counted (in_front (agenda_of definition.now engine.old) (freezing (world_of engine.old.world) (frame_view frame) object.0)))
         (config_of definition.now engine.new) }
-    ensures quiet { OnErr result ((world_of engine.new.world).transcript ≡ (world_of engine.old.world).transcript) }
+    ensures quiet { OnErr result (IsQuiet (world_of engine.old.world) (world_of engine.new.world)) }
     ensures counted { OnOk result (Counts definition.now nothing engine.new) }
 {
     // For the proof: the clauses speak of the definition.
@@ -123,7 +124,7 @@ pub(crate) fn thaw_notify(
     ensures step { Goes result
         (left engine.old.counted (in_front (agenda_of definition.now engine.old) (thaw_notify (world_of engine.old.world) (frame_view frame) object.0)))
         (config_of definition.now engine.new) }
-    ensures quiet { OnErr result ((world_of engine.new.world).transcript ≡ (world_of engine.old.world).transcript) }
+    ensures quiet { OnErr result (IsQuiet (world_of engine.old.world) (world_of engine.new.world)) }
     ensures counted { OnOk result (Counts definition.now nothing engine.new) }
 {
     // For the proof: the clauses speak of the definition.
@@ -144,7 +145,7 @@ pub(crate) fn thaw_notify(
 // An object leaves its parent, if it has one.
 fn leave(engine: &mut Engine, definition: &Definition, child: ObjectId) -> Result<(), AllocError>
     ensures ok { let w = world_of engine.old.world in OnOk result (world_of engine.new.world ≡ orphaned definition.now w child.0 (parent_in (living w.objects child.0))) }
-    ensures err { OnErr result ((world_of engine.new.world).transcript ≡ (world_of engine.old.world).transcript) }
+    ensures err { OnErr result (IsQuiet (world_of engine.old.world) (world_of engine.new.world)) }
     ensures same { (engine.new.stack ≡ engine.old.stack) × (engine.new.counted ≡ engine.old.counted) }
     ensures handlers { engine.new.world.handlers ≡ engine.old.world.handlers }
     ensures counted { OnOk result (KeepsCounts definition.now engine.old engine.new) }
@@ -169,7 +170,7 @@ pub(crate) fn orphan(
     ensures step { Goes result
         (left engine.old.counted (in_front (agenda_of definition.now engine.old) (orphaning definition.now (world_of engine.old.world) (frame_view frame) object.0)))
         (config_of definition.now engine.new) }
-    ensures quiet { OnErr result ((world_of engine.new.world).transcript ≡ (world_of engine.old.world).transcript) }
+    ensures quiet { OnErr result (IsQuiet (world_of engine.old.world) (world_of engine.new.world)) }
     ensures counted { OnOk result (Counts definition.now nothing engine.new) }
 {
     let object = object_in(engine, &frame, object)?;
@@ -191,7 +192,7 @@ pub(crate) fn adopt_from_program(
     ensures step { Goes result
         (left engine.old.counted (in_front (agenda_of definition.now engine.old) (adopting definition.now (world_of engine.old.world) (frame_view frame) to.0 parent.0 child.0)))
         (config_of definition.now engine.new) }
-    ensures quiet { OnErr result ((world_of engine.new.world).transcript ≡ (world_of engine.old.world).transcript) }
+    ensures quiet { OnErr result (IsQuiet (world_of engine.old.world) (world_of engine.new.world)) }
     ensures counted { OnOk result (Counts definition.now nothing engine.new) }
 {
     let parent = object_in(engine, &frame, parent)?;
@@ -208,7 +209,7 @@ fn dispose(engine: &mut Engine, definition: &Definition, object: ObjectId) -> Re
     requires knows { Knows definition.now engine.now.world.weak }
     ensures step { Goes result (disposed definition.now (world_of engine.old.world) object.0) (world_of engine.new.world) }
     ensures agenda { OnOk result (agenda_of definition.now engine.new ≡ map (pruned (gone_handlers (world_of engine.new.world))) (agenda_of definition.now engine.old)) }
-    ensures quiet { OnErr result ((world_of engine.new.world).transcript ≡ (world_of engine.old.world).transcript) }
+    ensures quiet { OnErr result (IsQuiet (world_of engine.old.world) (world_of engine.new.world)) }
     ensures same { OnOk result (engine.new.counted ≡ engine.old.counted) }
     ensures closing { OnOk result (engine.new.closing ≡ or_number (closed_with (world_of engine.old.world) object.0) engine.old.closing) }
     ensures counted { OnOk result (KeepsCounts definition.now engine.old engine.new) }
@@ -236,7 +237,7 @@ pub(crate) fn run_dispose(
     ensures step { GoesWithoutGone result
         (left engine.old.counted (in_front (agenda_of definition.now engine.old) (disposing definition.now (world_of engine.old.world) (frame_view frame) object.0)))
         (config_of definition.now engine.new) }
-    ensures quiet { OnErr result ((world_of engine.new.world).transcript ≡ (world_of engine.old.world).transcript) }
+    ensures quiet { OnErr result (IsQuiet (world_of engine.old.world) (world_of engine.new.world)) }
     ensures closing { OnOk result (engine.new.closing
         ≡ or_number (closed_in (world_of engine.old.world) (operand_in (world_of engine.old.world) (frame_view frame) object.0)) engine.old.closing) }
     ensures counted { OnOk result (Counts definition.now nothing engine.new) }

@@ -1,6 +1,6 @@
 //! Instructions on properties: `get`, `set` and `notify`.
 
-ghost use Rattle.std.specs.Prelude.{◌≡◌, OnOk, OnErr};
+ghost use Rattle.std.specs.Prelude.{OnOk, OnErr};
 ghost use Rattle.ui_machine.specs.Instructions.{in_front};
 ghost use Rattle.ui_machine.specs.Instructions.Properties.{set_property, get_property, slot_at, notify_from_program};
 ghost use Rattle.ui_machine.specs.Instructions.Registers.{value_in};
@@ -10,6 +10,7 @@ ghost use Rattle.ui_machine.specs.Steps.{left, uncounted};
 ghost use Rattle.g_values.specs.View.{value_view};
 ghost use Rattle.frames.specs.FrameView.{frame_view};
 ghost use Rattle.instance_tables.specs.Store.{Shows};
+ghost use Rattle.engine_world.specs.Quiet.{IsQuiet};
 ghost use Rattle.engine_world.specs.View.{world_of};
 ghost use Rattle.engine_world.specs.GivenView.{Finds};
 ghost use Rattle.engine_instructions.specs.PropertyView.{settable_slot, readable_value};
@@ -107,7 +108,7 @@ pub(crate) fn get_property(
     ensures step { Goes result
         (left engine.old.counted (in_front (agenda_of definition.now engine.old) (get_property definition.now (world_of engine.old.world) (frame_view frame) to.0 object.0 property.now)))
         (config_of definition.now engine.new) }
-    ensures quiet { OnErr result ((world_of engine.new.world).transcript ≡ (world_of engine.old.world).transcript) }
+    ensures quiet { OnErr result (IsQuiet (world_of engine.old.world) (world_of engine.new.world)) }
     ensures counted { OnOk result (Counts definition.now nothing engine.new) }
 {
     let object = object_in(engine, &frame, object)?;
@@ -128,7 +129,7 @@ pub(crate) fn set_property(
     ensures step { Goes result
         (left engine.old.counted (in_front (agenda_of definition.now engine.old) (set_property definition.now (world_of engine.old.world) (frame_view frame) object.0 property.now from.0)))
         (config_of definition.now engine.new) }
-    ensures quiet { OnErr result ((world_of engine.new.world).transcript ≡ (world_of engine.old.world).transcript) }
+    ensures quiet { OnErr result (IsQuiet (world_of engine.old.world) (world_of engine.new.world)) }
     ensures counted { OnOk result (Counts definition.now nothing engine.new) }
 {
     let object = object_in(engine, &frame, object)?;
@@ -157,7 +158,7 @@ fn raise(
     ensures step { Goes result
         (uncounted (agenda_of definition.now engine.old) engine.old.counted (raising (world_of engine.old.world) object.0 slot))
         (config_of definition.now engine.new) }
-    ensures quiet { OnErr result ((world_of engine.new.world).transcript ≡ (world_of engine.old.world).transcript) }
+    ensures quiet { OnErr result (IsQuiet (world_of engine.old.world) (world_of engine.new.world)) }
     ensures counted { OnOk result (KeepsCounts definition.now engine.old engine.new) }
 {
     // For the proof: the clauses speak of the definition.
@@ -181,7 +182,7 @@ pub(crate) fn notify_from_program(
     ensures step { Goes result
         (left engine.old.counted (in_front (agenda_of definition.now engine.old) (notify_from_program definition.now (world_of engine.old.world) (frame_view frame) object.0 property.now)))
         (config_of definition.now engine.new) }
-    ensures quiet { OnErr result ((world_of engine.new.world).transcript ≡ (world_of engine.old.world).transcript) }
+    ensures quiet { OnErr result (IsQuiet (world_of engine.old.world) (world_of engine.new.world)) }
     ensures counted { OnOk result (Counts definition.now nothing engine.new) }
 {
     let object = object_in(engine, &frame, object)?;

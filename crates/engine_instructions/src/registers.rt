@@ -1,6 +1,6 @@
 //! Instructions that touch registers alone.
 
-ghost use Rattle.std.specs.Prelude.{◌≡◌, Some, option_map, OnOk, OnErr};
+ghost use Rattle.std.specs.Prelude.{Some, option_map, OnOk, OnErr};
 ghost use Rattle.ui_machine.specs.Instructions.{in_front, instruction_step};
 ghost use Rattle.ui_machine.specs.Instructions.Registers.{written_to};
 ghost use Rattle.ui_machine.specs.Outcome.{Goes};
@@ -10,6 +10,7 @@ ghost use Rattle.ui_machine.specs.Steps.{left};
 ghost use Rattle.g_values.specs.View.{value_view};
 ghost use Rattle.bytecode.specs.Computing.{HasKnownKind, instruction_of};
 ghost use Rattle.frames.specs.FrameView.{frame_view};
+ghost use Rattle.engine_world.specs.Quiet.{IsQuiet};
 ghost use Rattle.engine_world.specs.View.{world_of};
 ghost use Rattle.engine_world.specs.TaskView.{agenda_of};
 ghost use Rattle.engine_world.specs.Counting.{Counts, in_frame, nothing};
@@ -37,7 +38,7 @@ pub(crate) fn write_register(
     ensures step { Goes result
         (left engine.old.counted (in_front (agenda_of definition.now engine.old) (written_to (world_of engine.old.world) to.0 (option_map value_view value) (frame_view frame))))
         (config_of definition.now engine.new) }
-    ensures quiet { OnErr result ((world_of engine.new.world).transcript ≡ (world_of engine.old.world).transcript) }
+    ensures quiet { OnErr result (IsQuiet (world_of engine.old.world) (world_of engine.new.world)) }
     ensures counted { OnOk result (Counts definition.now nothing engine.new) }
 {
     // For the proof: the clauses speak of the definition.
@@ -61,7 +62,7 @@ pub(crate) fn write_null_and_say_limit(
         (left engine.old.counted (in_front (agenda_of definition.now engine.old)
         (written_to (said definition.now (world_of engine.old.world) (lines.limit word.now)) to.0 (Some (value_view value)) (frame_view frame))))
         (config_of definition.now engine.new) }
-    ensures quiet { OnErr result ((world_of engine.new.world).transcript ≡ (world_of engine.old.world).transcript) }
+    ensures quiet { OnErr result (IsQuiet (world_of engine.old.world) (world_of engine.new.world)) }
     ensures counted { OnOk result (Counts definition.now nothing engine.new) }
 {
     put(&mut engine.world.table, &mut frame, to, Some(value))?;
@@ -83,7 +84,7 @@ pub(crate) fn compute_register(
     ensures step { Goes result
         (left engine.old.counted (instruction_step definition.now (world_of engine.old.world) (agenda_of definition.now engine.old) (frame_view frame) (instruction_of computation.now to.0)))
         (config_of definition.now engine.new) }
-    ensures quiet { OnErr result ((world_of engine.new.world).transcript ≡ (world_of engine.old.world).transcript) }
+    ensures quiet { OnErr result (IsQuiet (world_of engine.old.world) (world_of engine.new.world)) }
     ensures counted { OnOk result (Counts definition.now nothing engine.new) }
 {
     let types = definition.types();

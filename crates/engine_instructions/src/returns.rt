@@ -11,6 +11,7 @@ ghost use Rattle.bytecode.specs.View.{number_of, program_view};
 ghost use Rattle.engine_world.specs.Counting.{Counts, in_frame, nothing};
 ghost use Rattle.engine_world.specs.EngineView.{config_of};
 ghost use Rattle.engine_world.specs.GivenView.{Finds};
+ghost use Rattle.engine_world.specs.Quiet.{IsQuiet};
 ghost use Rattle.engine_world.specs.TaskView.{agenda_of};
 ghost use Rattle.engine_world.specs.View.{world_of};
 
@@ -69,7 +70,7 @@ pub(crate) fn return_from_program(
     ensures step { Goes result
         (left engine.old.counted (returning definition.now (world_of engine.old.world) (frame_view frame) (agenda_of definition.now engine.old) (option_map number_of from)))
         (config_of definition.now engine.new) }
-    ensures quiet { OnErr result ((world_of engine.new.world).transcript ≡ (world_of engine.old.world).transcript) }
+    ensures quiet { OnErr result (IsQuiet (world_of engine.old.world) (world_of engine.new.world)) }
     ensures counted { OnOk result (Counts definition.now nothing engine.new) }
 {
     let given = returned(engine, definition, program, &frame, from)?;

@@ -5,6 +5,7 @@ ghost use Rattle.ui_machine.specs.Instructions.{in_front};
 ghost use Rattle.ui_machine.specs.Instructions.Sources.{attaching, removing, with_source};
 ghost use Rattle.ui_machine.specs.State.Config.{World};
 ghost use Rattle.instance_tables.specs.Store.{id_of};
+ghost use Rattle.engine_world.specs.Quiet.{IsQuiet};
 ghost use Rattle.engine_world.specs.SourceView.{with_new_source};
 ghost use Rattle.ui_machine.specs.Outcome.{Goes};
 ghost use Rattle.ui_machine.specs.Steps.{left};
@@ -64,7 +65,7 @@ pub(crate) fn attach_from_program(
     ensures step { Goes result
         (left engine.old.counted (in_front (agenda_of definition.now engine.old) (attaching definition.now (world_of engine.old.world) (frame_view frame) to.0 (attach_of attach.entry))))
         (config_of definition.now engine.new) }
-    ensures quiet { OnErr result ((world_of engine.new.world).transcript ≡ (world_of engine.old.world).transcript) }
+    ensures quiet { OnErr result (IsQuiet (world_of engine.old.world) (world_of engine.new.world)) }
     ensures counted { OnOk result (Counts definition.now nothing engine.new) }
 {
     let program = program_named(definition, attach.program)?;
@@ -94,7 +95,7 @@ pub(crate) fn remove_from_program(
     ensures step { Goes result
         (left engine.old.counted (in_front (agenda_of definition.now engine.old) (removing definition.now (world_of engine.old.world) (frame_view frame) program.now)))
         (config_of definition.now engine.new) }
-    ensures quiet { OnErr result ((world_of engine.new.world).transcript ≡ (world_of engine.old.world).transcript) }
+    ensures quiet { OnErr result (IsQuiet (world_of engine.old.world) (world_of engine.new.world)) }
     ensures counted { OnOk result (Counts definition.now nothing engine.new) }
 {
     let number = program_named(definition, program)?;

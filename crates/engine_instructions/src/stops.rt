@@ -11,6 +11,7 @@ ghost use Rattle.frames.specs.FrameView.{frame_view};
 ghost use Rattle.engine_world.specs.KnownHandlers.{AllTakeKnownHandlers};
 ghost use Rattle.engine_world.specs.Counting.{Counts, in_frame, nothing};
 ghost use Rattle.engine_world.specs.EngineView.{config_of};
+ghost use Rattle.engine_world.specs.Quiet.{IsQuiet};
 ghost use Rattle.engine_world.specs.TaskView.{agenda_of};
 ghost use Rattle.engine_world.specs.View.{world_of};
 
@@ -62,7 +63,7 @@ pub(crate) fn stop_from_program(
     ensures step { Goes result
         (left engine.old.counted (instruction_step definition.now (world_of engine.old.world) (agenda_of definition.now engine.old) (frame_view frame) words.stop))
         (config_of definition.now engine.new) }
-    ensures quiet { OnErr result ((world_of engine.new.world).transcript ≡ (world_of engine.old.world).transcript) }
+    ensures quiet { OnErr result (IsQuiet (world_of engine.old.world) (world_of engine.new.world)) }
     ensures counted { OnOk result (Counts definition.now nothing engine.new) }
 {
     // For the proof: the clauses speak of the definition.

@@ -12,6 +12,7 @@ ghost use Rattle.definition_format.specs.Meaning.{bind_view};
 ghost use Rattle.frames.specs.FrameView.{frame_view};
 ghost use Rattle.engine_world.specs.Counting.{Counts, KeepsCounts, in_frame, nothing};
 ghost use Rattle.engine_world.specs.EngineView.{config_of};
+ghost use Rattle.engine_world.specs.Quiet.{IsQuiet};
 ghost use Rattle.engine_world.specs.TaskView.{agenda_of};
 ghost use Rattle.engine_world.specs.View.{world_of};
 ghost use Rattle.engine_instructions.specs.UnbindView.{is_named};
@@ -76,7 +77,7 @@ pub(crate) fn unbind_from_program(
     ensures step { Goes result
         (left engine.old.counted (in_front (agenda_of definition.now engine.old) (unbinding definition.now (world_of engine.old.world) (frame_view frame) name.now)))
         (config_of definition.now engine.new) }
-    ensures quiet { OnErr result ((world_of engine.new.world).transcript ≡ (world_of engine.old.world).transcript) }
+    ensures quiet { OnErr result (IsQuiet (world_of engine.old.world) (world_of engine.new.world)) }
     ensures counted { OnOk result (Counts definition.now nothing engine.new) }
 {
     if !is_binding(definition, name) {

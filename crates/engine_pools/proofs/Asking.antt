@@ -7,24 +7,25 @@ use Rattle.ui_machine.specs.Definition.{Definition}
 use Rattle.ui_machine.specs.Definition.Values.{Value}
 use Rattle.ui_machine.specs.Runs.{Reaches, Step}
 use Rattle.ui_machine.specs.Seq.{read, write}
-use Rattle.ui_machine.specs.State.Config.{Config}
+use Rattle.ui_machine.specs.State.Config.{Config, World}
 use Rattle.ui_machine.specs.State.Peers.{Peer, PeerState, Reply, no_peer}
 use Rattle.ui_machine.specs.State.References.{mentions, next_unheld}
 use Rattle.ui_machine.specs.State.Tasks.{Call, Calling, Task}
 use Rattle.ui_machine.specs.Steps.{act, asked_after, asked_first, first_of, question, step}
 use Rattle.law_peers.specs.Forgetting.{forgotten_at, forgotten_reply}
-use Rattle.law_peers.specs.PeerLaws.{peer_in, shut}
+use Rattle.law_peers.specs.PeerLaws.{peer_in, replied_in, shut}
 use Rattle.law_peers.proofs.ForgettingProofs.{step_forgets}
 use Rattle.law_peers.proofs.RunLives.{reaches_lives}
 use Rattle.machine_laws.specs.GoneLaws.{Gone, is_next, pruned, pruned_at}
+use Rattle.engine_world.specs.Quiet.{IsQuiet, holders}
 use Rattle.engine_world.specs.Standing.{gone_handlers, without_gone}
 use Rattle.native_peers.specs.Seen.{Relations, Seen}
 use Rattle.engine_pools.specs.Following.{Arrives, Breaks, Follows, Point, Stands}
-use Rattle.engine_pools.specs.PoolView.{GivenBy, Knows, Takes, one_more, seen_of}
+use Rattle.engine_pools.specs.PoolView.{GivenBy, Knows, Takes, one_more, seen_of, with_seen}
 use Rattle.engine_pools.specs.Safety.{ComesOfSafe, IsApt, NoneUnheld}
 use Rattle.engine_pools.proofs.Lifting.{lift_step}
 use Rattle.engine_pools.proofs.Living.{map_read, no_seen, one_replies, read_at, read_set, read_unset, seen_at, shut_seen}
-use Rattle.engine_pools.proofs.Points.{seen_by}
+use Rattle.engine_pools.proofs.Points.{held_there, left_as, seen_by}
 use Rattle.engine_pools.proofs.Reaching.{reaches_here}
 use Rattle.engine_pools.proofs.Standing.{IsApart, comes_by, steps_so, stuck, unheld_so}
 
@@ -38,6 +39,13 @@ write_seen : (ps : List Peer) (k : ℕ) (y : Peer) (s : Seen) → slice_get (map
 write_seen [] k y s at = absurd (cc at)
 write_seen (p ∷ ps) zero y s at = refl
 write_seen (p ∷ ps) (suc k) y s at = ap (λ (l : List Seen). seen_of p ∷ l) (write_seen ps k y s at)
+
+-- a peer in another state is whose it was
+held_written : (ps : List Peer) (k : ℕ) (after : PeerState) (s : Seen) → slice_get (map seen_of ps) k ≡ Some s
+    → holders (write no_peer ps k (record (peer_in ps k) { state = after })) ≡ holders ps
+held_written [] k after s at = absurd (cc at)
+held_written (p ∷ ps) zero after s at = refl
+held_written (p ∷ ps) (suc k) after s at = ap (λ (l : List (Option ℕ)). p.holder ∷ l) (held_written ps k after s at)
 
 same_number : (j k : ℕ) → nat_eq j k ≡ true → j ≡ k
 same_number j k is = grind (arith, nat_tests)
@@ -82,21 +90,23 @@ module _ (d : Definition) (may : Relations) (p : Point) (call : Call) (rest : Li
   asked_aptly safe = (subst (λ q. IfSome q (IsApt d safe.at)) (asks_there safe.at safe.stands) (safe.safe.asks [] tt safe.at (reaches_here d safe.at))).args
 
   -- no memory was found for the line of the call
-  pub breaks_asked : GivenBy may reply → (pool : List Seen) (shown : List (List ℕ)) → pool ≡ slice_set p.pool call.peer new_seen → shown ≡ p.view.world.transcript → Breaks d may p pool shown
-  breaks_asked given pool shown is lines = record {
+  pub breaks_asked : GivenBy may reply → (pool : List Seen) (w : World) → pool ≡ slice_set p.pool call.peer new_seen → IsQuiet p.view.world w → Breaks d may p (with_seen pool w.peers) w.transcript
+  breaks_asked given pool w is quiet = record {
     replies = [];
     given = tt;
     breaks = λ c stands. record {
-      halts = record { at = c; reached = reaches_here d c; stops = tt; lines = ap (λ (x : Config). x.world.transcript) stands.view ∙ sym lines };
-      left = one_more (record {
+      halts = record { at = c; reached = reaches_here d c; stops = tt; lines = ap (λ (x : Config). x.world.transcript) stands.view ∙ sym quiet.0 };
+      leaves = one_more (record {
         reply = reply;
         given = given;
         asks = asks_there c stands;
         peers =
-            write_seen c.world.peers call.peer (record (peer_in c.world.peers call.peer) { state = after }) s (seen_there c stands)
+            left_as (replied_in c.world.peers reply) w.peers pool
+            (write_seen c.world.peers call.peer (record (peer_in c.world.peers call.peer) { state = after }) s (seen_there c stands)
             ∙ ap (λ (x : Seen). slice_set (map seen_of c.world.peers) call.peer (record x { state = after })) (peer_there c stands)
             ∙ ap (λ (l : List Seen). slice_set l call.peer new_seen) stands.peers
-            ∙ sym is;
+            ∙ sym is)
+            (quiet.1 ∙ held_there d p c stands ∙ sym (held_written c.world.peers call.peer after s (seen_there c stands)));
       });
     };
   }

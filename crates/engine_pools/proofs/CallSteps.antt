@@ -1,18 +1,19 @@
 -- The step of a due call whose peer is open: how the machine follows it.
-use Rattle.std.proofs.Common.{◌≡◌, refl, ap, sym, ◌∙◌, ℕ, true, List, ◌∷◌, map, Option, None, Some, Ok, Err}
+use Rattle.std.proofs.Common.{◌≡◌, refl, ap, sym, ◌∙◌, true, List, ◌∷◌, map, Option, None, Some, Ok, Err}
 use Rattle.ui_machine.specs.declared.arm.Arm.{Arm}
 use Rattle.ui_machine.specs.Definition.{Definition}
 use Rattle.ui_machine.specs.Definition.Values.{Value}
 use Rattle.ui_machine.specs.Instructions.Peers.{calling_on}
-use Rattle.ui_machine.specs.State.Config.{Config, is_asked, peer_state}
+use Rattle.ui_machine.specs.State.Config.{Config, World, is_asked, peer_state}
 use Rattle.ui_machine.specs.State.Peers.{Reply}
 use Rattle.ui_machine.specs.State.Tasks.{Call, Calling, Task}
 use Rattle.ui_machine.specs.Steps.{act, left}
 use Rattle.law_peers.specs.Forgetting.{forgotten_reply}
 use Rattle.native_peers.specs.Seen.{Asks, Relations, Seen}
+use Rattle.engine_world.specs.Quiet.{IsQuiet}
 use Rattle.engine_world.specs.Standing.{without_gone}
 use Rattle.engine_pools.specs.Following.{Breaks, Follows, Point}
-use Rattle.engine_pools.specs.PoolView.{IsAskable, Knows}
+use Rattle.engine_pools.specs.PoolView.{IsAskable, Knows, with_seen}
 use Rattle.engine_pools.specs.Safety.{ComesOfSafe, NoneUnheld}
 use Rattle.engine_pools.proofs.Asking.{asked_acts, asked_aptly, breaks_asked, follows_asked, open_there}
 use Rattle.engine_pools.proofs.Closings.{asked_step_stays}
@@ -68,9 +69,9 @@ module _ (d : Definition) (may : Relations) (p : Point) (call : Call) (rest : Li
         (known_still p.view.world x.world new (known_asked call.peer p.pool new may call.method call.args answer asked p.view.world knows) (asked_step_stays d p.view.world rest p.view.counted call known_reply refl x is))
         (ap (λ (l : List Seen). map shut_seen l) asked.new_state)
 
-    pub call_breaks : (shown : List (List ℕ)) → shown ≡ p.view.world.transcript → Breaks d may p new shown
-    call_breaks shown lines =
-        breaks_asked d may p call rest asked.peer answer asked.after none first asked.at is_open (given call.peer p.pool new may call.method call.args answer asked) new shown asked.new_state lines
+    pub call_breaks : (w : World) → IsQuiet p.view.world w → Breaks d may p (with_seen new w.peers) w.transcript
+    call_breaks w quiet =
+        breaks_asked d may p call rest asked.peer answer asked.after none first asked.at is_open (given call.peer p.pool new may call.method call.args answer asked) new w asked.new_state quiet
 
     pub call_can : (arm : Arm) → left p.view.counted (calling_on d p.view.world call rest (Some known_reply)) ≡ Err arm → ⊥
     call_can arm is =

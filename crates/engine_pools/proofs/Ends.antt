@@ -5,16 +5,18 @@ use Rattle.std.specs.declared.alloc.AllocError.{AllocError}
 use Rattle.ui_machine.specs.Definition.{Definition}
 use Rattle.ui_machine.specs.Output.Lines as lines
 use Rattle.ui_machine.specs.Runs.{Dispatches, HasEnded, beginning}
+use Rattle.ui_machine.specs.State.Peers.{Peer}
 use Rattle.ui_machine.specs.State.Tasks.{Task}
 use Rattle.ui_machine.specs.State.Config.{Config, World, said}
+use Rattle.engine_world.specs.Quiet.{IsQuiet}
 use Rattle.engine_world.specs.Standing.{without_gone}
 use Rattle.native_peers.specs.Seen.{Relations, Seen}
 use Rattle.engine_pools.specs.Dispatched.{Carried, EndsBy}
 use Rattle.engine_pools.specs.Following.{Breaks, Follows, Halting, Point}
-use Rattle.engine_pools.specs.PoolView.{Knows, Replied, as_shown, seen_of, world_at}
+use Rattle.engine_pools.specs.PoolView.{Knows, Replied, as_shown, seen_of, with_seen, world_at}
 use Rattle.engine_pools.specs.Safety.{ComesOfSafe, IsSafe}
 use Rattle.engine_pools.specs.declared.dispatches.Reply.{Reply}
-use Rattle.engine_pools.proofs.Points.{breaks_on, cut_off, ended_there, real, safe_knows, safe_on, stands_there, with_seen_is, world_there}
+use Rattle.engine_pools.proofs.Points.{breaks_on, cut_off, ended_there, held_with, left_as, real, safe_knows, safe_on, stands_there, with_seen_is, world_there}
 use Rattle.engine_pools.proofs.Reaching.{reaches_here}
 
 module _ (d : Definition) (may : Relations) (p : Point) (whole : without_gone p.view ≡ p.view) (knows : Knows p.view.world p.pool) where
@@ -40,31 +42,31 @@ module _ (d : Definition) (may : Relations) (p : Point) (whole : without_gone p.
       }
 
   -- or no memory is found
-  pub halts_so : (pool : List Seen) (shown : List (List ℕ)) → Breaks d may p pool shown → Replied may (λ replies. Halting d may replies (real d p) pool shown)
-  halts_so pool shown breaks = record { replies = breaks.replies; given = breaks.given; so = breaks.breaks (real d p) (stands_there d p whole knows) }
+  pub halts_so : (left : List Peer) (shown : List (List ℕ)) → Breaks d may p left shown → Replied may (λ replies. Halting d may replies (real d p) left shown)
+  halts_so left shown breaks = record { replies = breaks.replies; given = breaks.given; so = breaks.breaks (real d p) (stands_there d p whole knows) }
 
   -- it ends, or no memory is found for its end
   pub carried : (q : Point) → Follows d may p q → HasEnded d q.view → (r : Result Reply AllocError) (new : World) → IfOk r (λ reply. EndsBy reply d q.view new)
-      → OnErr r (new.transcript ≡ q.view.world.transcript) → Carried r d may (real d p) q.pool (world_at q.pool new)
+      → OnErr r (IsQuiet q.view.world new) → Carried r d may (real d p) (world_at q.pool new)
   carried q follows ended (Ok reply) new ends quiet = (
     subst (λ n. Replied may (λ replies. Dispatches d replies (real d p) n (world_at q.pool new))) (sym ends.steps)
         (dispatches q follows ended (world_at q.pool new) (ap (λ (w : World). world_at q.pool w) ends.said)),
     ends.value ∙ sym (ap (λ (w : World). w.result) ends.said),
     ends.dispatches,
   )
-  carried q follows ended (Err e) new ends quiet = halts_so q.pool new.transcript (breaks_on d follows (cut_off d may q q.pool new.transcript refl quiet))
+  carried q follows ended (Err e) new ends quiet = halts_so (with_seen q.pool new.peers) new.transcript (breaks_on d follows (cut_off d may q q.pool new refl quiet))
 
 -- ** where it begins
 
 module _ (d : Definition) (may : Relations) (pool : List Seen) (w : World) (t : Task) where
   -- no memory is found for its beginning
-  pub unbegun : (shown : List (List ℕ)) → shown ≡ w.transcript → Replied may (λ replies. Halting d may replies (beginning (world_at pool w) t) pool shown)
-  unbegun shown lines = record {
+  pub unbegun : Knows w pool → (new : World) → IsQuiet w new → Replied may (λ replies. Halting d may replies (beginning (world_at pool w) t) (with_seen pool new.peers) new.transcript)
+  unbegun knows new quiet = record {
     replies = [];
     given = tt;
     so = record {
-      halts = record { at = beginning (world_at pool w) t; reached = reaches_here d (beginning (world_at pool w) t); stops = tt; lines = sym lines };
-      left = as_shown (with_seen_is pool w.peers);
+      halts = record { at = beginning (world_at pool w) t; reached = reaches_here d (beginning (world_at pool w) t); stops = tt; lines = sym quiet.0 };
+      leaves = as_shown (left_as (with_seen pool w.peers) new.peers pool (with_seen_is pool w.peers) (quiet.1 ∙ sym (held_with pool w.peers knows)));
     };
   }
 
@@ -82,11 +84,11 @@ module _ (d : Definition) (may : Relations) (pool : List Seen) (w : World) (t : 
     safe_begun safe = record { at = real d first; safe = subst (IsSafe d) (sym real_there) safe; stands = stands_there d first whole knows_there }
 
     pub carried_begun : (q : Point) → Follows d may first q → HasEnded d q.view → (r : Result Reply AllocError) (new : World) → IfOk r (λ reply. EndsBy reply d q.view new)
-        → OnErr r (new.transcript ≡ q.view.world.transcript) → Carried r d may (beginning (world_at pool w) t) q.pool (world_at q.pool new)
+        → OnErr r (IsQuiet q.view.world new) → Carried r d may (beginning (world_at pool w) t) (world_at q.pool new)
     carried_begun q follows ended r new ends quiet =
-        subst (λ (x : Config). Carried r d may x q.pool (world_at q.pool new)) real_there (carried d may first whole knows_there q follows ended r new ends quiet)
+        subst (λ (x : Config). Carried r d may x (world_at q.pool new)) real_there (carried d may first whole knows_there q follows ended r new ends quiet)
 
-    pub breaks_begun : (left : List Seen) (shown : List (List ℕ)) → Breaks d may first left shown → Replied may (λ replies. Halting d may replies (beginning (world_at pool w) t) left shown)
+    pub breaks_begun : (left : List Peer) (shown : List (List ℕ)) → Breaks d may first left shown → Replied may (λ replies. Halting d may replies (beginning (world_at pool w) t) left shown)
     breaks_begun left shown breaks =
         subst (λ (x : Config). Replied may (λ replies. Halting d may replies x left shown)) real_there (halts_so d may first whole knows_there left shown breaks)
 

@@ -1,5 +1,5 @@
 -- How the machine follows from point to point.
-use Rattle.std.proofs.Common.{◌≡◌, refl, ap, sym, ◌∙◌, subst, ℕ, List, [], ◌∷◌, ◌++◌, map, length}
+use Rattle.std.proofs.Common.{◌≡◌, refl, ap, sym, ◌∙◌, subst, ℕ, List, [], ◌∷◌, ◌++◌, map, length, Option}
 use Rattle.std.proofs.lemmas.List.{length-map}
 use Rattle.ui_machine.specs.Definition.{Definition}
 use Rattle.ui_machine.specs.Runs.{Fits, HasEnded, Reaches}
@@ -13,6 +13,7 @@ use Rattle.law_peers.proofs.RunLives.{reaches_lives}
 use Rattle.law_sessions.proofs.SafeProofs.{safe_stays}
 use Rattle.law_typing.specs.Verdict.Accepted.{Each}
 use Rattle.machine_laws.specs.GoneLaws.{pruned}
+use Rattle.engine_world.specs.Quiet.{IsQuiet, holders}
 use Rattle.engine_world.specs.Standing as engine
 use Rattle.engine_world.specs.Standing.{gone_handlers, without_gone}
 use Rattle.native_peers.specs.Seen.{Relations, SameRelations, Seen}
@@ -81,6 +82,48 @@ with_seen_is [] ps = refl
 with_seen_is (s ∷ pool) [] = ap (λ (l : List Seen). s ∷ l) (with_seen_is pool [])
 with_seen_is (s ∷ pool) (p ∷ ps) = ap (λ (l : List Seen). s ∷ l) (with_seen_is pool ps)
 
+-- ** whose peers are
+
+held_seen : (qs ps : List Peer) → holders ps ≡ holders qs → with_seen (map seen_of qs) ps ≡ qs
+held_seen [] ps same = refl
+held_seen (q ∷ qs) [] same = absurd (cc same)
+held_seen (q ∷ qs) (p ∷ ps) same =
+    let first : p.holder ≡ q.holder = cc same in
+    let rest : holders ps ≡ holders qs = cc same in
+    ap (λ (h : Option ℕ). record { name = q.name; state = q.state; holder = h } ∷ with_seen (map seen_of qs) ps) first
+    ∙ ap (λ (l : List Peer). q ∷ l) (held_seen qs ps rest)
+
+-- peers are those that are seen so in a pool, with the holders that others have too
+pub left_as : (qs ps : List Peer) (pool : List Seen) → map seen_of qs ≡ pool → holders ps ≡ holders qs → qs ≡ with_seen pool ps
+left_as qs ps pool seen same = sym (ap (λ (l : List Seen). with_seen l ps) (sym seen) ∙ held_seen qs ps same)
+
+held_forgotten : (ps : List Peer) → holders (map forgotten ps) ≡ holders ps
+held_forgotten [] = refl
+held_forgotten (p ∷ ps) = ap (λ (l : List (Option ℕ)). p.holder ∷ l) (held_forgotten ps)
+
+-- peers that are known are whose they were, however they are seen
+pub held_with : (pool : List Seen) (ps : List Peer) → map forgotten_seen pool ≡ map seen_of ps → holders (with_seen pool ps) ≡ holders ps
+held_with [] [] e = refl
+held_with [] (p ∷ ps) e = absurd (cc e)
+held_with (s ∷ pool) [] e = absurd (cc e)
+held_with (s ∷ pool) (p ∷ ps) e =
+    let rest : map forgotten_seen pool ≡ map seen_of ps = cc e in
+    ap (λ (l : List (Option ℕ)). p.holder ∷ l) (held_with pool ps rest)
+
+-- as they are seen, whoever else has the same holders
+pub seen_so : (pool : List Seen) (ps qs : List Peer) → holders qs ≡ holders ps → with_seen pool ps ≡ with_seen pool qs
+seen_so [] ps qs same = refl
+seen_so (s ∷ pool) [] [] same = refl
+seen_so (s ∷ pool) [] (q ∷ qs) same = absurd (cc same)
+seen_so (s ∷ pool) (p ∷ ps) [] same = absurd (cc same)
+seen_so (s ∷ pool) (p ∷ ps) (q ∷ qs) same =
+    let first : q.holder ≡ p.holder = cc same in
+    let rest : holders qs ≡ holders ps = cc same in
+    ap (λ (h : Option ℕ). record { name = s.name; state = s.state; holder = h } ∷ with_seen pool ps) (sym first)
+    ∙ ap (λ (l : List Peer). record { name = s.name; state = s.state; holder = q.holder } ∷ l) (seen_so pool ps qs rest)
+
+-- ** what is seen of them
+
 -- what is seen of peers, by all that is known of them, and by what is seen of each but whether it is open
 pub seen_by : (w : World) (qs : List Peer) (pool : List Seen) → map forgotten qs ≡ w.peers → Knows w pool
     → ((k : ℕ) → shut_seen (seen_of (peer_in qs k)) ≡ shut_seen (read no_seen pool k)) → map seen_of qs ≡ pool
@@ -105,6 +148,10 @@ seen_by w qs pool known knows rest = same_lists no_seen (map seen_of qs) pool lo
 module _ (d : Definition) where
   pub known_at : (p : Point) (c : Config) → Stands p c → map forgotten c.world.peers ≡ p.view.world.peers
   known_at p c stands = ap (λ (x : Config). x.world.peers) stands.view
+
+  -- a peer is the machine's object's that has got it
+  pub held_there : (p : Point) (c : Config) → Stands p c → holders p.view.world.peers ≡ holders c.world.peers
+  held_there p c stands = ap holders (sym (known_at p c stands)) ∙ held_forgotten c.world.peers
 
   -- ** steps in which no peer replies
 
@@ -180,45 +227,45 @@ module _ (d : Definition) where
   -- ** where no memory is found
 
   -- here
-  pub cut_off : (may : Relations) (p : Point) (pool : List Seen) (shown : List (List ℕ)) → p.pool ≡ pool → shown ≡ p.view.world.transcript → Breaks d may p pool shown
-  cut_off may p pool shown same lines = record {
+  pub cut_off : (may : Relations) (p : Point) (pool : List Seen) (w : World) → p.pool ≡ pool → IsQuiet p.view.world w → Breaks d may p (with_seen pool w.peers) w.transcript
+  cut_off may p pool w same quiet = record {
     replies = [];
     given = tt;
     breaks = λ c stands. record {
-      halts = record { at = c; reached = reaches_here d c; stops = tt; lines = ap (λ (x : Config). x.world.transcript) stands.view ∙ sym lines };
-      left = as_shown (stands.peers ∙ same);
+      halts = record { at = c; reached = reaches_here d c; stops = tt; lines = ap (λ (x : Config). x.world.transcript) stands.view ∙ sym quiet.0 };
+      leaves = as_shown (left_as c.world.peers w.peers pool (stands.peers ∙ same) (quiet.1 ∙ held_there p c stands));
     };
   }
 
-  halting_on : {may : Relations} {first later : List Reply} {c m : Config} {pool : List Seen} {shown : List (List ℕ)} → Reaches d first c m → Halting d may later m pool shown
-      → Halting d may (first ++ later) c pool shown
+  halting_on : {may : Relations} {first later : List Reply} {c m : Config} {left : List Peer} {shown : List (List ℕ)} → Reaches d first c m → Halting d may later m left shown
+      → Halting d may (first ++ later) c left shown
   halting_on r h = record {
     halts = record { at = h.halts.at; reached = reaches_on d r h.halts.reached; stops = h.halts.stops; lines = h.halts.lines };
-    left = h.left;
+    leaves = h.leaves;
   }
 
-  pub breaks_on : {may : Relations} {p q : Point} {pool : List Seen} {shown : List (List ℕ)} → Follows d may p q → Breaks d may q pool shown → Breaks d may p pool shown
+  pub breaks_on : {may : Relations} {p q : Point} {left : List Peer} {shown : List (List ℕ)} → Follows d may p q → Breaks d may q left shown → Breaks d may p left shown
   breaks_on first later = record {
     replies = first.replies ++ later.replies;
     given = each_both _ first.replies later.replies first.given later.given;
     breaks = λ c stands. let x = first.arrives c stands in halting_on x.reached (later.breaks x.at x.stands);
   }
 
-  pub left_before : {may later : Relations} {at : Config} {pool : List Seen} → SameRelations may later → IsLeft d later at pool → IsLeft d may at pool
+  pub left_before : {may later : Relations} {at : Config} {left : List Peer} → SameRelations may later → IsLeft d later at left → IsLeft d may at left
   left_before same (as_shown seen) = as_shown seen
   left_before {may} {later} same (one_more o) =
       one_more (record { reply = o.reply; given = (given_before may later same (o.reply ∷ []) (o.given, tt)).0; asks = o.asks; peers = o.peers })
 
-  pub breaks_before : {may later : Relations} {p : Point} {pool : List Seen} {shown : List (List ℕ)} → SameRelations may later → Breaks d later p pool shown → Breaks d may p pool shown
+  pub breaks_before : {may later : Relations} {p : Point} {left : List Peer} {shown : List (List ℕ)} → SameRelations may later → Breaks d later p left shown → Breaks d may p left shown
   breaks_before {may} {later} same b = record {
     replies = b.replies;
     given = given_before may later same b.replies b.given;
-    breaks = λ c stands. let h = b.breaks c stands in record { halts = h.halts; left = left_before same h.left };
+    breaks = λ c stands. let h = b.breaks c stands in record { halts = h.halts; leaves = left_before same h.leaves };
   }
 
-  pub halting_before : {may later : Relations} {replies : List Reply} {c : Config} {pool : List Seen} {shown : List (List ℕ)} → SameRelations may later
-      → Halting d later replies c pool shown → Halting d may replies c pool shown
-  halting_before same h = record { halts = h.halts; left = left_before same h.left }
+  pub halting_before : {may later : Relations} {replies : List Reply} {c : Config} {left : List Peer} {shown : List (List ℕ)} → SameRelations may later
+      → Halting d later replies c left shown → Halting d may replies c left shown
+  halting_before same h = record { halts = h.halts; leaves = left_before same h.leaves }
 
   -- ** where a dispatch begins and ends
 

@@ -6,6 +6,7 @@ use Rattle.ui_machine.specs.Prefix.{IsPrefix}
 use Rattle.ui_machine.specs.State.Config.{Config}
 use Rattle.ui_machine.specs.State.Tasks.{Calling}
 use Rattle.ui_machine.specs.Steps.{left, most_steps}
+use Rattle.ui_machine.specs.State.Peers.{Peer}
 use Rattle.native_peers.specs.Seen.{Relations, Seen}
 use Rattle.engine_world.specs.TaskView.{agenda_of, call_of}
 use Rattle.engine_world.specs.View.{world_of}
@@ -47,7 +48,7 @@ module _ (d : Definition) (may : Relations) (pool : List Seen) (view : Config) (
   call_grows x concludes = subst (λ (v : Config). IsPrefix v.world.transcript x.world.transcript) (sym first) (passes x concludes).grows
 
   -- no memory was found for its line
-  pub call_breaks : (left : List Seen) (shown : List (List ℕ)) → Breaks d may calling left shown → Breaks d may here left shown
+  pub call_breaks : (left : List Peer) (shown : List (List ℕ)) → Breaks d may calling left shown → Breaks d may here left shown
   call_breaks left shown breaks = subst (λ (v : Config). Breaks d may (record { pool = pool; view = v }) left shown) (sym first) breaks
 
 module _ (d : Definition) (may : Relations) (p : Point) (safe : ComesOfSafe d p) (v : Config) (number : Option ℕ) (known : LeavesKnown p.view.world v.world number) where

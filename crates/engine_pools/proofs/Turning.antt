@@ -199,9 +199,9 @@ module _ (d : Definition) (may : Relations) (numbers left : List ℕ) (w v : Wor
       runs_one = rw n.there (record { steps = one.steps; counts = refl; dispatches = dispatches.so })
 
   -- or halts
-  pub next_breaks_off : (s : Source) → NextIs v.sources left s → (pool : List Seen) (shown : List (List ℕ))
-      → Replied may (λ replies. Halting d may replies (beginning v (tasks.Due s.number)) pool shown) → Replied may (λ replies. SourceBreaksOff d may numbers replies w pool shown)
-  next_breaks_off s n pool shown h = record {
+  pub next_breaks_off : (s : Source) → NextIs v.sources left s → (left_peers : List peers.Peer) (shown : List (List ℕ))
+      → Replied may (λ replies. Halting d may replies (beginning v (tasks.Due s.number)) left_peers shown) → Replied may (λ replies. SourceBreaksOff d may numbers replies w left_peers shown)
+  next_breaks_off s n left_peers shown h = record {
     replies = so.replies ++ h.replies;
     given = each_both (GivenBy may) so.replies h.replies so.given h.given;
     so = record {
@@ -232,22 +232,22 @@ module _ (d : Definition) (may : Relations) (numbers left : List ℕ) (w v : Wor
 
   -- so it is where the dispatch is by relations that are the same
   module _ (later : Relations) (same : SameRelations may later) (s : Source) (n : NextIs v.sources left s) (number : ℕ) (is : s.number ≡ number) where
-    pub later_runs : (more : List ℕ) → more ≡ numbers_after v.sources left → (one : Reply) (u : World) → Carried (Ok one) d later (beginning v (tasks.Due number)) [] u
+    pub later_runs : (more : List ℕ) → more ≡ numbers_after v.sources left → (one : Reply) (u : World) → Carried (Ok one) d later (beginning v (tasks.Due number)) u
         → RunSoFar d may numbers more w (record { result = one.result; dispatches = reply.dispatches + 1; steps = reply.steps + one.steps }) u
     later_runs more after one u carried =
         subst (λ (ns : List ℕ). RunSoFar d may numbers ns w (record { result = one.result; dispatches = reply.dispatches + 1; steps = reply.steps + one.steps }) u) (sym after)
         (next_runs s n one _ u (replied_before same (λ replies x. subst (λ k. Dispatches d replies (beginning v (tasks.Due k)) one.steps u) (sym is) x) carried.0) carried.1 refl refl)
 
-    pub later_breaks_off : (pool : List Seen) (shown : List (List ℕ)) → Replied later (λ replies. Halting d later replies (beginning v (tasks.Due number)) pool shown)
-        → Replied may (λ replies. SourceBreaksOff d may numbers replies w pool shown)
-    later_breaks_off pool shown h =
-        next_breaks_off s n pool shown (replied_before same (λ replies x. subst (λ k. Halting d may replies (beginning v (tasks.Due k)) pool shown) (sym is) (halting_before d same x)) h)
+    pub later_breaks_off : (left_peers : List peers.Peer) (shown : List (List ℕ)) → Replied later (λ replies. Halting d later replies (beginning v (tasks.Due number)) left_peers shown)
+        → Replied may (λ replies. SourceBreaksOff d may numbers replies w left_peers shown)
+    later_breaks_off left_peers shown h =
+        next_breaks_off s n left_peers shown (replied_before same (λ replies x. subst (λ k. Halting d may replies (beginning v (tasks.Due k)) left_peers shown) (sym is) (halting_before d same x)) h)
 
     module _ (well : WellRead d) (rests : Rests d v) where
       pub later_safe : Accepted d → IsSafe d (beginning v (tasks.Due number))
       later_safe a = subst (λ k. IsSafe d (beginning v (tasks.Due k))) is (source_safe d well v rests s.number s n.there a)
 
-      pub later_rests : (one : Reply) (u : World) → Carried (Ok one) d later (beginning v (tasks.Due number)) [] u → Rests d u
+      pub later_rests : (one : Reply) (u : World) → Carried (Ok one) d later (beginning v (tasks.Due number)) u → Rests d u
       later_rests one u carried =
           source_rests d well v rests s.number s n.there carried.0.replies (fitting d later carried.0.replies carried.0.given) one.steps u
           (subst (λ k. Dispatches d carried.0.replies (beginning v (tasks.Due k)) one.steps u) (sym is) carried.0.so)

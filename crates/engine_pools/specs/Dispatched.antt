@@ -1,12 +1,12 @@
 -- How an engine is between two dispatches, and what a dispatch comes to.
-use Rattle.std.specs.Prelude.{◌≡◌, List, [], option_map, Result, Ok, Err}
+use Rattle.std.specs.Prelude.{◌≡◌, [], option_map, Result, Ok, Err}
 use Rattle.std.specs.declared.alloc.AllocError.{AllocError}
 use Rattle.ui_machine.specs.Definition.{Definition}
 use Rattle.ui_machine.specs.Runs.{Dispatches}
 use Rattle.ui_machine.specs.Output.Lines as lines
 use Rattle.ui_machine.specs.State.Config.{Config, World, said}
 use Rattle.g_values.specs.View.{value_view}
-use Rattle.native_peers.specs.Seen.{Relations, Seen}
+use Rattle.native_peers.specs.Seen.{Relations}
 use Rattle.engine_world.specs.Counting.{Counts, nothing}
 use Rattle.engine_world.specs.TaskView.{agenda_of}
 use Rattle.engine_world.specs.declared.engine.Engine.{Engine}
@@ -26,8 +26,8 @@ pub record EndsBy (reply : Reply) (d : Definition) (c : Config) (new : World) : 
   pub dispatches : reply.dispatches ≡ 1
   pub steps : reply.steps ≡ c.counted
 
--- a whole dispatch that leaves this world, or how far it came where no memory was found, with the pool that is left
-abbrev pub Carried : Result Reply AllocError → Definition → Relations → Config → List Seen → World → Type 0
-Carried (Ok reply) d may c pool new =
+-- a whole dispatch that leaves this world, or how far it came where no memory was found, with the peers that are left
+abbrev pub Carried : Result Reply AllocError → Definition → Relations → Config → World → Type 0
+Carried (Ok reply) d may c new =
     Replied may (λ replies. Dispatches d replies c reply.steps new) × (option_map value_view reply.result ≡ new.result) × (reply.dispatches ≡ 1)
-Carried (Err _) d may c pool new = Replied may (λ replies. Halting d may replies c pool new.transcript)
+Carried (Err _) d may c new = Replied may (λ replies. Halting d may replies c new.peers new.transcript)

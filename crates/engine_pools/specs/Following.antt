@@ -5,7 +5,7 @@ use Rattle.ui_machine.specs.declared.arm.Halt.TheVariants as halts
 use Rattle.ui_machine.specs.Definition.{Definition}
 use Rattle.ui_machine.specs.Runs.{Halts, Reaches}
 use Rattle.ui_machine.specs.State.Config.{Config}
-use Rattle.ui_machine.specs.State.Peers.{Reply}
+use Rattle.ui_machine.specs.State.Peers.{Peer, Reply}
 use Rattle.law_peers.specs.Forgetting.{forgotten_at}
 use Rattle.law_typing.specs.Verdict.Accepted.{Each}
 use Rattle.native_peers.specs.Seen.{Relations, Seen}
@@ -34,13 +34,13 @@ pub record Follows (d : Definition) (may : Relations) (old new : Point) : Type 0
   pub given : Each (GivenBy may) replies
   pub arrives : (c : Config) → Stands old c → Arrives d replies c new
 
--- from a configuration of the machine no memory is found after these replies and lines, and this pool is left
-pub record Halting (d : Definition) (may : Relations) (replies : List Reply) (c : Config) (pool : List Seen) (shown : List (List ℕ)) : Type 0 where
+-- from a configuration of the machine no memory is found after these replies and lines, and these peers are left
+pub record Halting (d : Definition) (may : Relations) (replies : List Reply) (c : Config) (left : List Peer) (shown : List (List ℕ)) : Type 0 where
   pub halts : Halts d replies c halts.OutOfMemory shown
-  pub left : IsLeft d may halts.at pool
+  pub leaves : IsLeft d may halts.at left
 
 -- so it is after some replies of the pool from each configuration that is at the point
-pub record Breaks (d : Definition) (may : Relations) (old : Point) (pool : List Seen) (shown : List (List ℕ)) : Type 0 where
+pub record Breaks (d : Definition) (may : Relations) (old : Point) (left : List Peer) (shown : List (List ℕ)) : Type 0 where
   pub replies : List Reply
   pub given : Each (GivenBy may) replies
-  pub breaks : (c : Config) → Stands old c → Halting d may replies c pool shown
+  pub breaks : (c : Config) → Stands old c → Halting d may replies c left shown

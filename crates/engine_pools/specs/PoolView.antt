@@ -66,16 +66,16 @@ pub record Replied (may : Relations) (P : List Reply → Type 0) : Type 0 where
 -- ** where no memory is found
 
 -- the peer that a configuration asks has replied, and then no memory was found for the line of its call
-pub record OneMore (d : Definition) (may : Relations) (at : Config) (pool : List Seen) : Type 0 where
+pub record OneMore (d : Definition) (may : Relations) (at : Config) (left : List Peer) : Type 0 where
   pub reply : Reply
   pub given : GivenBy may reply
   pub asks : question d at ≡ Some reply.question
-  pub peers : map seen_of (replied_in at.world.peers reply) ≡ pool
+  pub peers : replied_in at.world.peers reply ≡ left
 
--- a pool where no memory was found: the peers are those of the configuration, or one has replied once more
-pub data IsLeft (d : Definition) (may : Relations) (at : Config) (pool : List Seen) : Type 0 where
-  as_shown : map seen_of at.world.peers ≡ pool → IsLeft d may at pool
-  one_more : OneMore d may at pool → IsLeft d may at pool
+-- the peers where no memory was found: those of the configuration, each the object's that has got it there, or one has replied once more
+pub data IsLeft (d : Definition) (may : Relations) (at : Config) (left : List Peer) : Type 0 where
+  as_shown : at.world.peers ≡ left → IsLeft d may at left
+  one_more : OneMore d may at left → IsLeft d may at left
 
 -- ** what may be asked and closed
 

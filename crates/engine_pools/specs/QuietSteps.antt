@@ -7,6 +7,7 @@ use Rattle.ui_machine.specs.State.Config.{Config, World}
 use Rattle.ui_machine.specs.Steps.{most_steps}
 use Rattle.native_peers.specs.Seen.{Seen}
 use Rattle.engine_world.specs.Measure.{work}
+use Rattle.engine_world.specs.Quiet.{IsQuiet}
 use Rattle.engine_world.specs.Standing.{Follows}
 use Rattle.engine_world.specs.declared.engine.StepKind.{StepKind}
 use Rattle.engine_world.specs.declared.engine.StepKind.TheVariants as mades
@@ -18,12 +19,13 @@ pub record IsSafeView (d : Definition) (view : Config) : Type 0 where
   pub pool : List Seen
   pub safe : ComesOfSafe d (record { pool = pool; view = view })
 
--- One step: an uncounted one leaves less work, and a counted one was still to be had. Where no memory is found nothing was said.
+-- One step: an uncounted one leaves less work, and a counted one was still to be had. Where no memory is found nothing was said, and no
+-- peer has become another object's.
 abbrev pub QuietlyStepped : Result StepKind AllocError → Definition → Config → Config → Type 0
 QuietlyStepped (Ok mades.Nothing) d c e = HasEnded d c × (e ≡ c)
 QuietlyStepped (Ok mades.Uncounted) d c e = Follows d c e × (work d e < work d c) × (e.counted ≡ c.counted)
 QuietlyStepped (Ok mades.Counted) d c e = Follows d c e × (c.counted < most_steps) × (e.counted ≡ suc c.counted)
-QuietlyStepped (Err _) d c e = e.world.transcript ≡ c.world.transcript
+QuietlyStepped (Err _) d c e = IsQuiet c.world e.world
 
 -- a pool that was known is known again once the box of the seat that was left is closed, if it is due
 abbrev pub LeavesKnown : World → World → Option ℕ → Type 0

@@ -9,10 +9,11 @@ use Rattle.engine_world.specs.Measure.{work}
 use Rattle.engine_world.specs.declared.engine.StepKind.{StepKind}
 use Rattle.engine_world.specs.declared.engine.StepKind.TheVariants as mades
 use Rattle.engine_pools.specs.Following.{Breaks, Follows, Point}
+use Rattle.engine_pools.specs.PoolView.{with_seen}
 
 -- no memory is found
 abbrev pub IsCutOff : Definition → Relations → Point → Point → Type 0
-IsCutOff d may p q = Breaks d may p q.pool q.view.world.transcript
+IsCutOff d may p q = Breaks d may p (with_seen q.pool q.view.world.peers) q.view.world.transcript
 
 -- One step: an uncounted one leaves less work, and a counted one was still to be had. It is one of the machine's, behind those by which an
 -- emission passes over turns.

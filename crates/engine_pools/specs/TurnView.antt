@@ -5,21 +5,21 @@ use Rattle.ui_machine.specs.Definition.{Definition}
 use Rattle.ui_machine.specs.Rules.MainLoop.{ready_at, turned}
 use Rattle.ui_machine.specs.Runs.{RunsSources, Tally, beginning}
 use Rattle.ui_machine.specs.State.Config.{World}
-use Rattle.ui_machine.specs.State.Peers.{Reply}
+use Rattle.ui_machine.specs.State.Peers.{Peer, Reply}
 use Rattle.ui_machine.specs.State.Sources.{source_of}
 use Rattle.ui_machine.specs.State.Tasks.{Due}
 use Rattle.ui_machine.specs.Steps.{most_steps}
 use Rattle.g_values.specs.View.{value_view}
 use Rattle.law_typing.specs.Verdict.Accepted.{Each}
-use Rattle.native_peers.specs.Seen.{Relations, Seen}
+use Rattle.native_peers.specs.Seen.{Relations}
 use Rattle.engine_pools.specs.declared.dispatches.Reply as code
 use Rattle.engine_pools.specs.Following.{Halting}
 use Rattle.engine_pools.specs.PoolView.{GivenBy, Replied}
 use Rattle.engine_pools.specs.Ways.{Ways, tally_of}
 
--- From a world the first of these sources run, and in the dispatch of the next one no memory is found, after these replies and lines, and this
--- pool is left.
-pub record SourceBreaksOff (d : Definition) (may : Relations) (numbers : List ℕ) (replies : List Reply) (w : World) (pool : List Seen) (shown : List (List ℕ)) : Type 0 where
+-- From a world the first of these sources run, and in the dispatch of the next one no memory is found, after these replies and lines, and these
+-- peers are left.
+pub record SourceBreaksOff (d : Definition) (may : Relations) (numbers : List ℕ) (replies : List Reply) (w : World) (left : List Peer) (shown : List (List ℕ)) : Type 0 where
   pub done : List ℕ
   pub number : ℕ
   pub more : List ℕ
@@ -31,20 +31,20 @@ pub record SourceBreaksOff (d : Definition) (may : Relations) (numbers : List �
   pub tally : Tally
   pub runs : RunsSources d done first w tally mid
   pub stands : IsSome (source_of number mid.sources)
-  pub breaks_off : Halting d may later (beginning mid (Due number)) pool shown
+  pub breaks_off : Halting d may later (beginning mid (Due number)) left shown
 
 -- the sources of a turn that has begun, from a world
 abbrev pub running_sources : Relations → Definition → List ℕ → World → Ways
 running_sources may d numbers w = record {
   to = λ tally new. Replied may (λ replies. RunsSources d numbers replies w tally new);
-  breaks_off = λ pool shown. Replied may (λ replies. SourceBreaksOff d may numbers replies w pool shown);
+  breaks_off = λ left shown. Replied may (λ replies. SourceBreaksOff d may numbers replies w left shown);
 }
 
 -- all of these sources run, or the dispatch of one breaks off
-abbrev pub RanSources : Result code.Reply AllocError → Definition → Relations → List ℕ → World → List Seen → World → Type 0
-RanSources (Ok reply) d may numbers w pool new =
+abbrev pub RanSources : Result code.Reply AllocError → Definition → Relations → List ℕ → World → World → Type 0
+RanSources (Ok reply) d may numbers w new =
     (running_sources may d numbers w).to (tally_of reply) new × (option_map value_view reply.result ≡ new.result)
-RanSources (Err _) d may numbers w pool new = (running_sources may d numbers w).breaks_off pool new.transcript
+RanSources (Err _) d may numbers w new = (running_sources may d numbers w).breaks_off new.peers new.transcript
 
 -- the first of these sources have run so far, and these are left
 pub record RunSoFar (d : Definition) (may : Relations) (numbers left : List ℕ) (w : World) (reply : code.Reply) (now : World) : Type 0 where

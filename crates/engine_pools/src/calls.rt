@@ -9,10 +9,12 @@ ghost use Rattle.native_peers.specs.Seen.{SameRelations};
 ghost use Rattle.engine_world.specs.Counting.{Counts, nothing};
 ghost use Rattle.ui_machine.specs.Steps.{question};
 ghost use Rattle.engine_world.specs.EngineView.{config_of};
+ghost use Rattle.engine_world.specs.Quiet.{IsQuiet};
 ghost use Rattle.engine_world.specs.TaskView.{call_of};
 ghost use Rattle.engine_world.specs.View.{world_of};
 ghost use Rattle.engine_pools.specs.CallPoints.{Concludes, TakesCall, calling_point, calling_view};
 ghost use Rattle.engine_pools.specs.Following.{Breaks, Follows};
+ghost use Rattle.engine_pools.specs.PoolView.{with_seen};
 ghost use Rattle.engine_pools.specs.Safety.{ComesOfSafe, NoneUnheld};
 
 use crate::boxes::ask;
@@ -43,9 +45,9 @@ fn ask_for(
         (record { pool = seen (λ p. (⟦<dyn Peer as Peer>⟧ p.peer.vtable).state p.peer.value) (entries pool.new); view = config_of definition.now engine.new })) }
     ensures breaks { OnErr result (Breaks definition.now (relations (λ p. (⟦<dyn Peer as Peer>⟧ p.peer.vtable).moves p.peer.value) (entries pool.old))
         (calling_point definition.now (seen (λ p. (⟦<dyn Peer as Peer>⟧ p.peer.vtable).state p.peer.value) (entries pool.old)) engine.old call)
-        (seen (λ p. (⟦<dyn Peer as Peer>⟧ p.peer.vtable).state p.peer.value) (entries pool.new)) (world_of engine.new.world).transcript) }
+        (with_seen (seen (λ p. (⟦<dyn Peer as Peer>⟧ p.peer.vtable).state p.peer.value) (entries pool.new)) (world_of engine.new.world).peers) (world_of engine.new.world).transcript) }
     ensures concludes { OnOk result (Concludes definition.now engine.old call (config_of definition.now engine.new)) }
-    ensures quiet { OnErr result ((world_of engine.new.world).transcript ≡ (world_of engine.old.world).transcript) }
+    ensures quiet { OnErr result (IsQuiet (world_of engine.old.world) (world_of engine.new.world)) }
     ensures same { SameRelations (relations (λ p. (⟦<dyn Peer as Peer>⟧ p.peer.vtable).moves p.peer.value) (entries pool.old)) (relations (λ p. (⟦<dyn Peer as Peer>⟧ p.peer.vtable).moves p.peer.value) (entries pool.new)) }
 {
     let value = ask(pool, &call);
@@ -109,9 +111,9 @@ pub(crate) fn answer_call(
         (record { pool = (seen (λ p. (⟦<dyn Peer as Peer>⟧ p.peer.vtable).state p.peer.value) (entries pool.new)); view = config_of definition.now engine.new })) }
     ensures breaks { OnErr result (Breaks definition.now (relations (λ p. (⟦<dyn Peer as Peer>⟧ p.peer.vtable).moves p.peer.value) (entries pool.old))
         (calling_point definition.now (seen (λ p. (⟦<dyn Peer as Peer>⟧ p.peer.vtable).state p.peer.value) (entries pool.old)) engine.old call)
-        (seen (λ p. (⟦<dyn Peer as Peer>⟧ p.peer.vtable).state p.peer.value) (entries pool.new)) (world_of engine.new.world).transcript) }
+        (with_seen (seen (λ p. (⟦<dyn Peer as Peer>⟧ p.peer.vtable).state p.peer.value) (entries pool.new)) (world_of engine.new.world).peers) (world_of engine.new.world).transcript) }
     ensures concludes { OnOk result (Concludes definition.now engine.old call (config_of definition.now engine.new)) }
-    ensures quiet { OnErr result ((world_of engine.new.world).transcript ≡ (world_of engine.old.world).transcript) }
+    ensures quiet { OnErr result (IsQuiet (world_of engine.old.world) (world_of engine.new.world)) }
     ensures same { SameRelations (relations (λ p. (⟦<dyn Peer as Peer>⟧ p.peer.vtable).moves p.peer.value) (entries pool.old)) (relations (λ p. (⟦<dyn Peer as Peer>⟧ p.peer.vtable).moves p.peer.value) (entries pool.new)) }
 {
     let object = call.object;

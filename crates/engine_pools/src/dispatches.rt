@@ -1,10 +1,11 @@
 //! Dispatches: one task, and all that it leads to.
 
-ghost use Rattle.std.specs.Prelude.{◌≡◌, ◌≤◌, [], ◌∷◌, ◌++◌, codes, option_map, OnOk, OnErr, IfOk};
+ghost use Rattle.std.specs.Prelude.{◌≡◌, ◌≤◌, [], option_map, OnOk, OnErr, IfOk};
 ghost use Rattle.g_values.specs.View.{value_view};
 ghost use Rattle.ui_machine.specs.Runs.{beginning};
 ghost use Rattle.ui_machine.specs.Steps.{most_steps};
 ghost use Rattle.engine_world.specs.KnownHandlers.{TakesKnownHandlers};
+ghost use Rattle.engine_world.specs.Quiet.{IsQuiet};
 ghost use Rattle.engine_world.specs.View.{world_of};
 ghost use Rattle.engine_world.specs.TaskView.{task_in, agenda_of};
 ghost use Rattle.engine_world.specs.EngineView.{config_of};
@@ -47,7 +48,7 @@ fn begin_dispatch(
     requires begun { TakesKnownHandlers engine.now.world.handlers.last task }
     ensures counted { OnOk result (KeepsCounts definition.now engine.old engine.new) }
     ensures ok { OnOk result (config_of definition.now engine.new ≡ beginning (world_of engine.old.world) (task_in definition.now engine.old task)) }
-    ensures err { OnErr result ((world_of engine.new.world).transcript ≡ (world_of engine.old.world).transcript) }
+    ensures err { OnErr result (IsQuiet (world_of engine.old.world) (world_of engine.new.world)) }
 {
     // For the proof: the clauses speak of the definition.
     let _ = definition;
@@ -77,7 +78,7 @@ pub fn dispatch(
     ensures knows { OnOk result (Knows (world_of engine.new.world) (seen (λ p. (⟦<dyn Peer as Peer>⟧ p.peer.vtable).state p.peer.value) (entries pool.new))) }
     ensures carried { Carried result definition.now (relations (λ p. (⟦<dyn Peer as Peer>⟧ p.peer.vtable).moves p.peer.value) (entries pool.old))
         (beginning (world_at (seen (λ p. (⟦<dyn Peer as Peer>⟧ p.peer.vtable).state p.peer.value) (entries pool.old)) (world_of engine.old.world)) (task_in definition.now engine.old task))
-        (seen (λ p. (⟦<dyn Peer as Peer>⟧ p.peer.vtable).state p.peer.value) (entries pool.new)) (world_at (seen (λ p. (⟦<dyn Peer as Peer>⟧ p.peer.vtable).state p.peer.value) (entries pool.new)) (world_of engine.new.world)) }
+        (world_at (seen (λ p. (⟦<dyn Peer as Peer>⟧ p.peer.vtable).state p.peer.value) (entries pool.new)) (world_of engine.new.world)) }
     ensures few { IfOk result (λ reply. reply.steps ≤ most_steps) }
     ensures same { SameRelations (relations (λ p. (⟦<dyn Peer as Peer>⟧ p.peer.vtable).moves p.peer.value) (entries pool.old)) (relations (λ p. (⟦<dyn Peer as Peer>⟧ p.peer.vtable).moves p.peer.value) (entries pool.new)) }
     ensures grows { IsPrefix (world_of engine.old.world).transcript (world_of engine.new.world).transcript }
@@ -92,7 +93,7 @@ fn end_dispatch(engine: &mut Engine, definition: &Definition) -> Result<Reply, A
     requires rests { IsAtRest definition.now engine.now }
     ensures rests { OnOk result (IsAtRest definition.now engine.new) }
     ensures says { IfOk result (λ reply. EndsBy reply definition.now (config_of definition.now engine.old) (world_of engine.new.world)) }
-    ensures quiet { OnErr result ((world_of engine.new.world).transcript ≡ (world_of engine.old.world).transcript) }
+    ensures quiet { OnErr result (IsQuiet (world_of engine.old.world) (world_of engine.new.world)) }
 {
     let result = copied(&engine.world.result)?;
     let steps = engine.counted;

@@ -1,10 +1,11 @@
 //! Programs: how one takes its next instruction.
 
-ghost use Rattle.std.specs.Prelude.{◌≡◌, OnOk, OnErr};
+ghost use Rattle.std.specs.Prelude.{OnOk, OnErr};
 ghost use Rattle.ui_machine.specs.Definition.Lookups.{program_at};
 ghost use Rattle.ui_machine.specs.Instructions.{running};
 ghost use Rattle.ui_machine.specs.Steps.{counted_left};
 ghost use Rattle.frames.specs.FrameView.{frame_view};
+ghost use Rattle.engine_world.specs.Quiet.{IsQuiet};
 ghost use Rattle.engine_world.specs.View.{world_of};
 ghost use Rattle.engine_world.specs.TaskView.{agenda_of};
 ghost use Rattle.engine_world.specs.Counting.{Counts, in_frame, nothing};
@@ -29,7 +30,7 @@ pub(crate) fn run_program(
     ensures step { GoesWithoutGone result
         (counted_left engine.old.counted (running definition.now (world_of engine.old.world) (agenda_of definition.now engine.old) (frame_view frame)))
         (config_of definition.now engine.new) }
-    ensures quiet { OnErr result ((world_of engine.new.world).transcript ≡ (world_of engine.old.world).transcript) }
+    ensures quiet { OnErr result (IsQuiet (world_of engine.old.world) (world_of engine.new.world)) }
     ensures closing { OnOk result (ProgramLeaves (world_of engine.old.world) (frame_view frame) (program_at definition.now (frame_view frame).program) engine.old.closing engine.new.closing) }
     ensures counted { OnOk result (Counts definition.now nothing engine.new) }
 {

@@ -5,6 +5,7 @@ ghost use Rattle.ui_machine.specs.Prefix.{IsPrefix};
 ghost use Rattle.ui_machine.specs.Steps.{asked_first, question};
 ghost use Rattle.engine_world.specs.Counting.{Counts, nothing};
 ghost use Rattle.engine_world.specs.EngineView.{config_of};
+ghost use Rattle.engine_world.specs.Quiet.{IsQuiet};
 ghost use Rattle.engine_world.specs.TaskView.{agenda_of};
 ghost use Rattle.engine_world.specs.View.{world_of};
 ghost use Rattle.engine_pools.specs.QuietSteps.{IsSafeView, LeavesKnown, QuietlyStepped};
@@ -25,7 +26,7 @@ fn sink_first_floating(engine: &mut Engine, definition: &Definition) -> StepKind
     requires counted { Counts definition.now nothing engine.now }
     ensures counted { Counts definition.now nothing engine.new }
     ensures stepped { QuietlyStepped (Ok result) definition.now (config_of definition.now engine.old) (config_of definition.now engine.new) }
-    ensures same { (world_of engine.new.world).transcript ≡ (world_of engine.old.world).transcript }
+    ensures same { IsQuiet (world_of engine.old.world) (world_of engine.new.world) }
     ensures known { LeavesKnown (world_of engine.old.world) (world_of engine.new.world) engine.new.closing }
 {
     // For the proof: the clauses speak of the definition.

@@ -2,6 +2,7 @@
 
 ghost use Rattle.std.specs.Prelude.{◌≡◌, ◌<◌, ◌≤◌, ◌↔◌, None, IfOk, OnErr, OnOk, length};
 ghost use Rattle.ui_machine.specs.Prefix.{IsPrefix};
+ghost use Rattle.engine_world.specs.Quiet.{IsQuiet};
 ghost use Rattle.engine_world.specs.View.{world_of};
 ghost use Rattle.law_typing.specs.Verdict.Accepted.{Accepted};
 ghost use Rattle.engine_pools.specs.Promises.{Rests};
@@ -36,7 +37,7 @@ pub fn begin_turn(
     ensures begins { IfOk result (λ batch. TurnBegins definition.now moment (world_of engine.old.world) batch (world_of engine.new.world)) }
     ensures clock_back { (result ≡ Err TurnError.ClockBack) ↔ (moment < (world_of engine.old.world).moment) }
     ensures back { result ≡ Err TurnError.ClockBack → engine.new ≡ engine.old }
-    ensures quiet { OnErr result ((world_of engine.new.world).transcript ≡ (world_of engine.old.world).transcript) }
+    ensures quiet { OnErr result (IsQuiet (world_of engine.old.world) (world_of engine.new.world)) }
     ensures grows { IsPrefix (world_of engine.old.world).transcript (world_of engine.new.world).transcript }
 {
     let batch = engine.world.context.iteration(moment)?;
@@ -68,7 +69,7 @@ pub fn run_sources(
     ensures knows { OnOk result (Knows (world_of engine.new.world) (seen (λ p. (⟦<dyn Peer as Peer>⟧ p.peer.vtable).state p.peer.value) (entries pool.new))) }
     ensures resting { OnOk result (Rests definition.now (world_at (seen (λ p. (⟦<dyn Peer as Peer>⟧ p.peer.vtable).state p.peer.value) (entries pool.new)) (world_of engine.new.world))) }
     ensures ran { RanSources result definition.now (relations (λ p. (⟦<dyn Peer as Peer>⟧ p.peer.vtable).moves p.peer.value) (entries pool.old)) batch
-        (world_at (seen (λ p. (⟦<dyn Peer as Peer>⟧ p.peer.vtable).state p.peer.value) (entries pool.old)) (world_of engine.old.world)) (seen (λ p. (⟦<dyn Peer as Peer>⟧ p.peer.vtable).state p.peer.value) (entries pool.new)) (world_at (seen (λ p. (⟦<dyn Peer as Peer>⟧ p.peer.vtable).state p.peer.value) (entries pool.new)) (world_of engine.new.world)) }
+        (world_at (seen (λ p. (⟦<dyn Peer as Peer>⟧ p.peer.vtable).state p.peer.value) (entries pool.old)) (world_of engine.old.world)) (world_at (seen (λ p. (⟦<dyn Peer as Peer>⟧ p.peer.vtable).state p.peer.value) (entries pool.new)) (world_of engine.new.world)) }
     ensures same { SameRelations (relations (λ p. (⟦<dyn Peer as Peer>⟧ p.peer.vtable).moves p.peer.value) (entries pool.old)) (relations (λ p. (⟦<dyn Peer as Peer>⟧ p.peer.vtable).moves p.peer.value) (entries pool.new)) }
     ensures grows { IsPrefix (world_of engine.old.world).transcript (world_of engine.new.world).transcript }
 {

@@ -12,6 +12,7 @@ ghost use Rattle.definition_format.specs.Meaning.{bind_view};
 ghost use Rattle.instance_tables.specs.Store.{Shows};
 ghost use Rattle.engine_world.specs.Counting.{Connects, KeepsCounts};
 ghost use Rattle.engine_world.specs.EngineView.{config_of};
+ghost use Rattle.engine_world.specs.Quiet.{IsQuiet};
 ghost use Rattle.engine_world.specs.TaskView.{agenda_of, binds_from};
 ghost use Rattle.engine_world.specs.View.{world_of};
 ghost use Rattle.engine_tasks.specs.BindView.{ends_at, ends_of};
@@ -107,7 +108,7 @@ fn bind(
     ends: Ends,
 ) -> Result<(), AllocError>
     ensures world { OnOk result (world_of engine.new.world ≡ with_binding (world_of engine.old.world) (new_binding number (bind_view bind.now) ends.source.0 ends.target.0)) }
-    ensures quiet { (world_of engine.new.world).transcript ≡ (world_of engine.old.world).transcript }
+    ensures quiet { IsQuiet (world_of engine.old.world) (world_of engine.new.world) }
     ensures same { (engine.new.stack ≡ engine.old.stack) × (engine.new.counted ≡ engine.old.counted) }
     ensures handlers { engine.new.world.handlers ≡ engine.old.world.handlers }
     ensures counted { KeepsCounts definition.now engine.old engine.new }
@@ -137,7 +138,7 @@ pub fn bind_from_build(
     ensures step { Goes result
         (uncounted (agenda_of definition.now engine.old) engine.old.counted (building definition.now (world_of engine.old.world) (binds_from definition.now number)))
         (config_of definition.now engine.new) }
-    ensures quiet { OnErr result ((world_of engine.new.world).transcript ≡ (world_of engine.old.world).transcript) }
+    ensures quiet { OnErr result (IsQuiet (world_of engine.old.world) (world_of engine.new.world)) }
     ensures counted { OnOk result (KeepsCounts definition.now engine.old engine.new) }
 {
     if number >= definition.binding_count() {

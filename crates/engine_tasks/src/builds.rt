@@ -13,6 +13,7 @@ ghost use Rattle.ui_machine.specs.Steps.{uncounted};
 ghost use Rattle.ui_machine.specs.Rules.Build.{building};
 ghost use Rattle.g_values.specs.View.{value_view};
 ghost use Rattle.definition_format.specs.Meaning.{object_count};
+ghost use Rattle.engine_world.specs.Quiet.{IsQuiet};
 ghost use Rattle.engine_world.specs.View.{world_of};
 ghost use Rattle.engine_world.specs.TaskView.{task_of, agenda_of, build_from, build_behind};
 ghost use Rattle.engine_world.specs.Counting.{Connects, KeepsCounts};
@@ -39,7 +40,7 @@ fn hold_made(engine: &mut Engine, definition: &Definition, object: ObjectId) -> 
     ensures step { Goes result
         (uncounted (agenda_of definition.now engine.old) engine.old.counted (constructed (world_of engine.old.world) object.0 true))
         (config_of definition.now engine.new) }
-    ensures quiet { OnErr result ((world_of engine.new.world).transcript ≡ (world_of engine.old.world).transcript) }
+    ensures quiet { OnErr result (IsQuiet (world_of engine.old.world) (world_of engine.new.world)) }
     ensures counted { OnOk result (KeepsCounts definition.now engine.old engine.new) }
 {
     // For the proof: the clauses speak of the definition.
@@ -69,7 +70,7 @@ fn end_construction(
     ensures step { Goes result
         (uncounted (agenda_of definition.now engine.old) engine.old.counted (constructed (world_of engine.old.world) object.0 held))
         (config_of definition.now engine.new) }
-    ensures quiet { OnErr result ((world_of engine.new.world).transcript ≡ (world_of engine.old.world).transcript) }
+    ensures quiet { OnErr result (IsQuiet (world_of engine.old.world) (world_of engine.new.world)) }
     ensures counted { OnOk result (KeepsCounts definition.now engine.old engine.new) }
 {
     if held {
@@ -90,7 +91,7 @@ fn thaw_constructed(
     ensures step { Goes result
         (uncounted (agenda_of definition.now engine.old) engine.old.counted (thawing_made (world_of engine.old.world) object.0 steps held))
         (config_of definition.now engine.new) }
-    ensures quiet { OnErr result ((world_of engine.new.world).transcript ≡ (world_of engine.old.world).transcript) }
+    ensures quiet { OnErr result (IsQuiet (world_of engine.old.world) (world_of engine.new.world)) }
     ensures counted { OnOk result (KeepsCounts definition.now engine.old engine.new) }
 {
     // For the proof: the clauses speak of the definition.
@@ -128,7 +129,7 @@ fn apply_construct_property(
     ensures step { Goes result
         (uncounted (agenda_of definition.now engine.old) engine.old.counted (apply_construct_property definition.now (world_of engine.old.world) object.0 slot (value_view value) (Constructing object.0 steps held ∷ [])))
         (config_of definition.now engine.new) }
-    ensures quiet { OnErr result ((world_of engine.new.world).transcript ≡ (world_of engine.old.world).transcript) }
+    ensures quiet { OnErr result (IsQuiet (world_of engine.old.world) (world_of engine.new.world)) }
     ensures counted { OnOk result (KeepsCounts definition.now engine.old engine.new) }
 {
     let spec = spec_of(engine, definition, object, slot)?;
@@ -166,7 +167,7 @@ fn run_constructed(
     ensures step { Goes result
         (uncounted (agenda_of definition.now engine.old) engine.old.counted (program_before definition.now (world_of engine.old.world) program (machine_values.object (Some object.0) ∷ []) (Constructing object.0 steps held ∷ [])))
         (config_of definition.now engine.new) }
-    ensures quiet { OnErr result ((world_of engine.new.world).transcript ≡ (world_of engine.old.world).transcript) }
+    ensures quiet { OnErr result (IsQuiet (world_of engine.old.world) (world_of engine.new.world)) }
     ensures counted { OnOk result (KeepsCounts definition.now engine.old engine.new) }
 {
     let mut args = Vec::new(engine.alloc);
@@ -197,7 +198,7 @@ pub fn construct(
     ensures step { Goes result
         (uncounted (agenda_of definition.now engine.old) engine.old.counted (constructing definition.now (world_of engine.old.world) object.0 steps held))
         (config_of definition.now engine.new) }
-    ensures quiet { OnErr result ((world_of engine.new.world).transcript ≡ (world_of engine.old.world).transcript) }
+    ensures quiet { OnErr result (IsQuiet (world_of engine.old.world) (world_of engine.new.world)) }
     ensures counted { OnOk result (KeepsCounts definition.now engine.old engine.new) }
 {
     let Some(step) = steps.take() else {
@@ -230,7 +231,7 @@ fn make_from_build(
     ensures step { Goes result
         (uncounted (agenda_of definition.now engine.old) engine.old.counted (making definition.now (world_of engine.old.world) place.0 peer true))
         (config_of definition.now engine.new) }
-    ensures quiet { OnErr result ((world_of engine.new.world).transcript ≡ (world_of engine.old.world).transcript) }
+    ensures quiet { OnErr result (IsQuiet (world_of engine.old.world) (world_of engine.new.world)) }
     ensures counted { OnOk result (KeepsCounts definition.now engine.old engine.new) }
 {
     let new = make(engine, definition, place, peer)?;
@@ -254,7 +255,7 @@ pub fn build(
     ensures step { Goes result
         (uncounted (agenda_of definition.now engine.old) engine.old.counted (building definition.now (world_of engine.old.world) (build_from definition.now place.0 forwards)))
         (config_of definition.now engine.new) }
-    ensures quiet { OnErr result ((world_of engine.new.world).transcript ≡ (world_of engine.old.world).transcript) }
+    ensures quiet { OnErr result (IsQuiet (world_of engine.old.world) (world_of engine.new.world)) }
     ensures counted { OnOk result (KeepsCounts definition.now engine.old engine.new) }
 {
     // For the proof: what is known of a definition's types.

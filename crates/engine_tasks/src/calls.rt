@@ -15,6 +15,7 @@ ghost use Rattle.g_values.specs.View.{value_view};
 ghost use Rattle.engine_world.specs.Counting.{Counts};
 ghost use Rattle.engine_world.specs.EngineView.{config_of};
 ghost use Rattle.engine_world.specs.GivenView.{Finds};
+ghost use Rattle.engine_world.specs.Quiet.{IsQuiet};
 ghost use Rattle.engine_world.specs.SeatView.{HasKnownKinds};
 ghost use Rattle.engine_world.specs.TaskView.{agenda_of, call_of};
 ghost use Rattle.engine_world.specs.View.{with_line, world_of};
@@ -170,7 +171,7 @@ fn conclude(
     ensures step { Goes result
         (left engine.old.counted (left_with (with_line (string_bytes conclusion.line) (world_of engine.old.world)) (agenda_of definition.now engine.old) call.to.0 (value_view conclusion.value)))
         (config_of definition.now engine.new) }
-    ensures quiet { OnErr result ((world_of engine.new.world).transcript ≡ (world_of engine.old.world).transcript) }
+    ensures quiet { OnErr result (IsQuiet (world_of engine.old.world) (world_of engine.new.world)) }
     ensures counted { OnOk result (Counts definition.now (λ o. same o call.object.0) engine.new) }
 {
     let Conclusion { line, value } = conclusion;
@@ -197,7 +198,7 @@ pub fn answer(
         (left engine.old.counted (calling_on definition.now (world_of engine.old.world) (call_of call) (agenda_of definition.now engine.old)
         (Some (reply_of (world_of engine.old.world) (call_of call) (option_map value_view answer)))))
         (config_of definition.now engine.new) }
-    ensures quiet { OnErr result ((world_of engine.new.world).transcript ≡ (world_of engine.old.world).transcript) }
+    ensures quiet { OnErr result (IsQuiet (world_of engine.old.world) (world_of engine.new.world)) }
     ensures counted { OnOk result (Counts definition.now (λ o. same o call.object.0) engine.new) }
 {
     if !is_asked(engine, call.peer) {
@@ -220,7 +221,7 @@ pub fn pass_over(engine: &mut Engine, definition: &Definition, call: DueCall) ->
     ensures closed { is_asked (world_of engine.old.world) call.peer ≡ false → (reply : Option Reply) → Goes result
         (left engine.old.counted (calling_on definition.now (world_of engine.old.world) (call_of call) (agenda_of definition.now engine.old) reply))
         (config_of definition.now engine.new) }
-    ensures quiet { OnErr result ((world_of engine.new.world).transcript ≡ (world_of engine.old.world).transcript) }
+    ensures quiet { OnErr result (IsQuiet (world_of engine.old.world) (world_of engine.new.world)) }
     ensures counted { OnOk result (Counts definition.now (λ o. same o call.object.0) engine.new) }
 {
     if is_asked(engine, call.peer) {

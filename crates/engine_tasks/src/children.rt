@@ -1,10 +1,11 @@
 //! Children: an object that the build has made becomes its parent's child.
 
-ghost use Rattle.std.specs.Prelude.{◌≡◌, suc, OnOk, OnErr};
+ghost use Rattle.std.specs.Prelude.{suc, OnOk, OnErr};
 ghost use Rattle.ui_machine.specs.Outcome.{Goes};
 ghost use Rattle.ui_machine.specs.Steps.{uncounted};
 ghost use Rattle.ui_machine.specs.Rules.Build.{building_child};
 ghost use Rattle.instance_tables.specs.Store.{Shows};
+ghost use Rattle.engine_world.specs.Quiet.{IsQuiet};
 ghost use Rattle.engine_world.specs.View.{world_of};
 ghost use Rattle.engine_world.specs.KinView.{kin_of, kin_at};
 ghost use Rattle.engine_world.specs.TaskView.{agenda_of, build_from};
@@ -49,7 +50,7 @@ pub fn adopt_from_build(
     ensures step { Goes result
         (uncounted (agenda_of definition.now engine.old) engine.old.counted (building_child definition.now (world_of engine.old.world) place.0 (build_from definition.now (suc place.0) forwards)))
         (config_of definition.now engine.new) }
-    ensures quiet { OnErr result ((world_of engine.new.world).transcript ≡ (world_of engine.old.world).transcript) }
+    ensures quiet { OnErr result (IsQuiet (world_of engine.old.world) (world_of engine.new.world)) }
     ensures counted { OnOk result (KeepsCounts definition.now engine.old engine.new) }
 {
     // For the proof: what is known of a definition's places.

@@ -18,6 +18,7 @@ ghost use Rattle.signal_core.specs.Emission.{begun};
 ghost use Rattle.signal_core.specs.declared.stage.Stage.TheVariants as stages;
 ghost use Rattle.g_values.specs.View.{kind_view, value_view};
 ghost use Rattle.definition_format.specs.Meaning.{IsKnownKind};
+ghost use Rattle.engine_world.specs.Quiet.{IsQuiet};
 ghost use Rattle.engine_world.specs.View.{world_of, with_line};
 ghost use Rattle.engine_world.specs.KnownHandlers.{EndsWithoutTransfers};
 ghost use Rattle.engine_world.specs.TaskView.{new_of, emission_of, entries_to_come, agenda_of};
@@ -145,7 +146,7 @@ pub(crate) fn start_emission(
         (entries_to_come (begun emission engine.old.world.handlers.last) engine.old.world.handlers.handlers transfers)
         ∷ agenda_of d engine.old) }
     ensures world { OnOk result (world_of engine.new.world ≡ with_line (string_bytes line) (world_of engine.old.world)) }
-    ensures quiet { OnErr result ((world_of engine.new.world).transcript ≡ (world_of engine.old.world).transcript) }
+    ensures quiet { OnErr result (IsQuiet (world_of engine.old.world) (world_of engine.new.world)) }
     ensures same { engine.new.counted ≡ engine.old.counted }
     ensures counted { OnOk result ((d : machine.Definition) (taken : ℕ → ℕ)
         → Counts d (λ o. taken o + total (in_value o) (map value_view args.items)) engine.old → Counts d taken engine.new) }
@@ -171,7 +172,7 @@ pub fn begin_emission(
     ensures step { Goes result
         (counted (agenda_of definition.now engine.old) engine.old.counted (beginning_emission definition.now (world_of engine.old.world) (new_of emission)))
         (config_of definition.now engine.new) }
-    ensures quiet { OnErr result ((world_of engine.new.world).transcript ≡ (world_of engine.old.world).transcript) }
+    ensures quiet { OnErr result (IsQuiet (world_of engine.old.world) (world_of engine.new.world)) }
     ensures counted { OnOk result (Counts definition.now (λ o. same o emission.object.0) engine.new) }
 {
     // For the proof: what is known of the numbers of handlers.
@@ -209,7 +210,7 @@ fn say_result(
     value: Option<Value>,
 ) -> Result<(), AllocError>
     ensures world { OnOk result (world_of engine.new.world ≡ told definition.now (world_of engine.old.world) true (option_map value_view value)) }
-    ensures quiet { OnErr result ((world_of engine.new.world).transcript ≡ (world_of engine.old.world).transcript) }
+    ensures quiet { OnErr result (IsQuiet (world_of engine.old.world) (world_of engine.new.world)) }
     ensures same { (engine.new.stack ≡ engine.old.stack) × (engine.new.counted ≡ engine.old.counted) }
     ensures handlers { engine.new.world.handlers ≡ engine.old.world.handlers }
     ensures counted { OnOk result (KeepsCounts definition.now engine.old engine.new) }
@@ -231,7 +232,7 @@ fn say_result_if(
     value: Option<Value>,
 ) -> Result<(), AllocError>
     ensures world { OnOk result (world_of engine.new.world ≡ told definition.now (world_of engine.old.world) by_event (option_map value_view value)) }
-    ensures quiet { OnErr result ((world_of engine.new.world).transcript ≡ (world_of engine.old.world).transcript) }
+    ensures quiet { OnErr result (IsQuiet (world_of engine.old.world) (world_of engine.new.world)) }
     ensures same { (engine.new.stack ≡ engine.old.stack) × (engine.new.counted ≡ engine.old.counted) }
     ensures handlers { engine.new.world.handlers ≡ engine.old.world.handlers }
     ensures counted { OnOk result (KeepsCounts definition.now engine.old engine.new) }
@@ -255,7 +256,7 @@ fn end_emission(
     ensures step { Goes result
         (left engine.old.counted (ending definition.now (world_of engine.old.world) (emission_of cursor args.items by_event) (agenda_of definition.now engine.old)))
         (config_of definition.now engine.new) }
-    ensures quiet { OnErr result ((world_of engine.new.world).transcript ≡ (world_of engine.old.world).transcript) }
+    ensures quiet { OnErr result (IsQuiet (world_of engine.old.world) (world_of engine.new.world)) }
     ensures counted { OnOk result (Counts definition.now (λ o. same o cursor.object) engine.new) }
 {
     // For the proof: what is known of a definition's signals.
@@ -293,7 +294,7 @@ fn take_turn(
         (uncounted (Emitting (emission_of cursor args.items by_event) (entries_to_come cursor engine.old.world.handlers.handlers transfers) ∷ agenda_of definition.now engine.old) engine.old.counted
         (beginning_program definition.now (world_of engine.old.world) (program_of_turn turn) (given_by (emission_of cursor args.items by_event) turn)))
         (config_of definition.now engine.new) }
-    ensures quiet { OnErr result ((world_of engine.new.world).transcript ≡ (world_of engine.old.world).transcript) }
+    ensures quiet { OnErr result (IsQuiet (world_of engine.old.world) (world_of engine.new.world)) }
     ensures counted { OnOk result (Counts definition.now (λ o. same o cursor.object) engine.new) }
 {
     let runs = Invocation::new(turn, cursor.object());
@@ -320,7 +321,7 @@ fn take_transfer(
         (act definition.now (world_of engine.old.world) None
         (Emitting (emission_of cursor args.items by_event) (entry_of due ∷ entries_to_come cursor engine.old.world.handlers.handlers transfers) ∷ agenda_of definition.now engine.old) engine.old.counted)
         (config_of definition.now engine.new) }
-    ensures quiet { OnErr result ((world_of engine.new.world).transcript ≡ (world_of engine.old.world).transcript) }
+    ensures quiet { OnErr result (IsQuiet (world_of engine.old.world) (world_of engine.new.world)) }
     ensures counted { OnOk result (Counts definition.now (λ o. same o cursor.object) engine.new) }
 {
     // For the proof: the clauses speak of the definition.
@@ -354,7 +355,7 @@ fn emit_transfers(
         (act definition.now (world_of engine.old.world) None
         (Emitting (emission_of cursor args.items by_event) (entries_due (world_of engine.old.world) (entries_to_come cursor engine.old.world.handlers.handlers transfers)) ∷ agenda_of definition.now engine.old) engine.old.counted)
         (config_of definition.now engine.new) }
-    ensures quiet { OnErr result ((world_of engine.new.world).transcript ≡ (world_of engine.old.world).transcript) }
+    ensures quiet { OnErr result (IsQuiet (world_of engine.old.world) (world_of engine.new.world)) }
     ensures counted { OnOk result (Counts definition.now (λ o. same o cursor.object) engine.new) }
 {
     // For the proof: what is known of the numbers of handlers.
@@ -389,7 +390,7 @@ pub fn emit(
         (past_turns (world_of engine.old.world) (Emitting (emission_of cursor args.items by_event) (entries_to_come cursor engine.old.world.handlers.handlers transfers))
         ∷ agenda_of definition.now engine.old) engine.old.counted)
         (config_of definition.now engine.new) }
-    ensures quiet { OnErr result ((world_of engine.new.world).transcript ≡ (world_of engine.old.world).transcript) }
+    ensures quiet { OnErr result (IsQuiet (world_of engine.old.world) (world_of engine.new.world)) }
     ensures counted { OnOk result (Counts definition.now (λ o. same o cursor.object) engine.new) }
 {
     // For the proof: what is known of the numbers of handlers.

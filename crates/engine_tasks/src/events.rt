@@ -1,10 +1,11 @@
 //! What events do.
 
-ghost use Rattle.std.specs.Prelude.{◌≡◌, map, option_map, OnOk, OnErr};
+ghost use Rattle.std.specs.Prelude.{map, option_map, OnOk, OnErr};
 ghost use Rattle.ui_machine.specs.Outcome.{Goes};
 ghost use Rattle.ui_machine.specs.Steps.{uncounted};
 ghost use Rattle.ui_machine.specs.Rules.Events.{request_step, set_from_event, get_from_event, emit_from_event, release_from_event};
 ghost use Rattle.definition_format.specs.Meaning.{given_view, request_of};
+ghost use Rattle.engine_world.specs.Quiet.{IsQuiet};
 ghost use Rattle.engine_world.specs.View.{world_of};
 ghost use Rattle.engine_world.specs.TaskView.{agenda_of};
 ghost use Rattle.engine_world.specs.Counting.{HoldsBuilt, KeepsCounts};
@@ -35,7 +36,7 @@ fn set_from_event(
     ensures step { Goes result
         (uncounted (agenda_of definition.now engine.old) engine.old.counted (set_from_event definition.now (world_of engine.old.world) place.0 slot (given_view given)))
         (config_of definition.now engine.new) }
-    ensures quiet { OnErr result ((world_of engine.new.world).transcript ≡ (world_of engine.old.world).transcript) }
+    ensures quiet { OnErr result (IsQuiet (world_of engine.old.world) (world_of engine.new.world)) }
     ensures counted { OnOk result (KeepsCounts definition.now engine.old engine.new) }
 {
     let object = settable(engine, definition, place, slot)?;
@@ -62,7 +63,7 @@ fn get_from_event(
     ensures step { Goes result
         (uncounted (agenda_of definition.now engine.old) engine.old.counted (get_from_event definition.now (world_of engine.old.world) place.0 slot))
         (config_of definition.now engine.new) }
-    ensures quiet { OnErr result ((world_of engine.new.world).transcript ≡ (world_of engine.old.world).transcript) }
+    ensures quiet { OnErr result (IsQuiet (world_of engine.old.world) (world_of engine.new.world)) }
     ensures counted { OnOk result (KeepsCounts definition.now engine.old engine.new) }
 {
     let object = held_object(engine, place)?;
@@ -96,7 +97,7 @@ fn emit_from_event(
     ensures step { Goes result
         (uncounted (agenda_of definition.now engine.old) engine.old.counted (emit_from_event definition.now (world_of engine.old.world) place.0 signal (map given_view args.now) (option_map (λ text. text.now) detail.entry)))
         (config_of definition.now engine.new) }
-    ensures quiet { OnErr result ((world_of engine.new.world).transcript ≡ (world_of engine.old.world).transcript) }
+    ensures quiet { OnErr result (IsQuiet (world_of engine.old.world) (world_of engine.new.world)) }
     ensures counted { OnOk result (KeepsCounts definition.now engine.old engine.new) }
 {
     let object = held_object(engine, place)?;
@@ -126,7 +127,7 @@ fn release_from_event(
     ensures step { Goes result
         (uncounted (agenda_of definition.now engine.old) engine.old.counted (release_from_event definition.now (world_of engine.old.world) place.0))
         (config_of definition.now engine.new) }
-    ensures quiet { OnErr result ((world_of engine.new.world).transcript ≡ (world_of engine.old.world).transcript) }
+    ensures quiet { OnErr result (IsQuiet (world_of engine.old.world) (world_of engine.new.world)) }
     ensures counted { OnOk result (KeepsCounts definition.now engine.old engine.new) }
 {
     let Some(entry) = entry_at(definition, place) else {
@@ -154,7 +155,7 @@ pub fn handle_event(
     ensures step { Goes result
         (uncounted (agenda_of definition.now engine.old) engine.old.counted (request_step definition.now (world_of engine.old.world) (request_of request)))
         (config_of definition.now engine.new) }
-    ensures quiet { OnErr result ((world_of engine.new.world).transcript ≡ (world_of engine.old.world).transcript) }
+    ensures quiet { OnErr result (IsQuiet (world_of engine.old.world) (world_of engine.new.world)) }
     ensures counted { OnOk result (KeepsCounts definition.now engine.old engine.new) }
 {
     match request {

@@ -10,6 +10,7 @@ ghost use Rattle.instance_tables.specs.Store.{count_of};
 ghost use Rattle.instance_tables.specs.Weak.{Knows};
 ghost use Rattle.machine_laws.specs.GoneLaws.{pruned};
 ghost use Rattle.engine_world.specs.ClosingView.{closed_with, or_number};
+ghost use Rattle.engine_world.specs.Quiet.{IsQuiet};
 ghost use Rattle.engine_world.specs.View.{world_of};
 ghost use Rattle.engine_world.specs.TaskView.{agenda_of};
 ghost use Rattle.engine_world.specs.Counting.{KeepsCounts};
@@ -36,7 +37,7 @@ pub fn finalise(engine: &mut Engine, definition: &Definition, object: ObjectId) 
         (counted rest engine.old.counted (finalising definition.now (world_of engine.old.world) object.0))
         (record { world = world_of engine.new.world; agenda = rest; counted = engine.new.counted }) }
     ensures agenda { OnOk result (agenda_of definition.now engine.new ≡ map (pruned (gone_handlers (world_of engine.new.world))) (agenda_of definition.now engine.old)) }
-    ensures quiet { OnErr result ((world_of engine.new.world).transcript ≡ (world_of engine.old.world).transcript) }
+    ensures quiet { OnErr result (IsQuiet (world_of engine.old.world) (world_of engine.new.world)) }
     ensures counts { OnOk result ((engine.old.counted < most_steps) × (engine.new.counted ≡ suc engine.old.counted)) }
     ensures same { OnOk result ((engine.new.stack ≡ engine.old.stack) × (engine.new.world.table.floating ≡ engine.old.world.table.floating)) }
     ensures closing { OnOk result (engine.new.closing ≡ or_number (closed_with (world_of engine.old.world) object.0) engine.old.closing) }

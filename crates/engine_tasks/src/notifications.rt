@@ -1,10 +1,11 @@
 //! Notifications: how one begins, and those of a thaw.
 
-ghost use Rattle.std.specs.Prelude.{◌≡◌, OnOk, OnErr};
+ghost use Rattle.std.specs.Prelude.{OnOk, OnErr};
 ghost use Rattle.ui_machine.specs.Outcome.{Goes};
 ghost use Rattle.ui_machine.specs.Rules.EmissionPlan.{notifying};
 ghost use Rattle.ui_machine.specs.Steps.{counted, uncounted};
 ghost use Rattle.ui_machine.specs.Rules.NotifyQueue.{thawing};
+ghost use Rattle.engine_world.specs.Quiet.{IsQuiet};
 ghost use Rattle.engine_world.specs.View.{world_of};
 ghost use Rattle.engine_world.specs.TaskView.{agenda_of};
 ghost use Rattle.engine_world.specs.Counting.{KeepsCounts};
@@ -37,7 +38,7 @@ pub fn notify(
     ensures step { Goes result
         (counted (agenda_of definition.now engine.old) engine.old.counted (notifying definition.now (world_of engine.old.world) object.0 slot))
         (config_of definition.now engine.new) }
-    ensures quiet { OnErr result ((world_of engine.new.world).transcript ≡ (world_of engine.old.world).transcript) }
+    ensures quiet { OnErr result (IsQuiet (world_of engine.old.world) (world_of engine.new.world)) }
     ensures counted { OnOk result (KeepsCounts definition.now engine.old engine.new) }
 {
     // For the proof: what is known of the numbers of handlers.
@@ -76,7 +77,7 @@ pub fn notify_thawed(
     ensures step { Goes result
         (uncounted (agenda_of definition.now engine.old) engine.old.counted (thawing (world_of engine.old.world) object.0 slots))
         (config_of definition.now engine.new) }
-    ensures quiet { OnErr result ((world_of engine.new.world).transcript ≡ (world_of engine.old.world).transcript) }
+    ensures quiet { OnErr result (IsQuiet (world_of engine.old.world) (world_of engine.new.world)) }
     ensures counted { OnOk result (KeepsCounts definition.now engine.old engine.new) }
 {
     // For the proof: the clauses speak of the definition.

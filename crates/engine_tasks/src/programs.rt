@@ -10,6 +10,7 @@ ghost use Rattle.ui_machine.specs.Steps.{uncounted};
 ghost use Rattle.g_values.specs.View.{value_view};
 ghost use Rattle.bytecode.specs.Known.{IsKnownRegister};
 ghost use Rattle.bytecode.specs.View.{register_kind_view};
+ghost use Rattle.engine_world.specs.Quiet.{IsQuiet};
 ghost use Rattle.engine_world.specs.View.{world_of};
 ghost use Rattle.engine_world.specs.TaskView.{agenda_of};
 ghost use Rattle.engine_world.specs.Counting.{KeepsCounts};
@@ -102,7 +103,7 @@ pub(crate) fn begin_program(
     ensures step { Goes result
         (uncounted (agenda_of definition.now engine.old) engine.old.counted (beginning_program definition.now (world_of engine.old.world) number (map value_view args.items)))
         (config_of definition.now engine.new) }
-    ensures quiet { OnErr result ((world_of engine.new.world).transcript ≡ (world_of engine.old.world).transcript) }
+    ensures quiet { OnErr result (IsQuiet (world_of engine.old.world) (world_of engine.new.world)) }
     ensures handlers { engine.new.world.handlers ≡ engine.old.world.handlers }
     ensures counted { OnOk result (KeepsCounts definition.now engine.old engine.new) }
 {

@@ -12,6 +12,7 @@ ghost use Rattle.ui_machine.specs.Output.Lines as lines;
 ghost use Rattle.ui_machine.specs.Steps.{uncounted};
 ghost use Rattle.g_values.specs.View.{kind_view, value_view};
 ghost use Rattle.param_specs.specs.View.{spec_view};
+ghost use Rattle.engine_world.specs.Quiet.{IsQuiet};
 ghost use Rattle.engine_world.specs.View.{world_of, with_line};
 ghost use Rattle.instance_tables.specs.Store.{Shows};
 ghost use Rattle.engine_world.specs.TaskView.{agenda_of};
@@ -113,7 +114,7 @@ fn say_and_raise(
     ensures step { Goes result
         (uncounted (agenda_of definition.now engine.old) engine.old.counted (raising_if is_told (with_line (string_bytes line) (world_of engine.old.world)) object.0 slot))
         (config_of definition.now engine.new) }
-    ensures quiet { OnErr result ((world_of engine.new.world).transcript ≡ (world_of engine.old.world).transcript) }
+    ensures quiet { OnErr result (IsQuiet (world_of engine.old.world) (world_of engine.new.world)) }
     ensures counted { OnOk result (KeepsCounts definition.now engine.old engine.new) }
 {
     // For the proof: the clauses speak of the definition.
@@ -170,7 +171,7 @@ fn write_and_notify(
     ensures step { Goes result
         (uncounted (agenda_of definition.now engine.old) engine.old.counted (written definition.now (world_of engine.old.world) object.0 slot (spec_view spec.now) (value_view value)))
         (config_of definition.now engine.new) }
-    ensures quiet { OnErr result ((world_of engine.new.world).transcript ≡ (world_of engine.old.world).transcript) }
+    ensures quiet { OnErr result (IsQuiet (world_of engine.old.world) (world_of engine.new.world)) }
     ensures counted { OnOk result (KeepsCounts definition.now engine.old engine.new) }
 {
     let told = Line::Set {
@@ -223,7 +224,7 @@ pub fn validate_and_set(
     ensures step { Goes result
         (uncounted (agenda_of definition.now engine.old) engine.old.counted (setting definition.now (world_of engine.old.world) object.0 slot (value_view value)))
         (config_of definition.now engine.new) }
-    ensures quiet { OnErr result ((world_of engine.new.world).transcript ≡ (world_of engine.old.world).transcript) }
+    ensures quiet { OnErr result (IsQuiet (world_of engine.old.world) (world_of engine.new.world)) }
     ensures counted { OnOk result (KeepsCounts definition.now engine.old engine.new) }
 {
     let spec = spec_of(engine, definition, object, slot)?;

@@ -12,6 +12,7 @@ ghost use Rattle.engine_world.specs.ConnectView.{attached_at};
 ghost use Rattle.engine_world.specs.Counting.{Connects, KeepsCounts};
 ghost use Rattle.engine_world.specs.EngineView.{config_of};
 ghost use Rattle.engine_world.specs.GivenView.{Finds};
+ghost use Rattle.engine_world.specs.Quiet.{IsQuiet};
 ghost use Rattle.engine_world.specs.TaskView.{agenda_of, connects_from};
 ghost use Rattle.engine_world.specs.View.{world_of};
 
@@ -115,7 +116,7 @@ pub fn connect_from_build(
     ensures step { Goes result
         (uncounted (agenda_of definition.now engine.old) engine.old.counted (building definition.now (world_of engine.old.world) (connects_from definition.now place.0 number)))
         (config_of definition.now engine.new) }
-    ensures quiet { OnErr result ((world_of engine.new.world).transcript ≡ (world_of engine.old.world).transcript) }
+    ensures quiet { OnErr result (IsQuiet (world_of engine.old.world) (world_of engine.new.world)) }
     ensures counted { OnOk result (KeepsCounts definition.now engine.old engine.new) }
 {
     let Some(at) = next_signal(definition, place, number) else {

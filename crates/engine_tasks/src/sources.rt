@@ -6,6 +6,7 @@ ghost use Rattle.ui_machine.specs.Rules.MainLoop.{source_data, sourcing};
 ghost use Rattle.ui_machine.specs.Steps.{uncounted};
 ghost use Rattle.g_values.specs.View.{value_view};
 ghost use Rattle.instance_tables.specs.Store.{id_of};
+ghost use Rattle.engine_world.specs.Quiet.{IsQuiet};
 ghost use Rattle.engine_world.specs.View.{world_of};
 ghost use Rattle.engine_world.specs.TaskView.{agenda_of};
 ghost use Rattle.engine_world.specs.Counting.{KeepsCounts};
@@ -42,7 +43,7 @@ pub fn run_source(engine: &mut Engine, definition: &Definition, source: u64) -> 
     ensures step { Goes result
         (uncounted (agenda_of definition.now engine.old) engine.old.counted (sourcing definition.now (world_of engine.old.world) source))
         (config_of definition.now engine.new) }
-    ensures quiet { OnErr result ((world_of engine.new.world).transcript ≡ (world_of engine.old.world).transcript) }
+    ensures quiet { OnErr result (IsQuiet (world_of engine.old.world) (world_of engine.new.world)) }
     ensures counted { OnOk result (KeepsCounts definition.now engine.old engine.new) }
 {
     let Some(due) = engine.world.context.find(source) else {

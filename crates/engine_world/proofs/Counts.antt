@@ -1,16 +1,17 @@
 -- Counts that move as the machine's mentions do.
-use Rattle.std.proofs.Common.{◌≡◌, ℕ, zero, suc, ◌+◌, ◌-◌, ◌<◌, Bool, true, false, cond, nat_eq, nat_lt, List, [], ◌∷◌, map, Option, Some, None, slice_get, slice_set, Ok, refl, sym, ap, subst, ◌∙◌, arith}
-use Rattle.std.specs.Prelude.{IfOk}
+use Rattle.std.proofs.Common.{◌≡◌, ℕ, zero, suc, ◌+◌, ◌-◌, ◌<◌, Bool, true, false, cond, nat_eq, nat_lt, List, [], ◌∷◌, length, map, Option, Some, None, slice_get, slice_set, Ok, refl, sym, ap, subst, ◌∙◌, arith}
+use Rattle.std.specs.Prelude.{IfOk, IfSome}
 use Rattle.std.proofs.lemmas.Bool.Decides.{nat_tests}
 use Rattle.ui_machine.specs.declared.arm.Arm.TheVariants as arms
 use Rattle.ui_machine.specs.Seq.{read, total}
 use Rattle.ui_machine.specs.Definition.{Definition}
 use Rattle.ui_machine.specs.Definition.Values.{Value}
 use Rattle.ui_machine.specs.Outcome.{After, Answer, ◌>>=◌, known, only_if}
+use Rattle.ui_machine.specs.Rules.Construction.{lent}
 use Rattle.ui_machine.specs.Rules.NotifyQueue.{queued, raised, less_frozen, frozen_less}
 use Rattle.ui_machine.specs.State.Config.{BuilderEntry, said}
 use Rattle.ui_machine.specs.State.Objects.{Object, Objects, living, put, asked, changed, value_at, with_value}
-use Rattle.ui_machine.specs.State.Peers.{first_left}
+use Rattle.ui_machine.specs.State.Peers.{Peer, first_left}
 use Rattle.ui_machine.specs.State.References.{same, in_value, in_object, in_held, in_source, in_task, mentions, next_unheld}
 use Rattle.main_context.specs.Attached.{Attached}
 use Rattle.ui_machine.specs.State.Tasks.{Emission, Emitting, PlanEntry, Task}
@@ -46,7 +47,7 @@ use Rattle.engine_world.specs.KnownHandlers.{AllTakeKnownHandlers}
 use Rattle.engine_world.specs.Counting.{OnlyCounts, Connects, Counts, KeepsCounts, PassesGot, in_emitted, in_subject, nothing}
 use Rattle.engine_world.specs.PeerPlaces.{AreGot}
 use Rattle.engine_world.proofs.Floats.{if_ok_at, bind_ok}
-use Rattle.engine_world.proofs.GotPeers.{alike_got}
+use Rattle.engine_world.proofs.GotPeers.{alike_got, lent_got}
 
 -- two changes of counts alone
 pub both_only : (t m n : Store) → OnlyCounts t m → OnlyCounts m n → OnlyCounts t n
@@ -258,6 +259,13 @@ keeps_same d e new table weak passes context builder stack handlers = keeps_by d
 pub keeps_said : (d : Definition) (e : Engine) (w : World) → w ≡ record e.world { transcript = w.transcript } → KeepsCounts d e (record e { world = w })
 keeps_said d e w is =
     keeps_same d e (record e { world = w }) (ap (λ (v : World). v.table) is) (ap (λ (v : World). v.weak) is) (subst (λ (v : World). AreGot d v.seats v.got_peers.items) (sym is)) (ap (λ (v : World). v.context) is) (ap (λ (v : World). v.builder) is) refl (ap (λ (v : World). v.handlers) is)
+
+-- a peer that became an object's
+pub keeps_lent : (d : Definition) (e : Engine) (peer : Option ℕ) (id : ℕ) (seats : List Peer) → seats ≡ lent peer id e.world.seats → IfSome peer (λ number. number < length e.world.seats)
+    → KeepsCounts d e (record e { world = record e.world { seats = seats } })
+keeps_lent d e peer id seats is within =
+    keeps_same d e (record e { world = record e.world { seats = seats } }) refl refl
+    (λ g. subst (λ (ps : List Peer). AreGot d ps e.world.got_peers.items) (sym is) (lent_got d e.world.seats peer id e.world.got_peers.items within g)) refl refl refl refl
 
 -- an object that changed and holds what it held
 pub keeps_changed : (d : Definition) (e : Engine) (t : Store) → t ≡ with_objects e.world.table t.objects

@@ -8,6 +8,7 @@ pub mod Left
 mod Marks
 pub mod Finalising
 pub mod Counts
+pub mod Quiets
 pub mod Notified
 mod Parts
 pub mod SourceCounts

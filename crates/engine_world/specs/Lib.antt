@@ -2,6 +2,8 @@ pub mod GivenView
 pub mod KinView
 pub mod WeakView
 pub mod SeatView
+pub mod Quiet
+pub mod NewObjects
 pub mod View
 pub mod MakingView
 pub mod LineView

@@ -6,6 +6,7 @@ ghost use Rattle.ui_machine.specs.Output.Lines as lines;
 ghost use Rattle.ui_machine.specs.Rules.Children.{with_family};
 ghost use Rattle.ui_machine.specs.State.Config.{said};
 ghost use Rattle.instance_tables.specs.Family.{refusal_in};
+ghost use Rattle.engine_world.specs.Quiet.{IsQuiet};
 ghost use Rattle.engine_world.specs.View.{world_of};
 ghost use Rattle.engine_world.specs.KinView.{joined};
 ghost use Rattle.engine_world.specs.Counting.{KeepsCounts};
@@ -45,7 +46,7 @@ pub fn say_limit(engine: &mut Engine, definition: &Definition, word: &str) -> Re
 fn adopt(engine: &mut Engine, definition: &Definition, kin: Kin) -> Result<(), AllocError>
     requires free { refusal_in engine.now.world.table kin.parent.0 kin.child.0 ≡ None }
     ensures ok { OnOk result (world_of engine.new.world ≡ with_family definition.now (world_of engine.old.world) kin.parent.0 kin.child.0) }
-    ensures err { OnErr result ((world_of engine.new.world).transcript ≡ (world_of engine.old.world).transcript) }
+    ensures err { OnErr result (IsQuiet (world_of engine.old.world) (world_of engine.new.world)) }
     ensures same { (engine.new.stack ≡ engine.old.stack) × (engine.new.counted ≡ engine.old.counted) }
     ensures handlers { engine.new.world.handlers ≡ engine.old.world.handlers }
     ensures counted { OnOk result (KeepsCounts definition.now engine.old engine.new) }
@@ -69,7 +70,7 @@ fn adopt(engine: &mut Engine, definition: &Definition, kin: Kin) -> Result<(), A
 /// `Halt::OutOfMemory` if memory is refused, and `Halt::Stuck` where the machine is stuck here.
 pub fn join(engine: &mut Engine, definition: &Definition, kin: Kin) -> Result<(), Halt>
     ensures joins { Goes result (joined definition.now (world_of engine.old.world) kin.parent.0 kin.child.0) (world_of engine.new.world) }
-    ensures quiet { OnErr result ((world_of engine.new.world).transcript ≡ (world_of engine.old.world).transcript) }
+    ensures quiet { OnErr result (IsQuiet (world_of engine.old.world) (world_of engine.new.world)) }
     ensures same { (engine.new.stack ≡ engine.old.stack) × (engine.new.counted ≡ engine.old.counted) }
     ensures handlers { engine.new.world.handlers ≡ engine.old.world.handlers }
     ensures counted { OnOk result (KeepsCounts definition.now engine.old engine.new) }
@@ -96,7 +97,7 @@ pub fn join_objects(
     child: ObjectId,
 ) -> Result<(), Halt>
     ensures joins { Goes result (joined definition.now (world_of engine.old.world) parent.0 child.0) (world_of engine.new.world) }
-    ensures quiet { OnErr result ((world_of engine.new.world).transcript ≡ (world_of engine.old.world).transcript) }
+    ensures quiet { OnErr result (IsQuiet (world_of engine.old.world) (world_of engine.new.world)) }
     ensures same { (engine.new.stack ≡ engine.old.stack) × (engine.new.counted ≡ engine.old.counted) }
     ensures handlers { engine.new.world.handlers ≡ engine.old.world.handlers }
     ensures counted { OnOk result (KeepsCounts definition.now engine.old engine.new) }

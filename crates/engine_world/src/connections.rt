@@ -7,6 +7,7 @@ ghost use Rattle.instance_tables.specs.Store.{id_of};
 ghost use Rattle.signal_core.specs.Connected.{connection_of, has_room};
 ghost use Rattle.engine_world.specs.ConnectView.{is_connected, is_full, left_by, told_by, Takes};
 ghost use Rattle.engine_world.specs.Counting.{Connects, KeepsCounts};
+ghost use Rattle.engine_world.specs.Quiet.{IsQuiet};
 ghost use Rattle.engine_world.specs.TaskView.{agenda_of, connects_from, signals_of, task_of};
 ghost use Rattle.engine_world.specs.View.{world_of};
 ghost use Rattle.ui_machine.specs.Definition.Lookups.{place_at};
@@ -109,7 +110,7 @@ pub fn connect_signal(
     requires connects { Connects definition.now engine.now }
     ensures world { OnOk result (world_of engine.new.world ≡ with_signal (world_of engine.old.world) (connection_of connection)) }
     ensures agenda { OnOk result (agenda_of definition.now engine.new ≡ agenda_of definition.now engine.old) }
-    ensures quiet { OnErr result ((world_of engine.new.world).transcript ≡ (world_of engine.old.world).transcript) }
+    ensures quiet { OnErr result (IsQuiet (world_of engine.old.world) (world_of engine.new.world)) }
     ensures same { engine.new.counted ≡ engine.old.counted }
     ensures counted { OnOk result (KeepsCounts definition.now engine.old engine.new) }
 {
@@ -138,7 +139,7 @@ pub fn connect_handler(
         ≡ told_by definition.now o (world_of engine.old.world) (connection_of connection)) }
     ensures world { IfOk result (λ o. world_of engine.new.world ≡ left_by o (world_of engine.old.world) (connection_of connection)) }
     ensures agenda { OnOk result (agenda_of definition.now engine.new ≡ agenda_of definition.now engine.old) }
-    ensures quiet { OnErr result ((world_of engine.new.world).transcript ≡ (world_of engine.old.world).transcript) }
+    ensures quiet { OnErr result (IsQuiet (world_of engine.old.world) (world_of engine.new.world)) }
     ensures same { engine.new.counted ≡ engine.old.counted }
     ensures counted { OnOk result (KeepsCounts definition.now engine.old engine.new) }
 {

@@ -9,6 +9,7 @@ ghost use Rattle.g_values.specs.View.{value_view};
 ghost use Rattle.engine_world.specs.LineView.{line_view};
 
 use g_values::Value;
+use itoa::Buffer;
 use std::alloc::{AllocError, Global};
 use type_tree::TypeTree;
 use ui_machine::ObjectId;
@@ -190,7 +191,10 @@ fn construct_line(alloc: Global, object: u64, class: &str) -> Result<String, All
     ensures { IfOk result (λ line. string_bytes line ≡ codes "construct #" ++ (decimal object ++ (codes " " ++ class.now))) }
 {
     let mut line = String::with_capacity(alloc, room(class))?;
-    write!(line, "construct #{object} {class}")?;
+    line.push_str("construct #")?;
+    push_unsigned(&mut line, object)?;
+    line.push_str(" ")?;
+    line.push_str(class)?;
     Ok(line)
 }
 
@@ -199,7 +203,10 @@ fn notify_line(alloc: Global, object: u64, property: &str) -> Result<String, All
     ensures { IfOk result (λ line. string_bytes line ≡ codes "notify #" ++ (decimal object ++ (codes "." ++ property.now))) }
 {
     let mut line = String::with_capacity(alloc, room(property))?;
-    write!(line, "notify #{object}.{property}")?;
+    line.push_str("notify #")?;
+    push_unsigned(&mut line, object)?;
+    line.push_str(".")?;
+    line.push_str(property)?;
     Ok(line)
 }
 
@@ -208,7 +215,8 @@ fn named_line(alloc: Global, word: &str, name: &str) -> Result<String, AllocErro
     ensures { IfOk result (λ line. string_bytes line ≡ word.now ++ name.now) }
 {
     let mut line = String::with_capacity(alloc, room(name))?;
-    write!(line, "{word}{name}")?;
+    line.push_str(word)?;
+    line.push_str(name)?;
     Ok(line)
 }
 
@@ -217,7 +225,10 @@ fn adopt_line(alloc: Global, parent: u64, child: u64) -> Result<String, AllocErr
     ensures { IfOk result (λ line. string_bytes line ≡ codes "adopt #" ++ (decimal parent ++ (codes " #" ++ decimal child))) }
 {
     let mut line = String::with_capacity(alloc, room(""))?;
-    write!(line, "adopt #{parent} #{child}")?;
+    line.push_str("adopt #")?;
+    push_unsigned(&mut line, parent)?;
+    line.push_str(" #")?;
+    push_unsigned(&mut line, child)?;
     Ok(line)
 }
 
@@ -226,7 +237,8 @@ fn object_line(alloc: Global, word: &str, object: u64) -> Result<String, AllocEr
     ensures { IfOk result (λ line. string_bytes line ≡ word.now ++ decimal object) }
 {
     let mut line = String::with_capacity(alloc, room(word))?;
-    write!(line, "{word}{object}")?;
+    line.push_str(word)?;
+    push_unsigned(&mut line, object)?;
     Ok(line)
 }
 
@@ -244,7 +256,10 @@ fn emit_line(
         ++ (detail_text (option_map (λ d. d.now) detail.entry) ++ (codes "(" ++ (text_of_values types.now (map value_view args.now) ++ codes ")"))))))) }
 {
     let mut line = String::with_capacity(alloc, room(signal))?;
-    write!(line, "emit #{object}.{signal}")?;
+    line.push_str("emit #")?;
+    push_unsigned(&mut line, object)?;
+    line.push_str(".")?;
+    line.push_str(signal)?;
     push_detail(&mut line, detail)?;
     line.push_str("(")?;
     push_values(alloc, &mut line, types, args)?;
@@ -264,7 +279,11 @@ fn call_line(
     ensures { IfOk result (λ line. string_bytes line ≡ word.now ++ call_text types.now peer.now method.now (map value_view args.now)) }
 {
     let mut line = String::with_capacity(alloc, room(peer))?;
-    write!(line, "{word}{peer}.{method}(")?;
+    line.push_str(word)?;
+    line.push_str(peer)?;
+    line.push_str(".")?;
+    line.push_str(method)?;
+    line.push_str("(")?;
     push_values(alloc, &mut line, types, args)?;
     line.push_str(")")?;
     Ok(line)
@@ -295,7 +314,8 @@ fn push_detail(line: &mut String, detail: Option<&str>) -> Result<(), AllocError
     let Some(detail) = detail else {
         return Ok(());
     };
-    write!(line, "::{detail}")
+    line.push_str("::")?;
+    line.push_str(detail)
 }
 
 // Values, joined by commas.
@@ -333,7 +353,8 @@ fn end_line(alloc: Global, steps: u64) -> Result<String, AllocError>
     ensures { IfOk result (λ line. string_bytes line ≡ codes "end " ++ decimal steps) }
 {
     let mut line = String::with_capacity(alloc, room(""))?;
-    write!(line, "end {steps}")?;
+    line.push_str("end ")?;
+    push_unsigned(&mut line, steps)?;
     Ok(line)
 }
 
@@ -350,7 +371,11 @@ fn value_line(
         ≡ word.now ++ (decimal object ++ (codes "." ++ (property.now ++ (codes " " ++ text_of_value types.now (value_view value.now)))))) }
 {
     let mut line = String::with_capacity(alloc, room(property))?;
-    write!(line, "{word}{object}.{property} ")?;
+    line.push_str(word)?;
+    push_unsigned(&mut line, object)?;
+    line.push_str(".")?;
+    line.push_str(property)?;
+    line.push_str(" ")?;
     push_value(alloc, &mut line, types, value)?;
     Ok(line)
 }
@@ -384,20 +409,22 @@ fn push_value(
 fn push_unsigned(line: &mut String, number: u64) -> Result<(), AllocError>
     ensures { OnOk result (string_bytes line.new ≡ string_bytes line.old ++ decimal number) }
 {
-    write!(line, "{number}")
+    let mut digits = Buffer::new();
+    line.push_str(digits.format(number))
 }
 
 fn push_signed(line: &mut String, number: i64) -> Result<(), AllocError>
     ensures { OnOk result (string_bytes line.new ≡ string_bytes line.old ++ signed_decimal number) }
 {
-    write!(line, "{number}")
+    let mut digits = Buffer::new();
+    line.push_str(digits.format(number))
 }
 
 fn push_identity(line: &mut String, object: ObjectId) -> Result<(), AllocError>
     ensures { OnOk result (string_bytes line.new ≡ string_bytes line.old ++ text_of_identity object.0) }
 {
-    let number = object.0;
-    write!(line, "#{number}")
+    line.push_str("#")?;
+    push_unsigned(line, object.0)
 }
 
 // A text as a compact JSON string.

@@ -1,6 +1,6 @@
 //! Objects that are made: with their defaults, and with what their construction has still to do.
 
-ghost use Rattle.std.specs.Prelude.{◌≡◌, ◌<◌, suc, length, ℕ, cond, [], ◌∷◌, ◌++◌, map, OnOk, OnErr, IfOk, IfErr, IfSome, Bool, string_bytes};
+ghost use Rattle.std.specs.Prelude.{◌≡◌, ◌<◌, suc, length, ℕ, cond, [], ◌∷◌, ◌++◌, map, OnOk, OnErr, IfOk, IfErr, IfSome, Bool};
 ghost use Rattle.ui_machine.specs.Outcome.{Stops};
 ghost use Rattle.ui_machine.specs.Definition.Properties as machine;
 ghost use Rattle.ui_machine.specs.Definition.Lookups.{specs_of};
@@ -12,7 +12,9 @@ ghost use Rattle.ui_machine.specs.Rules.Construction.{lent, with_object, making}
 ghost use Rattle.ui_machine.specs.State.Config.{starts};
 ghost use Rattle.ui_machine.specs.State.Tasks.{Constructing};
 ghost use Rattle.g_values.specs.View.{value_view};
-ghost use Rattle.engine_world.specs.View.{with_line, world_of};
+ghost use Rattle.engine_world.specs.NewObjects.{before_lent, begun};
+ghost use Rattle.engine_world.specs.Quiet.{IsQuiet};
+ghost use Rattle.engine_world.specs.View.{world_of};
 ghost use Rattle.engine_world.specs.TaskView.{agenda_of};
 ghost use Rattle.engine_world.specs.Counting.{KeepsCounts};
 
@@ -34,15 +36,16 @@ use ui_machine::{Arm, Halt, ObjectId, Place, Slot};
 // The type under which objects begin floating.
 const INITIALLY_UNOWNED: u16 = 1;
 
-/// An object that was made: what its construction has still to do, and the line that it begins with.
+/// An object that was made: what its construction has still to do, and what it begins with: the object gets its peer, and its line is said.
 #[derive(Drop)]
 pub struct NewObject {
     pub object: ObjectId,
     pub steps: ConstructSteps,
+    pub peer: Option<usize>,
     pub line: String,
 }
 
-// One more object with these values, under the next identity, which floats if its class says so, and gets this peer.
+// One more object with these values, under the next identity, which floats if its class says so, and is to get this peer.
 fn create_object(
     engine: &mut Engine,
     definition: &Definition,
@@ -51,10 +54,10 @@ fn create_object(
     values: Vec<Value>,
     peer: Option<usize>,
 ) -> Result<ObjectId, AllocError>
-    requires peer { IfSome peer (λ number. number < length engine.now.world.seats) }
-    ensures world { OnOk result (world_of engine.new.world ≡ with_object definition.now (world_of engine.old.world) (made_object class place.0 (map value_view values.items) peer)) }
+    ensures world { OnOk result (world_of engine.new.world ≡ before_lent (world_of engine.old.world) (with_object definition.now (world_of engine.old.world) (made_object class place.0 (map value_view values.items) peer))) }
     ensures identity { IfOk result (λ id. id.0 ≡ suc (length (world_of engine.old.world).objects)) }
-    ensures quiet { (world_of engine.new.world).transcript ≡ (world_of engine.old.world).transcript }
+    ensures quiet { IsQuiet (world_of engine.old.world) (world_of engine.new.world) }
+    ensures seats { engine.new.world.seats ≡ engine.old.world.seats }
     ensures counted { ((o : ℕ) → in_values o (specs_of definition.now class) (map value_view values.items) ≡ 0) → OnOk result (KeepsCounts definition.now engine.old engine.new) }
     ensures same { (engine.new.stack ≡ engine.old.stack) × (engine.new.counted ≡ engine.old.counted) }
     ensures handlers { engine.new.world.handlers ≡ engine.old.world.handlers }
@@ -68,11 +71,10 @@ fn create_object(
         return Err(AllocError);
     };
     float(&mut engine.world.table, id, floats)?;
-    lend(&mut engine.world.seats, peer, id);
     Ok(id)
 }
 
-/// The object of a place is made, and gets this peer. Its line and its construction are still to come.
+/// The object of a place is made. It gets this peer, and its line is said, as its construction begins.
 ///
 /// # Errors
 ///
@@ -84,12 +86,13 @@ pub fn make(
     place: Place,
     peer: Option<usize>,
 ) -> Result<NewObject, Halt>
-    requires peer { IfSome peer (λ number. number < length engine.now.world.seats) }
     ensures made { IfOk result (λ new. (held : Bool) → making definition.now (world_of engine.old.world) place.0 peer held
-        ≡ starts (with_line (string_bytes new.line) (world_of engine.new.world)) (Constructing new.object.0 new.steps held ∷ [])) }
+        ≡ starts (begun new (world_of engine.new.world)) (Constructing new.object.0 new.steps held ∷ [])) }
+    ensures peer { IfOk result (λ new. new.peer ≡ peer) }
     ensures identity { IfOk result (λ new. new.object.0 ≡ suc (length (world_of engine.old.world).objects)) }
     ensures stops { IfErr result (λ halt. (held : Bool) → Stops halt (making definition.now (world_of engine.old.world) place.0 peer held)) }
-    ensures quiet { (world_of engine.new.world).transcript ≡ (world_of engine.old.world).transcript }
+    ensures quiet { IsQuiet (world_of engine.old.world) (world_of engine.new.world) }
+    ensures seats { engine.new.world.seats ≡ engine.old.world.seats }
     ensures counted { OnOk result (KeepsCounts definition.now engine.old engine.new) }
     ensures same { (engine.new.stack ≡ engine.old.stack) × (engine.new.counted ≡ engine.old.counted) }
     ensures handlers { engine.new.world.handlers ≡ engine.old.world.handlers }
@@ -124,26 +127,29 @@ pub fn make(
     Ok(NewObject {
         object,
         steps,
+        peer,
         line,
     })
 }
 
-/// The construction of a new object begins: its line is said, and what is to be done goes before the other tasks. At its end the builder
-/// holds the object, if it is to be held.
+/// The construction of a new object begins: it gets its peer, its line is said, and what is to be done goes before the other tasks. At its end
+/// the builder holds the object, if it is to be held.
 ///
 /// # Errors
 ///
 /// `AllocError` if memory is refused.
 pub fn begin_construction(engine: &mut Engine, new: NewObject, held: bool) -> Result<(), AllocError>
+    requires peer { IfSome new.peer (λ number. number < length engine.now.world.seats) }
     ensures agenda { OnOk result ((d : definition.Definition) → agenda_of d engine.new ≡ Constructing new.object.0 new.steps held ∷ agenda_of d engine.old) }
-    ensures world { OnOk result (world_of engine.new.world ≡ with_line (string_bytes new.line) (world_of engine.old.world)) }
-    ensures quiet { OnErr result ((world_of engine.new.world).transcript ≡ (world_of engine.old.world).transcript) }
+    ensures world { OnOk result (world_of engine.new.world ≡ begun new (world_of engine.old.world)) }
+    ensures quiet { OnErr result (IsQuiet (world_of engine.old.world) (world_of engine.new.world)) }
     ensures same { engine.new.counted ≡ engine.old.counted }
     ensures counted { OnOk result ((d : definition.Definition) → KeepsCounts d engine.old engine.new) }
 {
     let NewObject {
         object,
         steps,
+        peer,
         line,
     } = new;
     push_task(
@@ -155,6 +161,7 @@ pub fn begin_construction(engine: &mut Engine, new: NewObject, held: bool) -> Re
         },
     )?;
     engine.world.say(line)?;
+    lend(&mut engine.world.seats, peer, object);
     Ok(())
 }
 

@@ -9,6 +9,7 @@ ghost use Rattle.ui_machine.specs.State.Sources.{has_room, without_program};
 ghost use Rattle.instance_tables.specs.Store.{count_of, id_of};
 ghost use Rattle.main_context.specs.Dues.{identity_of};
 ghost use Rattle.engine_world.specs.Counting.{KeepsCounts, OnlyCounts};
+ghost use Rattle.engine_world.specs.Quiet.{IsQuiet};
 ghost use Rattle.engine_world.specs.SourceView.{HoldsSources, with_new_source};
 ghost use Rattle.engine_world.specs.View.{world_of};
 
@@ -55,7 +56,7 @@ impl NewSource {
 pub fn attach_source(engine: &mut Engine, source: NewSource) -> Result<bool, AllocError>
     ensures room { IfOk result (λ b. b ≡ has_room (world_of engine.old.world).sources (world_of engine.old.world).last_source) }
     ensures world { IfOk result (λ b. world_of engine.new.world ≡ cond b (with_new_source (world_of engine.old.world) source) (world_of engine.old.world)) }
-    ensures quiet { (world_of engine.new.world).transcript ≡ (world_of engine.old.world).transcript }
+    ensures quiet { IsQuiet (world_of engine.old.world) (world_of engine.new.world) }
     ensures same { (engine.new.stack ≡ engine.old.stack) × (engine.new.counted ≡ engine.old.counted) }
     ensures handlers { engine.new.world.handlers ≡ engine.old.world.handlers }
     ensures counted { OnOk result ((d : machine.Definition) → KeepsCounts d engine.old engine.new) }

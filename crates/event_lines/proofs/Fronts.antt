@@ -1,4 +1,4 @@
--- An event for which no memory is found halts in the same way behind lines that were said before, and leaves the same pool.
+-- An event for which no memory is found halts in the same way behind lines that were said before, and leaves the same peers.
 use Rattle.std.proofs.Common.{◌≡◌, ℕ, List, [], ◌∷◌, ◌++◌, Option, None, Some, ap, subst, sym, ◌∙◌, append_assoc}
 use Rattle.ui_machine.specs.Definition.{Definition}
 use Rattle.ui_machine.specs.declared.arm.Halt.TheVariants as halts
@@ -7,14 +7,14 @@ use Rattle.ui_machine.specs.Output.Text.{text_of_line}
 use Rattle.ui_machine.specs.Rules.MainLoop.{turned}
 use Rattle.ui_machine.specs.Runs.{HaltsIn, Rests, RunsSource, RunsSources, Tally, at_a_source, at_its_beginning, beginning}
 use Rattle.ui_machine.specs.State.Config.{Config, World, untold}
-use Rattle.ui_machine.specs.State.Peers.{Reply}
+use Rattle.ui_machine.specs.State.Peers.{Peer, Reply}
 use Rattle.ui_machine.specs.State.Sources.{Source, source_of}
 use Rattle.ui_machine.specs.State.Tasks.{Due, Event}
 use Rattle.ui_machine.specs.State.Tasks as config
 use Rattle.machine_laws.specs.FrontLaws.{fronted, fronted_at}
 use Rattle.machine_laws.proofs.FrontProofs.{question_stays}
 use Rattle.machine_laws.proofs.FrontRuns.{dispatch_appends, steps_append}
-use Rattle.native_peers.specs.Seen.{Relations, Seen}
+use Rattle.native_peers.specs.Seen.{Relations}
 use Rattle.engine_pools.specs.PoolView.{IsLeft, as_shown, one_more}
 use Rattle.engine_pools.specs.Ways.{CutOff, EventLeaves}
 
@@ -56,26 +56,26 @@ module _ (front : List (List ℕ)) (d : Definition) where
   -- ** what halts
 
   module _ (may : Relations) where
-    left_behind : {at : Config} {pool : List Seen} → IsLeft d may at pool → IsLeft d may (fronted_at front at) pool
+    left_behind : {at : Config} {left : List Peer} → IsLeft d may at left → IsLeft d may (fronted_at front at) left
     left_behind (as_shown seen) = as_shown seen
     left_behind {at} (one_more o) = one_more (record { reply = o.reply; given = o.given; asks = question_stays front d at ∙ o.asks; peers = o.peers })
 
-    cut_behind : (event : Event) (replies : List Reply) (w : World) (pool : List Seen) (shown : List (List ℕ)) (h : HaltsIn d event replies w halts.OutOfMemory shown)
-        → EventLeaves d may event replies w shown h pool → CutOff d may event replies (fronted front w) pool (front ++ shown)
-    cut_behind (config.request r) replies w pool shown h left = record {
+    cut_behind : (event : Event) (replies : List Reply) (w : World) (left : List Peer) (shown : List (List ℕ)) (h : HaltsIn d event replies w halts.OutOfMemory shown)
+        → EventLeaves d may event replies w shown h left → CutOff d may event replies (fronted front w) left (front ++ shown)
+    cut_behind (config.request r) replies w peers shown h leaves = record {
       halts = record {
         at = fronted_at front h.at;
         reached = (steps_append d 0 replies).1 front _ h.at h.reached;
         stops = tt;
         lines = ap (λ ls. front ++ ls) h.lines;
       };
-      left = left_behind left;
+      leaves = left_behind leaves;
     }
-    cut_behind (config.turn moment) replies w pool shown (at_its_beginning stops) left = record {
+    cut_behind (config.turn moment) replies w peers shown (at_its_beginning stops) leaves = record {
       halts = at_its_beginning (record { memory = stops.memory; asked = stops.asked; lines = ap (λ ls. front ++ ls) stops.lines });
-      left = left;
+      leaves = leaves;
     }
-    cut_behind (config.turn moment) replies w pool shown (at_a_source h) left = record {
+    cut_behind (config.turn moment) replies w peers shown (at_a_source h) leaves = record {
       halts = at_a_source (record {
         done = h.done;
         number = h.number;
@@ -95,8 +95,8 @@ module _ (front : List (List ℕ)) (d : Definition) where
           lines = ap (λ ls. front ++ ls) h.halts.lines;
         };
       });
-      left = left_behind left;
+      leaves = left_behind leaves;
     }
 
-    pub cut_appends : {event : Event} {replies : List Reply} {w : World} {pool : List Seen} {shown : List (List ℕ)} → CutOff d may event replies w pool shown → CutOff d may event replies (fronted front w) pool (front ++ shown)
-    cut_appends {event} {replies} {w} {pool} {shown} cut = cut_behind event replies w pool shown cut.halts cut.left
+    pub cut_appends : {event : Event} {replies : List Reply} {w : World} {left : List Peer} {shown : List (List ℕ)} → CutOff d may event replies w left shown → CutOff d may event replies (fronted front w) left (front ++ shown)
+    cut_appends {event} {replies} {w} {left} {shown} cut = cut_behind event replies w left shown cut.halts cut.leaves

@@ -109,7 +109,7 @@ module _ {I : Type 0} {Held : I → Type 0} (state_of : NamedPeer I Held → Pee
         opens = (
           subst (λ (e : Definition). IsTaken bytes e peers) (sym comes.definition) taken,
           record {
-            breaks_off = subst (λ (e : Definition). Replied may (λ replies. Halting e may replies (of_build e peers) (map seen_of s.world.peers) s.world.transcript)) (sym comes.definition) comes.breaks_off;
+            breaks_off = subst (λ (e : Definition). Replied may (λ replies. Halting e may replies (of_build e peers) s.world.peers s.world.transcript)) (sym comes.definition) comes.breaks_off;
             stops = comes.stops;
           },
         );

@@ -1,5 +1,5 @@
 -- What the lines of an event file come to is a run of the machine.
-use Rattle.std.proofs.Common.{◌≡◌, ℕ, ◌+◌, true, List, [], ◌∷◌, ◌++◌, Result, Ok, Err, map, refl, sym, ap, subst, ◌∙◌, append_assoc, append-nil, inl, inr}
+use Rattle.std.proofs.Common.{◌≡◌, ℕ, ◌+◌, true, List, [], ◌∷◌, ◌++◌, Result, Ok, Err, refl, sym, ap, subst, ◌∙◌, append_assoc, append-nil, inl, inr}
 use Rattle.std.specs.Prelude.{◌⊎◌}
 use Rattle.ui_machine.specs.Definition.{Definition}
 use Rattle.ui_machine.specs.State.Tasks.{Event}
@@ -16,7 +16,7 @@ use Rattle.law_sessions.specs.Sessions.{EventRead}
 use Rattle.law_sessions.proofs.SessionProofs.{never_stuck}
 use Rattle.law_reading.proofs.Whole.{events_read, well_read}
 use Rattle.native_peers.specs.Seen.{Relations}
-use Rattle.engine_pools.specs.PoolView.{GivenBy, Replied, seen_of}
+use Rattle.engine_pools.specs.PoolView.{GivenBy, Replied}
 use Rattle.engine_pools.specs.Ways.{CutOff}
 use Rattle.ui_engine.specs.SessionView.{SessionState, without_lines}
 use Rattle.event_lines.specs.EventFileRun as file_run
@@ -93,7 +93,7 @@ module _ (d : Definition) (may : Relations) where
   }
   replied old mid n line (cut_off r) is event never = absurd never
   replied old mid n line (stopped lines) is event (inl h) = record {
-    came = halting refl (record { event = h.event; breaks_off = subst (λ (e : Definition). Replied may (λ replies. CutOff e may h.event replies old.world (map seen_of mid.world.peers) mid.world.transcript)) is h.breaks_off }) refl;
+    came = halting refl (record { event = h.event; breaks_off = subst (λ (e : Definition). Replied may (λ replies. CutOff e may h.event replies old.world mid.world.peers mid.world.transcript)) is h.breaks_off }) refl;
     says = h.shows;
     definition = h.definition ∙ is;
   }

@@ -1,11 +1,11 @@
 -- What an event line may come to in a session.
-use Rattle.std.specs.Prelude.{◌≡◌, ◌⊎◌, ℕ, true, false, List, [], ◌++◌, map, Some, Ok, Err}
+use Rattle.std.specs.Prelude.{◌≡◌, ◌⊎◌, ℕ, true, false, List, [], ◌++◌, Some, Ok, Err}
 use Rattle.ui_machine.specs.State.Tasks.{Event}
 use Rattle.ui_machine.specs.Rules.Events.{Refusal, refusal}
 use Rattle.ui_machine.specs.Runs.{Tally, Serves}
 use Rattle.builder_defs.specs.EventMeaning.{EventRefusal, event_denoted}
 use Rattle.native_peers.specs.Seen.{Relations}
-use Rattle.engine_pools.specs.PoolView.{Replied, seen_of}
+use Rattle.engine_pools.specs.PoolView.{Replied}
 use Rattle.engine_pools.specs.Ways.{CutOff}
 use Rattle.ui_engine.specs.SessionView.{SessionState}
 use Rattle.event_lines.specs.Texts.{line_refusal, refusal_of_event}
@@ -23,11 +23,11 @@ pub record Says (may : Relations) (old : SessionState) (line : List ℕ) (lines 
   pub goes_on : new.stopped ≡ false
 
 -- The line is an event, whose dispatch says these lines, and then no memory is found, and the session stops with it. The peers are as their
--- replies left them, of which the last may have no line.
+-- replies left them, of which the last may have no line, and each is whose it was in the machine.
 pub record BrokenOff (may : Relations) (old : SessionState) (line : List ℕ) (lines : List (List ℕ)) (new : SessionState) : Type 0 where
   pub event : Event
   pub denotes : event_denoted old.definition line ≡ Ok event
-  pub breaks_off : Replied may (λ replies. CutOff old.definition may event replies old.world (map seen_of new.world.peers) new.world.transcript)
+  pub breaks_off : Replied may (λ replies. CutOff old.definition may event replies old.world new.world.peers new.world.transcript)
   pub shows : new.world.transcript ≡ old.world.transcript ++ lines
   pub definition : new.definition ≡ old.definition
   pub stops : new.stopped ≡ true

@@ -51,9 +51,9 @@ pub record IsBuilt (may : Relations) (peers : List Peer) (s : SessionState) : Ty
   pub goes_on : s.stopped ≡ false
 
 -- A session has stopped in the definition's build, where no memory was found. The peers are as their replies left them, of which the last may
--- have no line.
+-- have no line, and each is whose it was in the machine.
 pub record IsBrokenOff (may : Relations) (peers : List Peer) (s : SessionState) : Type 0 where
-  pub breaks_off : Replied may (λ replies. Halting s.definition may replies (of_build s.definition peers) (map seen_of s.world.peers) s.world.transcript)
+  pub breaks_off : Replied may (λ replies. Halting s.definition may replies (of_build s.definition peers) s.world.peers s.world.transcript)
   pub stops : s.stopped ≡ true
 
 -- the bytes denote the definition, and it is accepted; the pool has just the peers that it needs

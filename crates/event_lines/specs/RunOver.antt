@@ -1,5 +1,5 @@
 -- The run of the machine that the lines of an event file come to.
-use Rattle.std.specs.Prelude.{◌≡◌, ◌⊎◌, ℕ, ◌+◌, List, [], ◌∷◌, ◌++◌, map, Result, Ok, Err}
+use Rattle.std.specs.Prelude.{◌≡◌, ◌⊎◌, ℕ, ◌+◌, List, [], ◌∷◌, ◌++◌, Result, Ok, Err}
 use Rattle.ui_machine.specs.Definition.{Definition}
 use Rattle.ui_machine.specs.State.Tasks.{Event}
 use Rattle.ui_machine.specs.State.Config.{World}
@@ -11,7 +11,7 @@ use Rattle.law_sessions.specs.Dispatches.{Keeps}
 use Rattle.law_sessions.specs.Sessions.{Dispatch, beginning_of, entry_to}
 use Rattle.builder_defs.specs.EventMeaning.{EventRefusal, event_denoted}
 use Rattle.native_peers.specs.Seen.{Relations}
-use Rattle.engine_pools.specs.PoolView.{GivenBy, Replied, seen_of}
+use Rattle.engine_pools.specs.PoolView.{GivenBy, Replied}
 use Rattle.engine_pools.specs.Ways.{CutOff}
 use Rattle.ui_engine.specs.SessionView.{SessionState}
 use Rattle.event_lines.specs.EventFileRun as file_run
@@ -50,10 +50,11 @@ abbrev pub said_in : List Outcome → List (List ℕ)
 said_in [] = []
 said_in (outcome ∷ outcomes) = said_of outcome ++ said_in outcomes
 
--- in one more event no memory is found, and the peers are as their replies left them, of which the last may have no line
+-- in one more event no memory is found, and the peers are as their replies left them, of which the last may have no line, each whose it was in
+-- the machine
 pub record BreaksOffNext (d : Definition) (may : Relations) (w new : World) : Type 0 where
   pub event : Event
-  pub breaks_off : Replied may (λ replies. CutOff d may event replies w (map seen_of new.peers) new.transcript)
+  pub breaks_off : Replied may (λ replies. CutOff d may event replies w new.peers new.transcript)
 
 -- The build of a session with these peers and the events that were served are a run of the machine, in which each peer replies as it may;
 -- where the session stopped in an event, that one broke off after it. The definition is accepted, and no dispatch of the run is ever stuck:

@@ -44,7 +44,7 @@ pub fn check<W: Writer>(alloc: Global, definition: &[u8], writer: &mut W) -> u8
 }
 
 /// Reads a definition and verifies it.
-pub(crate) fn judge(alloc: Global, bytes: &[u8]) -> Judgement
+pub fn judge(alloc: Global, bytes: &[u8]) -> Judgement
     ensures { IsJudged bytes.now result }
 {
     match read_definition(alloc, bytes) {

@@ -22,10 +22,13 @@ mod refusal;
 mod whole_runs;
 mod writing;
 
-pub use definition_checks::check;
+pub use definition_checks::{Judgement, check, judge};
 pub use definition_file::{FileFault, definition_bytes};
 pub use devices::{Counted, Reader, Writer};
 pub use ending::Ending;
+pub use line_handler::LineFault;
+pub use opening::{Opening, open};
+pub use refusal::LineRefusal;
 pub use whole_runs::run;
 
 /// The most bytes of an event line, without its LF.

@@ -1,5 +1,5 @@
 -- What an event and a run leave of each peer where no memory was found.
-use Rattle.std.proofs.Common.{◌≡◌, refl, ap, sym, subst, ◌∙◌, ℕ, Bool, false, cond, List, [], ◌∷◌, ◌++◌, Option, None, Some, append_assoc}
+use Rattle.std.proofs.Common.{◌≡◌, refl, ap, sym, subst, ◌∙◌, ℕ, Bool, false, cond, List, [], ◌∷◌, ◌++◌, map, Option, None, Some, append_assoc}
 use Rattle.std.proofs.lemmas.List.{append-nil}
 use Rattle.std.proofs.lemmas.List.Elements.{filter-append}
 use Rattle.ui_machine.specs.declared.arm.Halt.TheVariants as halts
@@ -14,17 +14,18 @@ use Rattle.ui_machine.specs.State.Peers.{Peer, PeerState, Reply}
 use Rattle.ui_machine.specs.State.Sources.{Source}
 use Rattle.ui_machine.specs.State.Tasks.{Due, Event}
 use Rattle.ui_machine.specs.State.Tasks as config
-use Rattle.law_peers.specs.PeerLaws.{IsNamedApart, Lives, PeersLive, nothing}
+use Rattle.law_peers.specs.PeerLaws.{IsNamedApart, Lives, PeersLive, nothing, peer_in}
 use Rattle.law_peers.specs.PeerLines.{is_peer_line, peer_lines}
 use Rattle.law_peers.proofs.LifeProofs.{joined, then_live}
 use Rattle.law_peers.proofs.PartLives.{quiet_line}
 use Rattle.law_peers.proofs.RunLives.{dispatch_lives, reaches_lives, run_lives}
 use Rattle.native_peers.specs.Moves.{closed}
 use Rattle.native_peers.specs.Seen.{Relations, Seen}
+use Rattle.engine_pools.specs.PoolView.{seen_of}
 use Rattle.engine_pools.specs.Ways.{EventLeaves}
 use Rattle.engine_pools.proofs.Living.{seen_at}
-use Rattle.ui_engine.specs.Endings.{is_taken, taken_closed}
-use Rattle.law_left_peers.specs.LeftPeers.{BreaksOff, BuildBreaksOff, CutLeaves, RunBreaksOff, state_in}
+use Rattle.ui_engine.specs.Endings.{is_taken}
+use Rattle.law_left_peers.specs.LeftPeers.{BreaksOff, BuildBreaksOff, CutLeaves, RunBreaksOff, ended, state_in}
 use Rattle.law_left_peers.proofs.LeftProofs.{breaks, closed_at, front_off, so_far}
 
 -- ** parts of an event
@@ -78,16 +79,16 @@ module _ (may : Relations) (d : Definition) (peers : List Peer) (k : ℕ) (apart
       (sym (append_assoc base b.lines x.lines) ∙ (ap (λ t. t ++ x.lines) (sym b.shows) ∙ (sym x.shown ∙ (ap peer_lines all ∙ is)))))
       (joined b.lives x.lives)
 
-  event_breaks : (event : Event) (replies : List Reply) (pool : List Seen) (h : HaltsIn d event replies w halts.OutOfMemory shown) → EventLeaves d may event replies w shown h pool
-      → (got : Bool) (state : PeerState) → state ≡ cond got (closed (state_in pool k)) (state_in pool k) → BreaksOff d peers k rest got state
-  event_breaks (config.request r) replies pool h left got state so =
-      breaks may d peers k apart rest (before ++ replies) h.at (lived replies h.at.world h.lines (reached d (of_request w r) w refl refl replies shown h)) pool left got state so
-  event_breaks (config.turn moment) replies pool (at_its_beginning stops) left got state so =
+  event_breaks : (event : Event) (replies : List Reply) (left : List Peer) (h : HaltsIn d event replies w halts.OutOfMemory shown) → EventLeaves d may event replies w shown h left
+      → (got : Bool) (state : PeerState) → state ≡ cond got (closed (peer_in left k).state) (peer_in left k).state → BreaksOff d peers k rest got state
+  event_breaks (config.request r) replies left h leaves got state so =
+      breaks may d peers k apart rest (before ++ replies) h.at (lived replies h.at.world h.lines (reached d (of_request w r) w refl refl replies shown h)) left leaves got state so
+  event_breaks (config.turn moment) replies left (at_its_beginning stops) leaves got state so =
       so_far d peers k apart rest (before ++ replies) w.peers
       (lived replies w stops.lines (subst (λ rs. PeersLive d rs w w) (sym stops.asked) (rested d w w refl refl)))
-      got state (so ∙ ap (λ (s : PeerState). cond got (closed s) s) (ap (λ (l : List Seen). state_in l k) (sym left) ∙ ap (λ (s : Seen). s.state) (seen_at w.peers k)))
-  event_breaks (config.turn moment) replies pool (at_a_source h) left got state so =
-      breaks may d peers k apart rest (before ++ replies) h.halts.at (lived replies h.halts.at.world h.halts.lines live) pool left got state so
+      got state (so ∙ ap (λ (s : PeerState). cond got (closed s) s) (ap (λ (l : List Peer). (peer_in l k).state) (sym leaves)))
+  event_breaks (config.turn moment) replies left (at_a_source h) leaves got state so =
+      breaks may d peers k apart rest (before ++ replies) h.halts.at (lived replies h.halts.at.world h.halts.lines live) left leaves got state so
     where
       turn : World
       turn = turned d w moment
@@ -99,20 +100,25 @@ module _ (may : Relations) (d : Definition) (peers : List Peer) (k : ℕ) (apart
           (then_live d [] h.first w turn h.mid (rested d w turn refl (quiet_line w.transcript (text_of_line d.types (lines.turn moment)) refl)) (sources d h.done h.first turn h.tally h.mid h.runs))
           (reached d (beginning h.mid (Due h.number)) h.mid refl refl h.later shown h.halts))
 
+-- a peer as the session is finished
+ends_so : (left : List Peer) (k : ℕ) → state_in (ended left) k ≡ cond (is_taken left k) (closed (peer_in left k).state) (peer_in left k).state
+ends_so left k =
+    closed_at left (map seen_of left) k ∙ ap (λ (s : PeerState). cond (is_taken left k) (closed s) s) (ap (λ (s : Seen). s.state) (seen_at left k))
+
 pub cut_leaves : (may : Relations) → CutLeaves may
-cut_leaves may d event replies w pool added cut k apart =
+cut_leaves may d event replies w left added cut k apart =
     event_breaks may d w.peers k apart [] (peer_lines w.transcript) added (w.transcript ++ added) (filter-append is_peer_line w.transcript added) w
-    (record { lines = []; shows = sym (append-nil (peer_lines w.transcript)); lives = nothing }) event replies pool cut.halts cut.left false (state_in pool k) refl
+    (record { lines = []; shows = sym (append-nil (peer_lines w.transcript)); lives = nothing }) event replies left cut.halts cut.leaves false (peer_in left k).state refl
 
 pub run_breaks_off : (may : Relations) → RunBreaksOff may
-run_breaks_off may d peers events replies more tally last event pool holders shown run cut k apart =
+run_breaks_off may d peers events replies more tally last event left shown run cut k apart =
     event_breaks may d peers k apart replies [] shown shown refl last
-    (record { lines = peer_lines last.transcript; shows = refl; lives = run_lives d peers events replies tally last run }) event more pool cut.halts cut.left
-    (is_taken holders k) (state_in (taken_closed holders pool) k) (closed_at holders pool k)
+    (record { lines = peer_lines last.transcript; shows = refl; lives = run_lives d peers events replies tally last run }) event more left cut.halts cut.leaves
+    (is_taken left k) (state_in (ended left) k) (ends_so left k)
 
 pub build_breaks_off : (may : Relations) → BuildBreaksOff may
-build_breaks_off may d peers replies pool holders shown h k apart =
-    breaks may d peers k apart shown replies h.halts.at lives pool h.left (is_taken holders k) (state_in (taken_closed holders pool) k) (closed_at holders pool k)
+build_breaks_off may d peers replies left shown h k apart =
+    breaks may d peers k apart shown replies h.halts.at lives left h.leaves (is_taken left k) (state_in (ended left) k) (ends_so left k)
   where
     x : PeersLive d replies (first_world d peers) h.halts.at.world
     x = reached d (of_build d peers) (first_world d peers) refl refl replies shown h.halts

@@ -24,9 +24,8 @@ use Rattle.machine_rows.specs.Runs.LastReference.{definition, events}
 use Rattle.law_peers.proofs.RunLives.{event_lives, run_lives}
 use Rattle.native_peers.specs.Moves.{closed}
 use Rattle.native_peers.specs.Seen.{Relations, Seen}
-use Rattle.engine_pools.specs.PoolView.{OneMore, as_shown, one_more, seen_of}
+use Rattle.engine_pools.specs.PoolView.{as_shown, one_more, seen_of}
 use Rattle.engine_pools.specs.PoolView as pools
-use Rattle.engine_pools.proofs.Living.{seen_at}
 use Rattle.ui_engine.specs.Endings.{closed_if, is_taken, taken_closed}
 use Rattle.law_left_peers.specs.LeftPeers.{BreaksOff, Comes, EventLeaves, IsLeft, OnceAtMost, RunLeaves, WorkedLeft, as_it_was, at_the_end, by_a_line, finished, state_in}
 
@@ -272,20 +271,20 @@ module _ (d : Definition) (peers : List Peer) (k : ℕ) (apart : IsNamedApart pe
       by true = at_the_end refl
       by false = as_it_was refl
 
--- the pool that is left where no memory was found at a configuration
+-- the peers that are left where no memory was found at a configuration
 pub breaks : (may : Relations) (d : Definition) (peers : List Peer) (k : ℕ) → IsNamedApart peers k → (shown : List (List ℕ)) (replies : List Reply) (at : Config)
-    → Lives d peers replies (peer_lines shown) at.world.peers → (pool : List Seen) → pools.IsLeft d may at pool
-    → (got : Bool) (state : PeerState) → state ≡ cond got (closed (state_in pool k)) (state_in pool k) → BreaksOff d peers k shown got state
-breaks may d peers k apart shown replies at lives pool (as_shown e) got state is =
+    → Lives d peers replies (peer_lines shown) at.world.peers → (left : List Peer) → pools.IsLeft d may at left
+    → (got : Bool) (state : PeerState) → state ≡ cond got (closed (peer_in left k).state) (peer_in left k).state → BreaksOff d peers k shown got state
+breaks may d peers k apart shown replies at lives left (as_shown e) got state is =
     so_far d peers k apart shown replies at.world.peers lives got state
-    (is ∙ ap (λ (s : PeerState). cond got (closed s) s) (ap (λ (l : List Seen). state_in l k) (sym e) ∙ ap (λ (s : Seen). s.state) (seen_at at.world.peers k)))
-breaks may d peers k apart shown replies at lives pool (one_more o) got state is = by (nat_eq o.reply.question.peer k) refl
+    (is ∙ ap (λ (s : PeerState). cond got (closed s) s) (ap (λ (l : List Peer). (peer_in l k).state) (sym e)))
+breaks may d peers k apart shown replies at lives left (one_more o) got state is = by (nat_eq o.reply.question.peer k) refl
   where
     ps : List Peer
     ps = at.world.peers
 
-    now : state_in pool k ≡ (peer_in (replied_in ps o.reply) k).state
-    now = ap (λ (l : List Seen). state_in l k) (sym o.peers) ∙ ap (λ (s : Seen). s.state) (seen_at (replied_in ps o.reply) k)
+    now : (peer_in left k).state ≡ (peer_in (replied_in ps o.reply) k).state
+    now = ap (λ (l : List Peer). (peer_in l k).state) (sym o.peers)
 
     by : (b : Bool) → nat_eq o.reply.question.peer k ≡ b → BreaksOff d peers k shown got state
     by true e =

@@ -46,9 +46,13 @@ pub record Comes (d : Definition) (peers : List Peer) (number : ℕ) (shown : Li
   pub once : OnceAtMost (close_line d peers number) shown
   pub left : IsLeft shown (close_line d peers number) got last state
 
--- the pool that a session leaves which is finished in this world
+-- the pool that a session leaves which is finished with these peers: each is closed that an object has got
+abbrev pub ended : List Peer → List Seen
+ended peers = taken_closed peers (map seen_of peers)
+
+-- and which is finished in this world
 abbrev pub finished : World → List Seen
-finished w = taken_closed w.peers (map seen_of w.peers)
+finished w = ended w.peers
 
 -- So it is of each peer of a whole run, which shows all its lines, the forgotten ones in front, and of the pool that is left as the session is
 -- finished.
@@ -80,30 +84,31 @@ pub record BreaksOff (d : Definition) (peers : List Peer) (number : ℕ) (shown 
   pub once : OnceAtMost (close_line d peers number) shown
   pub left : IsLeft shown (close_line d peers number) got last state
 
--- So it is of each peer of an event in which no memory was found, with the lines that it added, and of the pool that it left.
+-- So it is of each peer of an event in which no memory was found, with the lines that it added, and of the peers that it left.
 abbrev pub CutLeaves : Relations → Type 0
 CutLeaves may =
-    (d : Definition) (event : Event) (replies : List Reply) (w : World) (pool : List Seen) (added : List (List ℕ)) →
-    CutOff d may event replies w pool (w.transcript ++ added) →
+    (d : Definition) (event : Event) (replies : List Reply) (w : World) (left : List Peer) (added : List (List ℕ)) →
+    CutOff d may event replies w left (w.transcript ++ added) →
     (number : ℕ) → IsNamedApart w.peers number →
-    BreaksOff d w.peers number added false (state_in pool number)
+    BreaksOff d w.peers number added false (peer_in left number).state
 
--- and of each peer of a run that breaks off in one more event, which shows all lines, and of the pool that is left as the session is finished
+-- And of each peer of a run that breaks off in one more event, which shows all lines, and of the pool that is left as the session is finished:
+-- an object has got a peer there where one has got it in the machine.
 abbrev pub RunBreaksOff : Relations → Type 0
 RunBreaksOff may =
     (d : Definition) (peers : List Peer) (events : List Event) (replies more : List Reply) (tally : Tally) (last : World) (event : Event)
-    (pool : List Seen) (holders : List Peer) (shown : List (List ℕ)) →
-    IsRun d peers events replies tally last → CutOff d may event more last pool shown →
+    (left : List Peer) (shown : List (List ℕ)) →
+    IsRun d peers events replies tally last → CutOff d may event more last left shown →
     (number : ℕ) → IsNamedApart peers number →
-    BreaksOff d peers number shown (is_taken holders number) (state_in (taken_closed holders pool) number)
+    BreaksOff d peers number shown (is_taken left number) (state_in (ended left) number)
 
 -- and of each peer of a build that breaks off
 abbrev pub BuildBreaksOff : Relations → Type 0
 BuildBreaksOff may =
-    (d : Definition) (peers : List Peer) (replies : List Reply) (pool : List Seen) (holders : List Peer) (shown : List (List ℕ)) →
-    Halting d may replies (of_build d peers) pool shown →
+    (d : Definition) (peers : List Peer) (replies : List Reply) (left : List Peer) (shown : List (List ℕ)) →
+    Halting d may replies (of_build d peers) left shown →
     (number : ℕ) → IsNamedApart peers number →
-    BreaksOff d peers number shown (is_taken holders number) (state_in (taken_closed holders pool) number)
+    BreaksOff d peers number shown (is_taken left number) (state_in (ended left) number)
 
 -- ** a worked run
 

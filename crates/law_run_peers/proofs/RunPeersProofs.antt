@@ -13,7 +13,6 @@ use Rattle.native_peers.specs.Pool.{entries, seen}
 use Rattle.native_peers.specs.Seen.{Relations}
 use Rattle.native_peers.specs.declared.entries.NamedPeer.{NamedPeer}
 use Rattle.native_peers.specs.declared.pools.PeerPool.{PeerPool}
-use Rattle.engine_pools.specs.PoolView.{seen_of}
 use Rattle.ui_engine.specs.Endings.{is_taken}
 use Rattle.law_left_peers.specs.LeftPeers.{BreaksOff, state_in}
 use Rattle.law_left_peers.proofs.LeftProofs.{run_leaves}
@@ -55,9 +54,9 @@ runs_leave may peers apart bytes s lines outcomes new taken run k inside = by ru
     by (inr b) =
         inr (subst (λ (l : List (List ℕ)). BreaksOff s.definition peers k l (is_taken new.world.peers k) (state_in (left_by new.world) k)) run.shows
         (run_breaks_off may s.definition peers (events_served s.definition 1 lines outcomes) run.replies b.breaks_off.replies run.tally run.last b.event
-        (map seen_of new.world.peers) new.world.peers (run.front ++ new.world.transcript) run.run b.breaks_off.so k own))
+        new.world.peers (run.front ++ new.world.transcript) run.run b.breaks_off.so k own))
 
 pub stops_leave : (may : Relations) (peers : List Peer) → AreApart peers → StopsLeave may peers
 stops_leave may peers apart bytes s taken off k inside =
-    build_breaks_off may s.definition peers off.breaks_off.replies (map seen_of s.world.peers) s.world.peers s.world.transcript off.breaks_off.so k
+    build_breaks_off may s.definition peers off.breaks_off.replies s.world.peers s.world.transcript off.breaks_off.so k
     (is_apart bytes s.definition peers taken apart k inside)

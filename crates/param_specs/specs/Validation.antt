@@ -1,4 +1,4 @@
--- What validation is asked for.
+-- What validation is asked for, and what it gives.
 use Rattle.std.specs.Prelude.{◌≡◌, ◌≤ℤ◌, ℕ, false, List, Option, None, Some}
 use Rattle.ui_machine.specs.Definition.Kinds.{Whole, int, uint, int64, uint64}
 use Rattle.ui_machine.specs.Definition.Kinds as kinds

@@ -1,6 +1,6 @@
 //! Validation: how a value is brought into its property's spec (GObject manual, g_param_value_validate).
 
-ghost use Rattle.std.specs.Prelude.{◌≡◌, ◌↔◌, IsTrue, ◌≤ℤ◌, ℤ, ℕ, pos, cond, not, nat_eq, bit_and, List, Option, None, Some, IfSome};
+ghost use Rattle.std.specs.Prelude.{◌≡◌, ◌↔◌, IsTrue, ◌≤ℤ◌, ℤ, ℕ, pos, cond, false, not, nat_eq, bit_and, List, Option, None, Some, IfSome};
 ghost use Rattle.std.specs.Ordering.{int_eq};
 ghost use Rattle.ui_machine.specs.Definition.Values as values;
 ghost use Rattle.ui_machine.specs.Definition.Kinds as kinds;
@@ -21,23 +21,27 @@ use ui_machine::ObjectId;
 
 /// A value as the property takes it, and whether it was changed: a number goes to the nearer end of the range, one that is no member becomes the
 /// default, unknown bits are cleared, and an object of another type becomes null. An object's value has to name the object's own class. The value
-/// keeps its kind, so an object's value its declared type.
+/// keeps its kind, so an object's value its declared type. A value for which the spec has none of that kind (`takes`) comes back as it is.
 #[tactic(auto, using(crate::proofs::Same::same_value_refl))]
 pub fn validate(tree: &TypeTree, spec: &Spec, value: Value) -> (Value, bool)
-    requires { Takes tree.now spec.now value }
-    ensures value { (living_class : ℕ → Option ℕ) → KnowsClass living_class value
+    ensures value { Takes tree.now spec.now value → (living_class : ℕ → Option ℕ) → KnowsClass living_class value
         → value_view result.0 ≡ clamp living_class tree.now (spec_view spec.now) (value_view value) }
     ensures kind { value_kind result.0 ≡ value_kind value }
-    ensures changed { (living_class : ℕ → Option ℕ) → KnowsClass living_class value
+    ensures changed { Takes tree.now spec.now value → (living_class : ℕ → Option ℕ) → KnowsClass living_class value
         → result.1 ≡ not (same_value (clamp living_class tree.now (spec_view spec.now) (value_view value)) (value_view value)) }
+    ensures untaken { (Takes tree.now spec.now value → ⊥) → (result.0 ≡ value) × (result.1 ≡ false) }
 {
+    if !takes(tree, spec, &value) {
+        return (value, false);
+    }
     match corrected(tree, spec, &value) {
         Some(corrected) => (corrected, true),
         None => (value, false),
     }
 }
 
-/// Whether `validate` takes a value of a property: a number's range lies within the number's kind, and an enum's default is of that enum.
+/// Whether a spec has for each value of this kind one that is valid: a number's range lies within the number's kind, and an enum's default is of
+/// that enum.
 pub fn takes(tree: &TypeTree, spec: &Spec, value: &Value) -> bool
     ensures { IsTrue result ↔ Takes tree.now spec.now value.now }
 {

@@ -1,11 +1,11 @@
 -- What a session asks of a dispatch, and what it keeps after it. The definition is named twice, as the code has it and as the session does.
-use Rattle.std.proofs.Common.{◌≡◌, ℕ, List, [], None, Ok, false, sym, subst}
+use Rattle.std.proofs.Common.{◌≡◌, ℕ, List, None, Ok, false, sym, subst}
 use Rattle.ui_machine.specs.Definition.{Definition}
 use Rattle.ui_machine.specs.Rules.Events.{names_released, refusal}
 use Rattle.ui_machine.specs.Rules.MainLoop.{turned}
 use Rattle.ui_machine.specs.Runs.{of_build, of_request}
 use Rattle.ui_machine.specs.State.Config.{World}
-use Rattle.ui_machine.specs.State.Tasks.{Building, Event, Request}
+use Rattle.ui_machine.specs.State.Tasks.{Event, Request}
 use Rattle.ui_machine.specs.State.Tasks as config
 use Rattle.definition_format.specs.Origin.{IsDenoted}
 use Rattle.law_pools.specs.Needs.{mismatch}
@@ -40,7 +40,7 @@ module _ (d e : Definition) (same : e ≡ d) (from : IsDenoted e) where
     pub builds_safely : Accepted d → IsSafe e (of_build d (as_peers pool))
     builds_safely a = subst (λ (x : Definition). IsSafe x (of_build d (as_peers pool))) (sym same) (build_safe d well (as_peers pool) (matched_is_ready d (as_peers pool) matches (all_free pool)) a)
 
-    pub built_rests : (may : Relations) (reply : Reply) (left : List Seen) (new : World) → Carried (Ok reply) d may (of_build d (as_peers pool)) [] (world_at left new) → Knows new left → Rests d new
+    pub built_rests : (may : Relations) (reply : Reply) (left : List Seen) (new : World) → Carried (Ok reply) d may (of_build d (as_peers pool)) (world_at left new) → Knows new left → Rests d new
     built_rests may reply left new carried knows =
         rests_here d left new knows
         (build_rests d well (as_peers pool) (matched_is_ready d (as_peers pool) matches (all_free pool)) carried.0.replies (fitting d may carried.0.replies carried.0.given) reply.steps (world_at left new) carried.0.so)
@@ -61,7 +61,7 @@ module _ (d e : Definition) (same : e ≡ d) (from : IsDenoted e) where
       pub serves_safely : names_released w r ≡ false → Accepted d → IsSafe e (of_request (world_at pool w) r)
       serves_safely held a = subst (λ (x : Definition). IsSafe x (of_request (world_at pool w) r)) (sym same) (request_safe d well (world_at pool w) rests_so r read held a)
 
-      pub served_rests : names_released w r ≡ false → (may : Relations) (reply : Reply) (left : List Seen) (new : World) → Carried (Ok reply) d may (of_request (world_at pool w) r) [] (world_at left new)
+      pub served_rests : names_released w r ≡ false → (may : Relations) (reply : Reply) (left : List Seen) (new : World) → Carried (Ok reply) d may (of_request (world_at pool w) r) (world_at left new)
           → Knows new left → Rests d new
       served_rests held may reply left new carried known =
           rests_here d left new known

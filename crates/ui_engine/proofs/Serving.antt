@@ -32,7 +32,7 @@ module _ (may : Relations) (d : Definition) (w : World) (r : Request) where
     goes_on = ends.goes_on;
   }
   serves none (Err faults.OutOfMemory) new breaks = record {
-    breaks_off = record { replies = breaks.breaks_off.replies; given = breaks.breaks_off.given; so = record { halts = breaks.breaks_off.so.halts; left = breaks.breaks_off.so.left } };
+    breaks_off = record { replies = breaks.breaks_off.replies; given = breaks.breaks_off.given; so = record { halts = breaks.breaks_off.so.halts; leaves = breaks.breaks_off.so.leaves } };
     definition = breaks.definition;
     stops = breaks.stops;
   }

@@ -1,5 +1,5 @@
 -- How a session answers a turn.
-use Rattle.std.proofs.Common.{◌≡◌, ◌<◌, ℕ, Bool, true, false, nat_lt, List, [], map, Option, None, Some, Result, Ok, Err, refl, sym, ap, subst, ◌∙◌, arith}
+use Rattle.std.proofs.Common.{◌≡◌, ◌<◌, ℕ, Bool, true, false, nat_lt, List, [], Option, None, Some, Result, Ok, Err, refl, sym, ap, subst, ◌∙◌, arith}
 use Rattle.std.proofs.lemmas.Bool.Decides.{nat_tests}
 use Rattle.ui_machine.specs.Rules.Events.{Refusal, clock_back, refusal}
 use Rattle.ui_machine.specs.Rules.MainLoop.{is_back, turned}
@@ -11,7 +11,7 @@ use Rattle.ui_machine.specs.State.Tasks.{turn}
 use Rattle.native_peers.specs.Seen.{Relations, Seen}
 use Rattle.engine_pools.specs.declared.dispatches.Reply.{Reply}
 use Rattle.ui_machine.specs.Definition.{Definition}
-use Rattle.engine_pools.specs.PoolView.{seen_of, world_at}
+use Rattle.engine_pools.specs.PoolView.{world_at}
 use Rattle.engine_pools.specs.TurnView.{SourceBreaksOff, TurnBegins, running_sources}
 use Rattle.engine_pools.specs.Ways.{CutOff, serving, tally_of}
 use Rattle.ui_engine.specs.declared.faults.SessionFault.{SessionFault}
@@ -33,11 +33,11 @@ module _ (may : Relations) (old : SessionState) (moment : ℕ) where
   pub turn_refused : is_back old.world moment ≡ true → AnswersBy may (refusal old.world (turn moment)) (Err faults.ClockBack) old (turn moment) old
   turn_refused is = subst (λ (why : Option Refusal). AnswersBy may why (Err faults.ClockBack) old (turn moment) old) (sym (refused_by true is)) (refl, refl)
 
-  pub turn_stops : is_back old.world moment ≡ false → (new : SessionState) → old.world.transcript ≡ new.world.transcript → map seen_of old.world.peers ≡ map seen_of new.world.peers
+  pub turn_stops : is_back old.world moment ≡ false → (new : SessionState) → old.world.transcript ≡ new.world.transcript → old.world.peers ≡ new.world.peers
       → new.definition ≡ old.definition → new.stopped ≡ true → AnswersBy may (refusal old.world (turn moment)) (Err faults.OutOfMemory) old (turn moment) new
-  turn_stops is new lines pool definition stops =
+  turn_stops is new lines same definition stops =
       subst (λ (why : Option Refusal). AnswersBy may why (Err faults.OutOfMemory) old (turn moment) new) (sym (refused_by false is)) (record {
-        breaks_off = record { replies = []; given = tt; so = record { halts = at_its_beginning (record { memory = refl; asked = refl; lines = lines }); left = pool } };
+        breaks_off = record { replies = []; given = tt; so = record { halts = at_its_beginning (record { memory = refl; asked = refl; lines = lines }); leaves = same } };
         definition = definition;
         stops = stops;
       })
@@ -48,9 +48,9 @@ module _ (may : Relations) (old : SessionState) (moment : ℕ) where
   turn_answers is numbers w begins result new comes =
       subst (λ (why : Option Refusal). AnswersBy may why result old (turn moment) new) (sym (refused_by false is)) (by result comes)
     where
-      cut_off : (replies : List peers.Reply) (pool : List Seen) (shown : List (List ℕ)) → SourceBreaksOff old.definition may numbers replies w pool shown
-          → CutOff old.definition may (turn moment) replies old.world pool shown
-      cut_off replies pool shown h = record {
+      cut_off : (replies : List peers.Reply) (left : List peers.Peer) (shown : List (List ℕ)) → SourceBreaksOff old.definition may numbers replies w left shown
+          → CutOff old.definition may (turn moment) replies old.world left shown
+      cut_off replies left shown h = record {
         halts = at_a_source (record {
           done = h.done;
           number = h.number;
@@ -65,7 +65,7 @@ module _ (may : Relations) (old : SessionState) (moment : ℕ) where
           stands = h.stands;
           halts = h.breaks_off.halts;
         });
-        left = h.breaks_off.left;
+        leaves = h.breaks_off.leaves;
       }
 
       by : (result : Result Reply SessionFault) → Comes result (running_sources may old.definition numbers w) old.definition new

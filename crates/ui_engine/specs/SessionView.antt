@@ -1,5 +1,5 @@
 -- What a session has come to, and what it answers.
-use Rattle.std.specs.Prelude.{◌≡◌, Bool, true, false, List, [], map, option_map, string_bytes, ⊤, Option, Some, None, Result, Ok, Err}
+use Rattle.std.specs.Prelude.{◌≡◌, Bool, true, false, List, [], option_map, string_bytes, ⊤, Option, Some, None, Result, Ok, Err}
 use Rattle.ui_machine.specs.Definition.{Definition}
 use Rattle.ui_machine.specs.Rules.Events.{Refusal, gone, clock_back, refusal}
 use Rattle.ui_machine.specs.Runs.{of_build}
@@ -10,7 +10,7 @@ use Rattle.g_values.specs.View.{value_view}
 use Rattle.law_pools.specs.Needs.{Mismatch, closed, misshapen, missing, unused}
 use Rattle.native_peers.specs.Seen.{Relations, Seen}
 use Rattle.engine_pools.specs.declared.dispatches.Reply.{Reply}
-use Rattle.engine_pools.specs.PoolView.{Knows, seen_of, world_at}
+use Rattle.engine_pools.specs.PoolView.{Knows, world_at}
 use Rattle.engine_pools.specs.Ways.{Ways, carrying_out, serving, tally_of}
 use Rattle.ui_engine.specs.declared.faults.SessionFault.{SessionFault}
 use Rattle.ui_engine.specs.declared.faults.SessionFault.TheVariants as faults
@@ -50,7 +50,7 @@ pub record Ends (reply : Reply) (ways : Ways) (d : Definition) (new : SessionSta
 
 -- it broke off, and the session stopped with it
 pub record BreaksOff (ways : Ways) (d : Definition) (new : SessionState) : Type 0 where
-  pub breaks_off : ways.breaks_off (map seen_of new.world.peers) new.world.transcript
+  pub breaks_off : ways.breaks_off new.world.peers new.world.transcript
   pub definition : new.definition ≡ d
   pub stops : new.stopped ≡ true
 

@@ -49,12 +49,13 @@ impl Model for Core {
 }
 
 impl Core {
-    // Carries out an event with all that it leads to.
-    pub(crate) fn dispatch(
-        &mut self,
-        pool: &mut PeerPool,
-        event: Event,
-    ) -> Result<Reply, SessionFault>
+    /// Carries out an event with all that it leads to, by a pool that the session knows. The event has to be one that was read against the
+    /// session's definition.
+    ///
+    /// # Errors
+    ///
+    /// As `Session::dispatch`.
+    pub fn dispatch(&mut self, pool: &mut PeerPool, event: Event) -> Result<Reply, SessionFault>
         requires read { EventRead self.now.definition (event_of event) }
         requires seated { IsSeated (seen (λ p. (⟦<dyn Peer as Peer>⟧ p.peer.vtable).state p.peer.value) (entries pool.now)) self.now }
         ensures answers { AnswersEvent (relations (λ p. (⟦<dyn Peer as Peer>⟧ p.peer.vtable).moves p.peer.value) (entries pool.old)) self.old.stopped result (state_at (seen (λ p. (⟦<dyn Peer as Peer>⟧ p.peer.vtable).state p.peer.value) (entries pool.old)) self.old) (event_of event) (state_at (seen (λ p. (⟦<dyn Peer as Peer>⟧ p.peer.vtable).state p.peer.value) (entries pool.new)) self.new) }
@@ -146,22 +147,22 @@ impl Core {
         }
     }
 
-    // The definition that it runs.
-    pub(crate) fn definition(&self) -> &Definition
+    /// The definition that it runs.
+    pub fn definition(&self) -> &Definition
         ensures { result.now ≡ self.now.definition }
     {
         self.verified.definition()
     }
 
-    // The lines that were said since the last call of `forget`.
-    pub(crate) fn transcript(&self) -> &[String]
+    /// The lines that were said since the last call of `forget`, without their LF.
+    pub fn transcript(&self) -> &[String]
         ensures { map string_bytes result.now ≡ self.now.world.transcript }
     {
         self.engine.world.transcript.as_slice()
     }
 
-    // Gives up the lines so far.
-    pub(crate) fn forget(&mut self)
+    /// Gives up the lines so far. They make no difference to what is said later.
+    pub fn forget(&mut self)
         ensures { self.new ≡ without_lines self.old }
     {
         self.engine.world.transcript.clear();

@@ -177,6 +177,14 @@ impl Session {
         self.core.forget();
     }
 
+    /// The core of the session alone. Its pool is given up: the peers are dropped unclosed.
+    pub fn into_core(self) -> Core
+        ensures { result ≡ self.core }
+    {
+        let Session { core, pool: _ } = self;
+        core
+    }
+
     /// Ends the session, also where it has stopped, closes each open peer that an object has got, and hands out the lines and the pool.
     pub fn finish(self) -> Finished
         ensures lines { map string_bytes result.transcript.items ≡ self.core.world.transcript }

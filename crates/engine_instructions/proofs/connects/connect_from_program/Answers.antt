@@ -1,4 +1,4 @@
-use Rattle.std.proofs.Common.{◌≡◌, true, false, refl, ap, sym, ◌∙◌}
+use Rattle.std.proofs.Common.{◌≡◌, true, false, refl, ap, subst, sym, ◌∙◌}
 use Rattle.std.specs.Prelude.{codes}
 use Rattle.std.proofs.lemmas.Result.{err_from_is_err_and}
 use Rattle.ui_machine.specs.Instructions.Signals.{connecting}
@@ -9,9 +9,11 @@ use Rattle.bytecode.specs.View.{connect_view}
 use Rattle.signal_core.specs.Connected.{connection_of}
 use Rattle.engine_world.specs.ConnectView.{is_full}
 use Rattle.engine_world.specs.Counting.{nothing}
+use Rattle.engine_world.specs.Quiet.{IsQuiet}
 use Rattle.engine_world.specs.TaskView.{agenda_of}
 use Rattle.engine_world.specs.View.{world_of}
-use Rattle.engine_instructions.proofs.ConnectSteps.{connect_unwritten, connect_world_behind, connect_written, connection_stops, left_transcript, told_full, told_quietly}
+use Rattle.engine_instructions.proofs.ConnectSteps.{connect_unwritten, connect_world_behind, connect_written, connection_stops, left_quiet, told_full, told_quietly}
+use Rattle.engine_world.proofs.Quiets.{quiet_on}
 use Rattle.engine_world.proofs.Left.{same_agenda}
 use Rattle.engine_world.proofs.Registers.{stops_left}
 use Rattle.engine_instructions.proofs.connects.connect_from_program.Goals as goal
@@ -45,10 +47,12 @@ returns-in_err-write_register-clause-step c =
 pub returns-in_err-write_register-clause-quiet : goal.returns-in_err-write_register-clause-quiet
 returns-in_err-write_register-clause-quiet c =
     let p = err_from_is_err_and c.from_residual-in_err-write_register.result c.from_residual-in_err-write_register.ensures.1 in
+    let w = world_of c.args.engine.now.world in
+    let m = world_of c.connect_handler.new.engine.world in
     rw p.1
-    (c.in_err-write_register.ensures.quiet
-    ∙ ap (λ (w : World). w.transcript) c.in_ok-outcome.ensures.world
-    ∙ left_transcript c.in_ok-outcome.outcome (world_of c.args.engine.now.world) (connection_of c.in_ok-connection.connection))
+    (quiet_on w m (world_of c.write_register.new.engine.world)
+    (subst (λ (v : World). IsQuiet w v) (sym c.in_ok-outcome.ensures.world) (left_quiet c.in_ok-outcome.outcome w (connection_of c.in_ok-connection.connection)))
+    c.in_err-write_register.ensures.quiet)
 
 pub returns-then-not-is_full-clause-step : goal.returns-then-not-is_full-clause-step
 returns-then-not-is_full-clause-step c =
@@ -94,7 +98,7 @@ returns-in_err-say_limit-clause-quiet c =
     c.is_connected-is_connected.result c.is_connected-is_connected.ensures c.write_register.new.engine c.in_ok-write_register.ensures.step in
     let p = err_from_is_err_and c.from_residual-in_err-say_limit.result c.from_residual-in_err-say_limit.ensures.1 in
     rw p.1
-    (ap (λ (w : World). w.transcript) (c.in_err-say_limit.ensures.err ∙ world ∙ c.in_ok-outcome.ensures.world) ∙ left_transcript o (world_of e.world) x)
+    (subst (λ (v : World). IsQuiet (world_of e.world) v) (sym (c.in_err-say_limit.ensures.err ∙ world ∙ c.in_ok-outcome.ensures.world)) (left_quiet o (world_of e.world) x))
 
 pub returns-clause-counted : goal.returns-clause-counted
 returns-clause-counted c = c.in_ok-say_limit.ensures.counted.at nothing c.in_ok-write_register.ensures.counted

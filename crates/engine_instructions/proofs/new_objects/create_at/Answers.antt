@@ -1,17 +1,20 @@
-use Rattle.std.proofs.Common.{false, string_bytes, ap, ◌∙◌}
+use Rattle.std.proofs.Common.{◌≡◌, ◌<◌, ℕ, IfSome, List, Option, length, false, ap, subst, sym, ◌∙◌}
 use Rattle.std.proofs.lemmas.Result.{err_from_is_err_and}
 use Rattle.ui_machine.specs.Definition.Values as values
 use Rattle.std.specs.Prelude.{Some}
 use Rattle.ui_machine.specs.State.Config.{World}
+use Rattle.ui_machine.specs.State.Peers.{Peer}
 use Rattle.ui_machine.specs.State.Tasks.{Constructing}
 use Rattle.frames.specs.FrameView.{frame_view}
 use Rattle.g_values.specs.View.{value_view}
 use Rattle.engine_world.specs.Counting.{nothing}
 use Rattle.engine_instructions.specs.CreateView.{created}
 use Rattle.engine_world.specs.TaskView.{agenda_of}
-use Rattle.engine_world.specs.View.{with_line, world_of}
+use Rattle.engine_world.specs.NewObjects.{begun}
+use Rattle.engine_world.specs.View.{world_of}
 use Rattle.engine_instructions.proofs.Creating.{create_unwritten, create_world, create_written, created_stops}
 use Rattle.engine_world.proofs.Left.{same_agenda}
+use Rattle.engine_world.proofs.Quiets.{quiet_on, quiet_same}
 use Rattle.engine_world.proofs.Registers.{stops_left}
 use Rattle.engine_instructions.proofs.new_objects.create_at.Goals as goal
 
@@ -34,7 +37,7 @@ returns-in_err-write_register-clause-step c =
     let e = c.args.engine.now in
     let m = c.make.new.engine in
     let new = c.in_ok-new.new in
-    let u = with_line (string_bytes new.line) (world_of m.world) in
+    let u = begun new (world_of m.world) in
     let p = err_from_is_err_and c.from_residual-in_err-write_register.result c.from_residual-in_err-write_register.ensures.1 in
     rw (p.1, p.2)
     (create_unwritten d e m (frame_view c.args.frame) c.args.to.0 c.args.place.0 c.args.peer u (Constructing new.object.0 new.steps false) (value_view c.object_value.result)
@@ -45,7 +48,23 @@ returns-in_err-write_register-clause-step c =
 pub returns-in_err-write_register-clause-quiet : goal.returns-in_err-write_register-clause-quiet
 returns-in_err-write_register-clause-quiet c =
     let p = err_from_is_err_and c.from_residual-in_err-write_register.result c.from_residual-in_err-write_register.ensures.1 in
-    rw p.1 (c.in_err-write_register.ensures.quiet ∙ c.make.ensures.quiet)
+    rw p.1 (quiet_on (world_of c.args.engine.now.world) (world_of c.make.new.engine.world) (world_of c.write_register.new.engine.world) c.make.ensures.quiet c.in_err-write_register.ensures.quiet)
+
+pub begin_construction-requires : goal.begin_construction-requires
+begin_construction-requires c =
+    let d = c.args.definition.now in
+    let e = c.args.engine.now in
+    let m = c.make.new.engine in
+    let new = c.in_ok-new.new in
+    let world = create_world d e m (frame_view c.args.frame) c.args.to.0 c.args.place.0 c.args.peer (begun new (world_of m.world)) (Constructing new.object.0 new.steps false)
+    (value_view c.object_value.result) (c.in_ok-new.ensures.made false) (same_agenda d e m c.make.ensures.same.0 c.make.ensures.handlers) c.make.ensures.same.1
+    (c.object_value.ensures ∙ ap (λ n. values.object (Some n)) c.in_ok-new.ensures.identity) c.write_register.new.engine c.in_ok-write_register.ensures.step in
+    let seats : (world_of c.write_register.new.engine.world).peers ≡ (world_of e.world).peers = ap (λ (w : World). w.peers) world ∙ c.make.ensures.seats in
+    record {
+      peer =
+          subst (λ (peer : Option ℕ). IfSome peer (λ number. number < length (world_of c.write_register.new.engine.world).peers)) (sym c.in_ok-new.ensures.peer)
+          (subst (λ (ps : List Peer). IfSome c.args.peer (λ number. number < length ps)) (sym seats) c.requires.peer);
+    }
 
 pub returns-clause-step : goal.returns-clause-step
 returns-clause-step c =
@@ -56,13 +75,13 @@ returns-clause-step c =
     let new = c.in_ok-new.new in
     let f = frame_view c.args.frame in
     let v = value_view c.object_value.result in
-    let u = with_line (string_bytes new.line) (world_of m.world) in
+    let u = begun new (world_of m.world) in
     let t = Constructing new.object.0 new.steps false in
     let agenda = same_agenda d e m c.make.ensures.same.0 c.make.ensures.handlers in
     let names = c.object_value.ensures ∙ ap (λ n. values.object (Some n)) c.in_ok-new.ensures.identity in
     let world = create_world d e m f c.args.to.0 c.args.place.0 c.args.peer u t v (c.in_ok-new.ensures.made false) agenda c.make.ensures.same.1 names mid c.in_ok-write_register.ensures.step in
     create_written d e m f c.args.to.0 c.args.place.0 c.args.peer u t v (c.in_ok-new.ensures.made false) agenda c.make.ensures.same.1 names mid c.in_ok-write_register.ensures.step
-    c.begin_construction.new.engine (c.in_ok-begin_construction.ensures.world ∙ ap (λ (w : World). with_line (string_bytes new.line) w) world) (c.in_ok-begin_construction.ensures.agenda d) c.begin_construction.ensures.same
+    c.begin_construction.new.engine (c.in_ok-begin_construction.ensures.world ∙ ap (λ (w : World). begun new w) world) (c.in_ok-begin_construction.ensures.agenda d) c.begin_construction.ensures.same
 
 pub returns-in_err-begin_construction-clause-quiet : goal.returns-in_err-begin_construction-clause-quiet
 returns-in_err-begin_construction-clause-quiet c =
@@ -70,11 +89,14 @@ returns-in_err-begin_construction-clause-quiet c =
     let e = c.args.engine.now in
     let m = c.make.new.engine in
     let new = c.in_ok-new.new in
-    let world = create_world d e m (frame_view c.args.frame) c.args.to.0 c.args.place.0 c.args.peer (with_line (string_bytes new.line) (world_of m.world)) (Constructing new.object.0 new.steps false)
+    let world = create_world d e m (frame_view c.args.frame) c.args.to.0 c.args.place.0 c.args.peer (begun new (world_of m.world)) (Constructing new.object.0 new.steps false)
     (value_view c.object_value.result) (c.in_ok-new.ensures.made false) (same_agenda d e m c.make.ensures.same.0 c.make.ensures.handlers) c.make.ensures.same.1
     (c.object_value.ensures ∙ ap (λ n. values.object (Some n)) c.in_ok-new.ensures.identity) c.write_register.new.engine c.in_ok-write_register.ensures.step in
     let p = err_from_is_err_and c.from_residual-in_err-begin_construction.result c.from_residual-in_err-begin_construction.ensures.1 in
-    rw p.1 (c.in_err-begin_construction.ensures.quiet ∙ ap (λ (w : World). w.transcript) world ∙ c.make.ensures.quiet)
+    rw p.1
+    (quiet_on (world_of e.world) (world_of m.world) (world_of c.begin_construction.new.engine.world) c.make.ensures.quiet
+    (quiet_on (world_of m.world) (world_of c.write_register.new.engine.world) (world_of c.begin_construction.new.engine.world)
+    (quiet_same (world_of m.world) (world_of c.write_register.new.engine.world) world) c.in_err-begin_construction.ensures.quiet))
 
 pub returns-clause-counted : goal.returns-clause-counted
 returns-clause-counted c = (c.in_ok-begin_construction.ensures.counted c.args.definition.now).at nothing c.in_ok-write_register.ensures.counted

@@ -1,11 +1,12 @@
-use Rattle.std.proofs.Common.{ap, sym, ◌∙◌}
-use Rattle.std.specs.Prelude.{OnOk, Result, Ok, Err, is_some}
+use Rattle.std.proofs.Common.{ap, subst, sym, ◌∙◌}
+use Rattle.std.specs.Prelude.{OnErr, OnOk, Result, Ok, Err, is_some}
 use Rattle.std.proofs.lemmas.Result.{err_from_is_err_and}
 use Rattle.frames.specs.FrameView.{frame_view}
 use Rattle.ui_machine.specs.declared.arm.Halt.{Halt}
 use Rattle.ui_machine.specs.Instructions.Objects.{adopting}
 use Rattle.ui_machine.specs.State.Config.{World}
 use Rattle.engine_world.specs.Counting.{Counts, KeepsCounts, nothing}
+use Rattle.engine_world.specs.Quiet.{IsQuiet}
 use Rattle.engine_world.specs.TaskView.{agenda_of}
 use Rattle.engine_world.specs.View.{world_of}
 use Rattle.engine_instructions.proofs.Adopting.{adopt_no_child, adopt_no_parent}
@@ -61,7 +62,7 @@ returns-clause-quiet c =
     let f = frame_view c.args.frame in
     let mid = world_written d e c.write_register.new.engine f c.args.to.0 c.args.parent.0 c.args.child.0 c.in_ok-parent.parent.0 c.in_ok-child.child.0 c.in_ok-parent.ensures c.in_ok-child.ensures
     c.is_none-is_free.result (none_as _ c.is_none-is_free.result (ap is_some (sym c.refusal.ensures) ∙ c.is_none-is_free.ensures)) c.in_ok-write_register.ensures.step in
-    rw (ap (λ (w : World). w.transcript) (sym mid)) c.join_objects.ensures.quiet
+    subst (λ (w : World). OnErr c.join_objects.result (IsQuiet w (world_of c.join_objects.new.engine.world))) mid c.join_objects.ensures.quiet
 
 pub returns-clause-counted : goal.returns-clause-counted
 returns-clause-counted c = on c.join_objects.result c.join_objects.ensures.counted

@@ -12,6 +12,7 @@ use Rattle.engine_world.specs.View.{world_of}
 use Rattle.engine_world.specs.declared.engine.Engine.{Engine}
 use Rattle.engine_world.proofs.Counts.{taken_alike}
 use Rattle.engine_world.proofs.Left.{same_agenda}
+use Rattle.engine_world.proofs.Quiets.{quiet_same}
 use Rattle.engine_world.proofs.Registers.{going_left, register_moved, stops_left, table_world, write_stops, writes_register}
 use Rattle.engine_instructions.proofs.registers.write_null_and_say_limit.Goals as goal
 
@@ -48,7 +49,7 @@ returns-in_err-say_limit-clause-quiet c =
     let e = c.args.engine.now in
     let world = ap (λ (x : Engine). world_of x.world) c.push_frame.ensures.beside ∙ table_world e c.put.new.table c.in_ok-put.ensures.only in
     let p = err_from_is_err_and c.from_residual-in_err-say_limit.result c.from_residual-in_err-say_limit.ensures.1 in
-    rw p.1 (ap (λ (w : World). w.transcript) (c.in_err-say_limit.ensures.err ∙ world))
+    rw p.1 (quiet_same (world_of e.world) (world_of c.say_limit.new.engine.world) (c.in_err-say_limit.ensures.err ∙ world))
 
 pub returns-clause-counted : goal.returns-clause-counted
 returns-clause-counted c =

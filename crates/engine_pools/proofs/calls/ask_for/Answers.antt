@@ -26,7 +26,7 @@ returns-in-Ok-clause-follows g c =
 pub returns-in-Err-OutOfMemory-clause-breaks : goal.returns-in-Err-OutOfMemory-clause-breaks
 returns-in-Err-OutOfMemory-clause-breaks g c =
     call_breaks c.args.definition.now _ _ (call_of c.args.call) (agenda_of c.args.definition.now c.args.engine.now) c.requires.safe c.requires.none refl c.requires.asked _ _ c.ask-value.ensures.asks
-    (world_of c.answer.new.engine.world).transcript c.in-Err-OutOfMemory.ensures.quiet
+    (world_of c.answer.new.engine.world) c.in-Err-OutOfMemory.ensures.quiet
 
 pub returns-in-Ok-clause-concludes : goal.returns-in-Ok-clause-concludes
 returns-in-Ok-clause-concludes g c = record { reply = reply_of (world_of c.args.engine.now.world) (call_of c.args.call) (option_map value_view c.ask-value.result); leads = c.in-Ok.ensures.step }

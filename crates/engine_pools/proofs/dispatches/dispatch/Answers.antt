@@ -21,7 +21,7 @@ pub returns-in_err-begin_dispatch-clause-carried : goal.returns-in_err-begin_dis
 returns-in_err-begin_dispatch-clause-carried g c =
     let d = c.args.definition.now in
     let r = err_from_is_err_and c.from_residual.result c.from_residual.ensures.1 in
-    rw r.1 (unbegun d _ _ (world_of c.args.engine.now.world) (task_in c.args.definition.now c.args.engine.now c.args.task) (world_of c.begin_dispatch.new.engine.world).transcript c.in_err-begin_dispatch.ensures.err)
+    rw r.1 (unbegun d _ _ (world_of c.args.engine.now.world) (task_in c.args.definition.now c.args.engine.now c.args.task) c.requires.knows (world_of c.begin_dispatch.new.engine.world) c.in_err-begin_dispatch.ensures.err)
 
 pub returns-in_err-run-clause-carried : goal.returns-in_err-run-clause-carried
 returns-in_err-run-clause-carried g c =

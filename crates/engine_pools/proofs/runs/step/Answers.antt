@@ -1,6 +1,7 @@
-use Rattle.std.proofs.Common.{◌≡◌, [], Ok, refl, ap, sym, subst}
+use Rattle.std.proofs.Common.{[], Ok, refl, ap, sym, subst}
 use Rattle.std.proofs.lemmas.Result.{err_from_is_err_and}
 use Rattle.engine_world.specs.EngineView.{config_of}
+use Rattle.engine_world.specs.Quiet.{IsQuiet}
 use Rattle.engine_world.specs.View.{world_of}
 use Rattle.engine_world.specs.declared.engine.Engine.{Engine}
 use Rattle.engine_pools.specs.CallPoints.{point_of}
@@ -28,9 +29,9 @@ pub returns-in_err-made-clause-stepped : goal.returns-in_err-made-clause-stepped
 returns-in_err-made-clause-stepped g c =
     let d = c.args.definition.now in
     let r = err_from_is_err_and c.from_residual.result c.from_residual.ensures.1 in
-    let shown = (world_of c.step_quietly.new.engine.world).transcript in
-    let quiet = subst (λ (e : Engine). shown ≡ (world_of e.world).transcript) c.in_default.ensures.0 c.in_err-made.ensures.stepped in
-    rw r.1 (cut_off d _ (point_of d _ c.args.engine.now) _ shown refl quiet)
+    let new = world_of c.step_quietly.new.engine.world in
+    let quiet = subst (λ (e : Engine). IsQuiet (world_of e.world) new) c.in_default.ensures.0 c.in_err-made.ensures.stepped in
+    rw r.1 (cut_off d _ (point_of d _ c.args.engine.now) _ new refl quiet)
 
 pub returns-clause-stepped : goal.returns-clause-stepped
 returns-clause-stepped g c =

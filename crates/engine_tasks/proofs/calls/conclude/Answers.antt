@@ -10,6 +10,7 @@ use Rattle.engine_world.specs.TaskView.{agenda_of, tasks_of}
 use Rattle.engine_world.specs.View.{with_line, world_of}
 use Rattle.engine_world.specs.declared.engine.Engine.{Engine}
 use Rattle.engine_world.proofs.Counts.{config_same, keeps_said, less_held}
+use Rattle.engine_world.proofs.Quiets.{quiet_same}
 use Rattle.engine_world.proofs.Registers.{tasks_world}
 use Rattle.engine_tasks.proofs.CallSteps.{concludes, concludes_not}
 use Rattle.engine_tasks.proofs.calls.conclude.Goals as goal
@@ -32,12 +33,12 @@ returns-in_err-pass_answer-clause-step c =
 pub returns-in_err-pass_answer-clause-quiet : goal.returns-in_err-pass_answer-clause-quiet
 returns-in_err-pass_answer-clause-quiet c =
     let p = err_from_is_err_and c.from_residual.result c.from_residual.ensures.1 in
-    rw p.1 (ap (λ (w : World). w.transcript) (tasks_world c.args.engine.now c.pass_answer.new.engine c.in_err-pass_answer.ensures.only))
+    rw p.1 (quiet_same (world_of c.args.engine.now.world) (world_of c.pass_answer.new.engine.world) (tasks_world c.args.engine.now c.pass_answer.new.engine c.in_err-pass_answer.ensures.only))
 
 pub returns-in_err-say-clause-quiet : goal.returns-in_err-say-clause-quiet
 returns-in_err-say-clause-quiet c =
     let p = err_from_is_err_and c.from_residual-in_err-say.result c.from_residual-in_err-say.ensures.1 in
-    rw p.1 (ap (λ (w : World). w.transcript) (c.in_err-say.ensures.err ∙ tasks_world c.args.engine.now c.pass_answer.new.engine c.in_ok-pass_answer.ensures.only))
+    rw p.1 (quiet_same (world_of c.args.engine.now.world) (world_of c.say.new.self) (c.in_err-say.ensures.err ∙ tasks_world c.args.engine.now c.pass_answer.new.engine c.in_ok-pass_answer.ensures.only))
 
 pub let_go_values-requires : goal.let_go_values-requires
 let_go_values-requires c = record {

@@ -13,6 +13,7 @@ use Rattle.engine_world.specs.TaskView.{agenda_of, emission_of}
 use Rattle.engine_world.proofs.Counts.{both_only, config_same, less_held}
 use Rattle.engine_tasks.proofs.Emitted.{end_known, end_stops, end_unheard, end_unknown}
 use Rattle.engine_world.proofs.Left.{left_kept, same_agenda}
+use Rattle.engine_world.proofs.Quiets.{quiet_on, quiet_same}
 use Rattle.engine_world.proofs.Registers.{tasks_world}
 use Rattle.ui_machine.specs.State.Config.{World}
 use Rattle.engine_world.specs.declared.engine.Engine.{Engine}
@@ -67,12 +68,16 @@ returns-in_err-pass_down-clause-step c =
 pub returns-in_err-pass_down-clause-quiet : goal.returns-in_err-pass_down-clause-quiet
 returns-in_err-pass_down-clause-quiet c =
     let p = err_from_is_err_and c.from_residual-in_err-pass_down.result c.from_residual-in_err-pass_down.ensures.1 in
-    rw p.1 (ap (λ (w : World). w.transcript) (tasks_world c.args.engine.now c.pass_down.new.engine c.in_err-pass_down.ensures.only))
+    rw p.1 (quiet_same (world_of c.args.engine.now.world) (world_of c.pass_down.new.engine.world) (tasks_world c.args.engine.now c.pass_down.new.engine c.in_err-pass_down.ensures.only))
 
 pub returns-in_err-say_result_if-clause-quiet : goal.returns-in_err-say_result_if-clause-quiet
 returns-in_err-say_result_if-clause-quiet c =
     let p = err_from_is_err_and c.from_residual-in_err-say_result_if.result c.from_residual-in_err-say_result_if.ensures.1 in
-    rw p.1 (c.in_err-say_result_if.ensures.quiet ∙ ap (λ (w : World). w.transcript) (tasks_world c.args.engine.now c.pass_down.new.engine c.in_ok-pass_down.ensures.only))
+    let e = world_of c.args.engine.now.world in
+    let m = world_of c.pass_down.new.engine.world in
+    rw p.1
+    (quiet_on e m (world_of c.say_result_if.new.engine.world) (quiet_same e m (tasks_world c.args.engine.now c.pass_down.new.engine c.in_ok-pass_down.ensures.only))
+    c.in_err-say_result_if.ensures.quiet)
 
 pub let_go_values-requires : goal.let_go_values-requires
 let_go_values-requires c = record {

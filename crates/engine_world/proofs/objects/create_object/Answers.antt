@@ -1,12 +1,9 @@
-use Rattle.std.proofs.Common.{◌≡◌, ℕ, List, Some, refl, sym, ap, subst, map, ◌∙◌, arith}
+use Rattle.std.proofs.Common.{◌≡◌, ℕ, Some, refl, ap, map, ◌∙◌, arith}
 use Rattle.ui_machine.specs.State.Objects.{Object}
 use Rattle.ui_machine.specs.State.References.{in_object}
 use Rattle.engine_world.specs.View.{held_of}
 use Rattle.engine_world.specs.TaskView.{agenda_of}
 use Rattle.engine_world.proofs.Counts.{keeps_by, beside_of, to_counted, from_counted, made_counted, stays}
-use Rattle.ui_machine.specs.State.Peers.{Peer}
-use Rattle.engine_world.specs.PeerPlaces.{AreGot}
-use Rattle.engine_world.proofs.GotPeers.{lent_got}
 use Rattle.engine_world.proofs.objects.create_object.Goals as goal
 
 pub returns-clause-counted : goal.returns-clause-counted
@@ -17,7 +14,7 @@ returns-clause-counted c none =
     let a = agenda_of d e in
     let x = c.new-object.result in
     let empty : (o : ℕ) → in_object d o (Some x) ≡ 0 = λ o. ap (λ (y : Object). in_object d o (Some y)) c.new-object.ensures ∙ omega (arith, none o) in
-    keeps_by d e _ refl (λ g. subst (λ (ps : List Peer). AreGot d ps e.world.got_peers.items) (sym c.lend.ensures) (lent_got d e.world.seats c.args.peer c.in-Ok.id.0 e.world.got_peers.items c.requires.peer g)) refl (stays d e _ refl refl) (λ taken _ h.
+    keeps_by d e _ refl (λ g. g) refl (stays d e _ refl refl) (λ taken _ h.
     from_counted d taken c.float.new.table b a
     (c.in_ok-float.ensures.counted d (beside_of taken b a)
     (made_counted d taken (beside_of taken b a) e.world.table c.create.new.self x c.in-Ok.ensures.2 empty (to_counted d taken e.world.table b a h))))

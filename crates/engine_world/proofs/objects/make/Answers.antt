@@ -1,15 +1,17 @@
-use Rattle.std.proofs.Common.{◌≡◌, suc, false, Some, List, [], ◌∷◌, slice_get, length, string_bytes, rules, refl, sym, ap, arith, ◌∙◌}
+use Rattle.std.proofs.Common.{◌≡◌, ℕ, suc, false, Some, List, [], ◌∷◌, slice_get, length, string_bytes, rules, refl, sym, ap, arith, ◌∙◌}
 use Rattle.ui_machine.specs.Definition.Lookups.{type_of, specs_of}
 use Rattle.ui_machine.specs.Output.Lines as lines
 use Rattle.ui_machine.specs.Output.Text.{text_of_line}
 use Rattle.ui_machine.specs.Definition.Values.{Value}
-use Rattle.ui_machine.specs.State.Config.{starts}
+use Rattle.ui_machine.specs.State.Config.{Started, World, starts}
 use Rattle.ui_machine.specs.State.References.{in_values}
 use Rattle.ui_machine.specs.State.Tasks.{Constructing}
-use Rattle.ui_machine.specs.Rules.Construction.{with_object, new_object}
+use Rattle.ui_machine.specs.Outcome.{Answer}
+use Rattle.ui_machine.specs.Rules.Construction.{lent, with_object, new_object}
 use Rattle.definitions.specs.EntryView.{entry_view}
 use Rattle.instance_tables.specs.Store.{made_object}
 use Rattle.instance_tables.proofs.Created.{made_holds}
+use Rattle.engine_world.specs.NewObjects.{before_lent}
 use Rattle.engine_world.specs.View.{with_line, world_of}
 use Rattle.engine_world.proofs.Counts.{keeps_by, keeps_on, stays}
 use Rattle.engine_world.proofs.Building.{made_there, valid_defaults}
@@ -23,13 +25,16 @@ returns-clause-made c held =
     let place = entry_view c.in-Some.entry in
     let at : slice_get d.places c.args.place.0 ≡ Some place = sym c.in-Some.ensures in
     let concrete : (type_of d class).is_abstract ≡ false = search rules in
-    let id = c.in_ok-object.object.0 in
-    let object : world_of c.create_object.new.engine.world ≡ with_object d w (new_object d c.args.place.0 place c.args.peer) =
-    c.in_ok-object.ensures.world ∙ ap (λ (vs : List Value). with_object d w (made_object class c.args.place.0 vs c.args.peer)) c.in_ok-values.ensures in
+    let id = c.in_ok-object.object in
+    let o = new_object d c.args.place.0 place c.args.peer in
+    let object : world_of c.create_object.new.engine.world ≡ before_lent w (with_object d w o) =
+    c.in_ok-object.ensures.world ∙ ap (λ (vs : List Value). before_lent w (with_object d w (made_object class c.args.place.0 vs c.args.peer))) c.in_ok-values.ensures in
     let line : string_bytes c.in_ok-line.line ≡ text_of_line d.types (lines.construct (suc (length w.objects)) (type_of d class).name) = rw (c.class_name.ensures, c.in_ok-object.ensures.identity) at c.in_ok-line.ensures in
+    let begins : World → ℕ → List ℕ → Answer Started = λ v i text. starts (with_line text (record v { peers = lent c.args.peer i v.peers })) (Constructing id.0 c.in_ok-steps.steps held ∷ []) in
     made_there d c.types-types.ensures.basic w c.args.place.0 place at c.args.peer held concrete
-    ∙ sym (ap (λ v. starts (with_line (string_bytes c.in_ok-line.line) v) (Constructing id c.in_ok-steps.steps held ∷ [])) object
-    ∙ ap (λ text. starts (with_line text (with_object d w (new_object d c.args.place.0 place c.args.peer))) (Constructing id c.in_ok-steps.steps held ∷ [])) line
+    ∙ sym (ap (λ v. begins v id.0 (string_bytes c.in_ok-line.line)) object
+    ∙ ap (λ i. begins (before_lent w (with_object d w o)) i (string_bytes c.in_ok-line.line)) c.in_ok-object.ensures.identity
+    ∙ ap (λ text. begins (before_lent w (with_object d w o)) (suc (length w.objects)) text) line
     ∙ rw (c.in_ok-object.ensures.identity, c.in_ok-steps.ensures) refl)
 
 pub returns-clause-counted : goal.returns-clause-counted

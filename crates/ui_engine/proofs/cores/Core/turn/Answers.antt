@@ -12,7 +12,7 @@ use Rattle.engine_pools.specs.PoolView.{world_at}
 use Rattle.engine_pools.specs.Promises.{Rests}
 use Rattle.engine_pools.specs.TurnView.{TurnBegins, running_sources}
 use Rattle.ui_engine.specs.declared.faults.SessionFault.TheVariants as faults
-use Rattle.engine_pools.proofs.Points.{with_seen_is}
+use Rattle.engine_pools.proofs.Points.{seen_so}
 use Rattle.ui_engine.specs.SessionView.{AnswersBy, Comes, SessionState, state_at}
 use Rattle.ui_engine.proofs.Ending.{session_at}
 use Rattle.ui_engine.proofs.Served.{kept_as, knows_inside, turn_kept, turned_rests}
@@ -90,5 +90,5 @@ returns-in-Err-OutOfMemory-clause-answers g c =
     let view = c.self.view_is in
     let forwards = not_back m w.moment (λ less. cc (c.in-Err-OutOfMemory.ensures.clock_back.1 less, c.in-Err-OutOfMemory.is, c.in-Err-OutOfMemory.field-0-is)) in
     subst (λ (s : SessionState). AnswersBy may (refusal s.world (config.turn m)) (Err faults.OutOfMemory) (state_at pool s) (config.turn m) (state_at pool (session_at d now true))) view
-    (turn_stops may (state_at pool (session_at d w c.self.inside.stopped)) m forwards (state_at pool (session_at d now true)) (sym c.in-Err-OutOfMemory.ensures.quiet)
-    (with_seen_is pool w.peers ∙ sym (with_seen_is pool now.peers)) refl refl)
+    (turn_stops may (state_at pool (session_at d w c.self.inside.stopped)) m forwards (state_at pool (session_at d now true)) (sym c.in-Err-OutOfMemory.ensures.quiet.0)
+    (seen_so pool w.peers now.peers c.in-Err-OutOfMemory.ensures.quiet.1) refl refl)

@@ -1,0 +1,7 @@
+pub mod Alone
+pub mod Handling
+pub mod KeptSome
+pub mod KeptValues
+pub mod LooseValues
+pub mod Padding
+pub mod Streams

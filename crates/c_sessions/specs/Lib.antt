@@ -1,0 +1,9 @@
+pub mod Buffers
+pub mod Handles
+pub mod Held
+pub mod Nobody
+pub mod Places
+pub mod Starting
+pub mod Statuses
+pub mod Unread
+pub mod Verdicts

@@ -1,0 +1,25 @@
+//! Sessions for a host that is written in C: without peers, each held by a handle, with its lines as a stream of bytes.
+//!
+//! A [`HostedSession`] is a session, and how far its lines were taken. A [`SessionHandle`] is what C has of one: it holds the session, or
+//! none. The crate `ui_c` exports what can be done with a handle.
+#![tactic(auto)]
+
+mod buffers;
+mod dispatches;
+mod hosted_session;
+mod kept;
+mod loose;
+mod session_handle;
+mod starts;
+mod status;
+mod taken_lines;
+#[cfg(test)]
+mod tests;
+mod verdicts;
+
+pub use hosted_session::HostedSession;
+pub use kept::Kept;
+pub use session_handle::SessionHandle;
+pub use starts::{Started, start};
+pub use status::Status;
+pub use verdicts::verify;

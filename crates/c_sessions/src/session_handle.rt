@@ -1,0 +1,163 @@
+//! What C has of a session.
+
+ghost use Rattle.std.specs.Prelude.{◌≡◌, [], None, Some, length, option_map};
+ghost use Rattle.c_sessions.specs.Held.{is_kept};
+ghost use Rattle.c_sessions.specs.Handles.{Dispatches, FailsAs, KeepsAs, Starts, Takes};
+ghost use Rattle.c_sessions.specs.Buffers.{padded};
+
+use crate::buffers::write_padded;
+use crate::hosted_session::HostedSession;
+use crate::kept::Kept;
+use crate::starts::{Started, start};
+use crate::status::Status;
+use event_lines::LineFault;
+use std::alloc::Global;
+use std::mem;
+
+/// A session that C holds, or none. For C it is a struct of a truth value and an address, which it neither reads nor writes, but for the
+/// zero bytes with which one without a session begins.
+#[repr(C)]
+pub struct SessionHandle {
+    is_open: bool,
+    pub kept: Kept,
+    ghost agrees: { is_open ≡ is_kept kept.session },
+}
+
+impl SessionHandle {
+    /// A handle without a session.
+    pub fn closed() -> SessionHandle
+        ensures { result.kept.session ≡ None }
+    {
+        SessionHandle {
+            is_open: false,
+            kept: Kept::nothing(),
+        }
+    }
+
+    /// Starts a session from the bytes of a definition. A session that it had is given up. The handle has one then, also where the build
+    /// stopped, but not where the definition is refused, or no memory is found before the build. The refusal of a definition is written
+    /// as `write_padded` does; else the buffer is filled with zero bytes.
+    pub fn start(&mut self, alloc: Global, definition: &[u8], refusal: &mut [u8]) -> Status
+        ensures { Starts definition.now (length refusal.old) result self.new.kept.session refusal.new }
+    {
+        drop(self.take(alloc));
+        match start(alloc, definition) {
+            Started::Built(session) => {
+                write_padded(refusal, b"");
+                self.keep(alloc, session, Status::Done)
+            }
+            Started::Stopped(session) => {
+                write_padded(refusal, b"");
+                self.keep(alloc, session, Status::Stopped)
+            }
+            Started::Refused(text) => {
+                write_padded(refusal, text.as_bytes());
+                Status::DefinitionRefused
+            }
+            Started::Unbegun => {
+                write_padded(refusal, b"");
+                Status::Stopped
+            }
+        }
+    }
+
+    /// Has the session carry out an event line. The name of a refusal is written as `write_padded` does; else the buffer is filled with
+    /// zero bytes.
+    pub fn dispatch(&mut self, alloc: Global, line: &[u8], refusal: &mut [u8]) -> Status
+        ensures { Dispatches line.now (length refusal.old) self.old.kept.session result self.new.kept.session refusal.new }
+    {
+        let Some(mut session) = self.take(alloc) else {
+            write_padded(refusal, b"");
+            return Status::NoSession;
+        };
+        let outcome = session.dispatch_line(alloc, line);
+        self.put(alloc, session);
+        match outcome {
+            Ok(()) => {
+                write_padded(refusal, b"");
+                Status::Done
+            }
+            Err(fault) => report(fault, refusal),
+        }
+    }
+
+    /// Takes bytes of the session's lines, as `HostedSession::take_lines`, and answers how many. A handle without a session has none.
+    pub fn take_lines(&mut self, alloc: Global, out: &mut [u8]) -> usize
+        ensures { Takes out.old self.old.kept.session result self.new.kept.session out.new }
+    {
+        let Some(mut session) = self.take(alloc) else {
+            return 0;
+        };
+        let count = session.take_lines(out);
+        self.put(alloc, session);
+        count
+    }
+
+    /// Ends the session and frees it, if there is one.
+    pub fn finish(&mut self, alloc: Global)
+        ensures { self.new.kept.session ≡ None }
+    {
+        drop(self.take(alloc));
+    }
+
+    // Keeps a session that has started with this status, if there is memory for it.
+    fn keep(&mut self, alloc: Global, session: HostedSession, status: Status) -> Status
+        requires { self.now.kept.session ≡ None }
+        ensures { KeepsAs session status result self.new.kept.session }
+    {
+        let Ok(session) = Box::new(alloc, session) else {
+            return Status::Stopped;
+        };
+        self.put(alloc, session);
+        status
+    }
+
+    // Takes the session out, if there is one.
+    fn take(&mut self, alloc: Global) -> Option<Box<HostedSession>>
+        ensures taken { option_map (λ session. session.value) result ≡ self.old.kept.session }
+        ensures closed { self.new.kept.session ≡ None }
+    {
+        let taken = mem::replace(self, SessionHandle::closed());
+        taken.into_session(alloc)
+    }
+
+    // Puts a session in. One that it had is given up.
+    fn put(&mut self, alloc: Global, session: Box<HostedSession>)
+        ensures { self.new.kept.session ≡ Some session.value }
+    {
+        let open = SessionHandle {
+            is_open: true,
+            kept: Kept::of(session),
+        };
+        let before = mem::replace(self, open);
+        drop(before.into_session(alloc));
+    }
+
+    /// The session, if there is one. A handle of which a program in Rattle lets go is taken apart by this.
+    pub fn into_session(self, alloc: Global) -> Option<Box<HostedSession>>
+        ensures { option_map (λ session. session.value) result ≡ self.kept.session }
+    {
+        let SessionHandle { is_open, kept } = self;
+        if is_open {
+            return Some(kept.into_box(alloc));
+        }
+        kept.discard();
+        None
+    }
+}
+
+// Writes the name of the refusal of a line, if that is why it was not carried out.
+fn report(fault: LineFault, refusal: &mut [u8]) -> Status
+    ensures { FailsAs fault (length refusal.old) result refusal.new }
+{
+    match fault {
+        LineFault::Refused(why) => {
+            write_padded(refusal, why.name().as_bytes());
+            Status::LineRefused
+        }
+        LineFault::Stopped => {
+            write_padded(refusal, b"");
+            Status::Stopped
+        }
+    }
+}

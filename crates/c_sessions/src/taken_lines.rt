@@ -1,0 +1,59 @@
+//! Lines that are taken of a session as a stream of bytes.
+
+ghost use Rattle.std.specs.Prelude.{◌≡◌, ◌++◌, [], ◌∷◌, IfNone, IfSome, drop, length, min, take};
+ghost use Rattle.ui_engine.specs.SessionView.{without_lines};
+ghost use Rattle.c_sessions.specs.Unread.{unread};
+
+use crate::hosted_session::HostedSession;
+
+impl HostedSession {
+    /// Takes bytes of the lines that were said, each line with its LF, from where the last call ended, and answers how many: as many as
+    /// there is room for, or all that are left. The rest of the buffer stays as it is. Lines of which all was taken are given up.
+    pub fn take_lines(&mut self, out: &mut [u8]) -> usize
+        ensures count { result ≡ min (length out.old) (length (unread self.old)) }
+        ensures bytes { out.new ≡ take result (unread self.old) ++ drop result out.old }
+        ensures left { unread self.new ≡ drop result (unread self.old) }
+        ensures session { without_lines self.new.core ≡ without_lines self.old.core }
+    {
+        'room: for place in 0..out.len() {
+            let Some(byte) = self.next_byte() else {
+                self.forget();
+                return place;
+            };
+            out[place] = byte;
+        }
+        out.len()
+    }
+
+    // The next byte of the lines, if one is left.
+    fn next_byte(&mut self) -> Option<u8>
+        ensures byte { IfSome result (λ byte. unread self.old ≡ byte ∷ unread self.new) }
+        ensures none { IfNone result ((unread self.old ≡ []) × (self.new ≡ self.old)) }
+        ensures core { self.new.core ≡ self.old.core }
+    {
+        let line = self.core.transcript().get(self.line)?.as_bytes();
+        match line.get(self.byte) {
+            Some(byte) => {
+                let byte = *byte;
+                self.byte += 1;
+                Some(byte)
+            }
+            None => {
+                self.line += 1;
+                self.byte = 0;
+                Some(b'\n')
+            }
+        }
+    }
+
+    // Gives up the lines, of which all was taken.
+    fn forget(&mut self)
+        requires { unread self.now ≡ [] }
+        ensures unread { unread self.new ≡ [] }
+        ensures core { self.new.core ≡ without_lines self.old.core }
+    {
+        self.core.forget();
+        self.line = 0;
+        self.byte = 0;
+    }
+}

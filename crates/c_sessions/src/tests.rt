@@ -1,0 +1,55 @@
+//! A session is started, hears lines, and gives out its own through buffers of any size.
+
+use crate::{SessionHandle, Status, verify};
+
+const DEFINITION: &str =
+    "{\"format\":1,\"classes\":[{\"name\":\"Box\",\"properties\":[{\"name\":\"n\",\"kind\":\"int\"}]}],\
+    \"objects\":[{\"id\":\"b\",\"class\":\"Box\"}]}";
+
+#[test]
+fn lines_come_in_pieces(rt: HostRuntime) {
+    let alloc = rt.alloc();
+    let mut ui = SessionHandle::closed();
+    let mut refusal = [1; 12];
+    let status = ui.start(alloc, DEFINITION.as_bytes(), &mut refusal);
+    assert!(rt; status == Status::Done);
+    assert!(rt; refusal == [0; 12]);
+    let mut piece = [b'.'; 8];
+    let count = ui.take_lines(alloc, &mut piece);
+    assert!(rt; count == 8 && &piece == b"build\nco");
+    let status = ui.dispatch(alloc, b"{\"set\":[\"b\",\"n\",5]}", &mut refusal);
+    assert!(rt; status == Status::Done);
+    let mut rest = [b'.'; 64];
+    let count = ui.take_lines(alloc, &mut rest);
+    assert_eq!(rt;
+        &rest[..count],
+        b"nstruct #1 Box\nend 0\nset #1.n 5\nnotify #1.n\nend 1\n".as_slice()
+    );
+    assert!(rt; ui.take_lines(alloc, &mut rest) == 0);
+    let status = ui.dispatch(alloc, b"{\"set\":[\"b\",\"m\",5]}", &mut refusal);
+    assert!(rt; status == Status::LineRefused && &refusal == b"Unknown\0\0\0\0\0");
+    ui.finish(alloc);
+    let status = ui.dispatch(alloc, b"{\"get\":[\"b\",\"n\"]}", &mut refusal);
+    assert!(rt; status == Status::NoSession && refusal == [0; 12]);
+    drop(ui.into_session(alloc));
+}
+
+#[test]
+fn a_definition_is_refused(rt: HostRuntime) {
+    let alloc = rt.alloc();
+    let mut ui = SessionHandle::closed();
+    let mut refusal = [1; 8];
+    let status = ui.start(alloc, b"{", &mut refusal);
+    assert!(rt; status == Status::DefinitionRefused && &refusal == b"NotJson\0");
+    drop(ui.into_session(alloc));
+}
+
+#[test]
+fn a_definition_is_verified(rt: HostRuntime) {
+    let alloc = rt.alloc();
+    let mut report = [1; 512];
+    assert!(rt; verify(alloc, DEFINITION.as_bytes(), &mut report) == Status::Done);
+    assert!(rt; report.starts_with(b"depth 1\n") && report[511] == 0);
+    assert!(rt; verify(alloc, b"{", &mut report) == Status::DefinitionRefused);
+    assert!(rt; report.starts_with(b"refused: NotJson\n\0"));
+}

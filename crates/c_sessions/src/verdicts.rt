@@ -1,0 +1,32 @@
+//! The verdict on a definition, for a host in C.
+
+ghost use Rattle.std.specs.Prelude.{◌≡◌, length};
+ghost use Rattle.c_sessions.specs.Verdicts.{Verifies, status_of_check};
+
+use crate::buffers::write_padded;
+use crate::status::Status;
+use event_lines::{Counted, check};
+use std::alloc::Global;
+use ui_machine::Device;
+
+/// Judges a definition, and writes its report, or the one line of its refusal, as `write_padded` does: what `ui verify` prints. Nothing is
+/// run. Where no memory is found, a front of the text is written.
+pub fn verify(alloc: Global, definition: &[u8], report: &mut [u8]) -> Status
+    ensures { Verifies definition.now (length report.old) result report.new }
+{
+    let mut writer = Counted::new(Device::new(Vec::new(alloc)));
+    let code = check(alloc, definition, &mut writer);
+    write_padded(report, writer.device.inner.as_slice());
+    status_of(code)
+}
+
+// The status of a check that ended with this number.
+fn status_of(code: u8) -> Status
+    ensures { result ≡ status_of_check code }
+{
+    match code {
+        0 => Status::Done,
+        1 => Status::DefinitionRefused,
+        _ => Status::Stopped,
+    }
+}
