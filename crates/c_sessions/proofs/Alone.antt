@@ -25,7 +25,7 @@ use Rattle.event_lines.specs.OpeningView.{IsOpening}
 use Rattle.event_lines.specs.Texts.{lines_text}
 use Rattle.event_lines.specs.declared.opening.Opening.TheVariants as code
 use Rattle.event_lines.proofs.Befores.{event_before}
-use Rattle.event_lines.proofs.EventLemmas.{halted, said_event}
+use Rattle.c_sessions.proofs.Heard.{halted, said_event}
 use Rattle.c_sessions.specs.Nobody.{alone, nobody}
 use Rattle.c_sessions.specs.Starting.{IsBuilt, IsRefused, IsStopped}
 use Rattle.c_sessions.specs.Unread.{lines_since, unread}

@@ -1,3 +1,4 @@
+pub mod Heard
 pub mod Alone
 pub mod Handling
 pub mod KeptSome

@@ -36,8 +36,8 @@ use Rattle.engine_pools.proofs.Apt.{asks_on}
 
 module _ (d : Definition) where
   -- the lines do not matter
-  pub without_lines_rests : (w : World) → Rests d w → Rests d (record w { transcript = [] })
-  without_lines_rests w rests a =
+  pub other_lines_rest : (w : World) (lines : List (List ℕ)) → Rests d w → Rests d (record w { transcript = lines })
+  other_lines_rest w lines rests a =
       let r = rests a in
       record {
         objects = λ id o e. (let g = r.objects id o e in record {
@@ -61,6 +61,9 @@ module _ (d : Definition) where
         thawed = r.thawed;
         few = r.few;
       }
+
+  pub without_lines_rests : (w : World) → Rests d w → Rests d (record w { transcript = [] })
+  without_lines_rests w rests = other_lines_rest w [] rests
 
   -- a dispatch leaves the world at rest
   rests_by : (c : Config) → ((a : Accepted d) → (e : Entry) × Keeps d a e c) → (replies : List Reply) → Each (Fits d) replies → (count : ℕ) (new : World)
@@ -132,7 +135,7 @@ module _ (d : Definition) where
     pub turn_rests : (w : World) (moment : ℕ) → Rests d w → Rests d (turned d w moment)
     turn_rests w moment rests a = turns steps_keep_good d well a w moment (rests a)
 
-    runs_rest : (a : Accepted d) (numbers : List ℕ) (replies : List Reply) → Each (Fits d) replies → (w : World) (tally : Tally) (new : World) → IsResting d a w
+    pub runs_rest : (a : Accepted d) (numbers : List ℕ) (replies : List Reply) → Each (Fits d) replies → (w : World) (tally : Tally) (new : World) → IsResting d a w
         → RunsSources d numbers replies w tally new → IsResting d a new
     runs_rest a [] replies fit w tally new rests run = subst (IsResting d a) run.same rests
     runs_rest a (number ∷ more) replies fit w tally new rests run =

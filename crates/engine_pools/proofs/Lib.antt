@@ -23,3 +23,5 @@ pub mod LeftClosings
 pub mod Stepping
 pub mod Turning
 pub mod StepProofs
+pub mod Fronting
+pub mod UnderWay

@@ -237,7 +237,7 @@ module _ (d : Definition) where
     };
   }
 
-  halting_on : {may : Relations} {first later : List Reply} {c m : Config} {left : List Peer} {shown : List (List ℕ)} → Reaches d first c m → Halting d may later m left shown
+  pub halting_on : {may : Relations} {first later : List Reply} {c m : Config} {left : List Peer} {shown : List (List ℕ)} → Reaches d first c m → Halting d may later m left shown
       → Halting d may (first ++ later) c left shown
   halting_on r h = record {
     halts = record { at = h.halts.at; reached = reaches_on d r h.halts.reached; stops = h.halts.stops; lines = h.halts.lines };

@@ -1,5 +1,5 @@
 -- What a step of the engine beside its pool comes to: it answers a due call, or asks no peer and closes what was left as closed.
-use Rattle.std.proofs.Common.{◌≡◌, ◌<◌, refl, ap, sym, subst, ◌∙◌, ℕ, suc, Bool, List, Option, Some, Ok}
+use Rattle.std.proofs.Common.{◌≡◌, ◌<◌, refl, ap, sym, subst, ◌∙◌, ℕ, suc, Bool, false, List, Option, Some, Ok}
 use Rattle.ui_machine.specs.Definition.{Definition}
 use Rattle.ui_machine.specs.Instructions.Peers.{calling_on}
 use Rattle.ui_machine.specs.Prefix.{IsPrefix}
@@ -16,6 +16,7 @@ use Rattle.engine_world.specs.declared.engine.StepKind.TheVariants as mades
 use Rattle.engine_world.specs.declared.task.DueCall.{DueCall}
 use Rattle.engine_world.proofs.Floats.{if_ok_at}
 use Rattle.engine_pools.specs.CallPoints.{Concludes, calling_view}
+use Rattle.engine_pools.specs.Courses.{RanFor}
 use Rattle.engine_pools.specs.Following.{Breaks, Follows, Point}
 use Rattle.engine_pools.specs.PoolView.{Knows, closed_in, due}
 use Rattle.engine_pools.specs.QuietSteps.{LeavesKnown, QuietlyStepped}
@@ -85,3 +86,10 @@ advanced_as d may p q same a = subst (λ (x : Bool). Advanced (Ok x) d may p q) 
 -- a count that was still to be had, since it is the one at the beginning
 pub counts_so : {now old new : ℕ} → now ≡ old → (now < most_steps) × (new ≡ suc now) → (old < most_steps) × (new ≡ suc old)
 counts_so same counts = (rw same at counts.0, rw same at counts.1)
+
+-- no step is left
+pub nothing_left : (d : Definition) {may : Relations} {o p q : Point} → Stepped (Ok mades.Nothing) d may p q → Follows d may o p → p.view.counted ≡ o.view.counted → Advanced (Ok false) d may o q
+nothing_left d {may} {o} {p} {q} s follows counted = subst (λ (x : Point). Advanced (Ok false) d may o x) (sym s.1) (follows, s.0, counted)
+
+pub ran_as : (d : Definition) (may : Relations) (p q : Point) {o x : Option ℕ} → o ≡ x → RanFor (Ok o) d may p q → RanFor (Ok x) d may p q
+ran_as d may p q same r = subst (λ (y : Option ℕ). RanFor (Ok y) d may p q) same r

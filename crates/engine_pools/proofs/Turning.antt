@@ -1,9 +1,9 @@
 -- Sources that run one after the other, and how a turn of them ends.
-use Rattle.std.proofs.Common.{◌≡◌, ◌<◌, ◌+◌, ℕ, Bool, true, false, cond, nat_eq, List, [], ◌∷◌, ◌++◌, length, option_map, is_some, Option, None, Some, Ok, refl, sym, ap, subst, ◌∙◌, append_assoc, append-nil, length-append, arith}
+use Rattle.std.proofs.Common.{◌≡◌, ◌<◌, ◌+◌, ℕ, Bool, true, false, cond, nat_eq, List, [], ◌∷◌, ◌++◌, length, option_map, is_some, Option, None, Some, refl, sym, ap, subst, ◌∙◌, append_assoc, append-nil, length-append, arith}
 use Rattle.std.specs.Option.{option_or}
 use Rattle.std.proofs.lemmas.Bool.Decides.{nat_tests}
 use Rattle.ui_machine.specs.Definition.{Definition}
-use Rattle.ui_machine.specs.Runs.{Dispatches, RunsSource, RunsSources, Tally, beginning, no_dispatch, one_dispatch, tallied}
+use Rattle.ui_machine.specs.Runs.{RunsSource, RunsSources, Tally, no_dispatch, tallied}
 use Rattle.ui_machine.specs.State.Peers as peers
 use Rattle.ui_machine.specs.Seq.{total}
 use Rattle.ui_machine.specs.State.Config.{World}
@@ -12,25 +12,9 @@ use Rattle.engine_world.specs.declared.engine.Engine.{Engine}
 use Rattle.engine_world.proofs.Counts.{stays}
 use Rattle.engine_pools.specs.Dispatched.{IsAtRest}
 use Rattle.ui_machine.specs.State.Sources.{Source, source_of}
-use Rattle.ui_machine.specs.State.Tasks as tasks
-use Rattle.g_values.specs.View.{value_view}
 use Rattle.main_context.specs.Dues.{due_of}
 use Rattle.main_context.specs.declared.source.Due.{Due}
 use Rattle.main_context.specs.Attached.{next_source, numbers_after}
-use Rattle.native_peers.specs.Seen.{Relations, Seen}
-use Rattle.engine_pools.specs.declared.dispatches.Reply.{Reply}
-use Rattle.engine_pools.specs.Following.{Halting}
-use Rattle.engine_pools.specs.PoolView.{GivenBy, Replied}
-use Rattle.engine_pools.specs.TurnView.{RunSoFar, SourceBreaksOff}
-use Rattle.engine_pools.specs.Ways.{tally_of}
-use Rattle.law_typing.specs.Laws.WellRead.{WellRead}
-use Rattle.law_typing.specs.Verdict.Accepted.{Accepted}
-use Rattle.native_peers.specs.Seen.{SameRelations}
-use Rattle.engine_pools.specs.Dispatched.{Carried}
-use Rattle.engine_pools.specs.Promises.{Rests}
-use Rattle.engine_pools.specs.Safety.{IsSafe}
-use Rattle.engine_pools.proofs.Keeping.{source_rests, source_safe}
-use Rattle.engine_pools.proofs.Points.{each_both, fitting, halting_before, replied_before}
 
 -- ** runs of sources
 
@@ -58,7 +42,7 @@ module _ (d : Definition) where
       plus : (n : ℕ) → n + 0 ≡ n
       plus n = omega arith
 
-  none_first : (t : Tally) → tallied no_dispatch t ≡ t
+  pub none_first : (t : Tally) → tallied no_dispatch t ≡ t
   none_first t = rw (plus t.dispatches, plus t.steps) refl
     where
       plus : (n : ℕ) → 0 + n ≡ n
@@ -168,89 +152,6 @@ fewer_after sources numbers s n =
     let split : length (n.skipped ++ s.number ∷ numbers_after sources numbers) ≡ length n.skipped + length (s.number ∷ numbers_after sources numbers) =
     length-append n.skipped (s.number ∷ numbers_after sources numbers) in
     omega (arith, parts, split)
-
-module _ (d : Definition) (may : Relations) (numbers left : List ℕ) (w v : World) (reply : Reply) (so : RunSoFar d may numbers left w reply v) where
-  -- those that are passed over
-  past : (s : Source) (n : NextIs v.sources left s) → RunsSources d (so.done ++ n.skipped) so.replies w (tally_of reply) v
-  past s n = runs_past d n.skipped so.done so.replies w v (tally_of reply) n.absent so.runs
-
-  parted : (s : Source) (n : NextIs v.sources left s) → numbers ≡ (so.done ++ n.skipped) ++ s.number ∷ numbers_after v.sources left
-  parted s n = so.parts ∙ ap (λ (ns : List ℕ). so.done ++ ns) n.parts ∙ sym (append_assoc so.done n.skipped (s.number ∷ numbers_after v.sources left))
-
-  -- the next one runs
-  pub next_runs : (s : Source) → NextIs v.sources left s → (one new : Reply) (u : World) → Replied may (λ replies. Dispatches d replies (beginning v (tasks.Due s.number)) one.steps u)
-      → option_map value_view new.result ≡ u.result → new.dispatches ≡ reply.dispatches + 1 → new.steps ≡ reply.steps + one.steps
-      → RunSoFar d may numbers (numbers_after v.sources left) w new u
-  next_runs s n one new u dispatches value more steps = record {
-    done = (so.done ++ n.skipped) ++ s.number ∷ [];
-    parts = parted s n ∙ sym (append_assoc (so.done ++ n.skipped) (s.number ∷ []) (numbers_after v.sources left));
-    replies = so.replies ++ dispatches.replies;
-    given = each_both (GivenBy may) so.replies dispatches.replies so.given dispatches.given;
-    runs =
-        subst (λ (t : Tally). RunsSources d ((so.done ++ n.skipped) ++ s.number ∷ []) (so.replies ++ dispatches.replies) w t u) tallies
-        (runs_more d (so.done ++ n.skipped) s.number so.replies dispatches.replies w v u (tally_of reply) (one_dispatch one.steps) (past s n) runs_one);
-    value = value;
-  }
-    where
-      tallies : tallied (tally_of reply) (one_dispatch one.steps) ≡ tally_of new
-      tallies = rw (more, steps) refl
-
-      runs_one : RunsSource d s.number (source_of s.number v.sources) dispatches.replies v (one_dispatch one.steps) u
-      runs_one = rw n.there (record { steps = one.steps; counts = refl; dispatches = dispatches.so })
-
-  -- or halts
-  pub next_breaks_off : (s : Source) → NextIs v.sources left s → (left_peers : List peers.Peer) (shown : List (List ℕ))
-      → Replied may (λ replies. Halting d may replies (beginning v (tasks.Due s.number)) left_peers shown) → Replied may (λ replies. SourceBreaksOff d may numbers replies w left_peers shown)
-  next_breaks_off s n left_peers shown h = record {
-    replies = so.replies ++ h.replies;
-    given = each_both (GivenBy may) so.replies h.replies so.given h.given;
-    so = record {
-      done = so.done ++ n.skipped;
-      number = s.number;
-      more = numbers_after v.sources left;
-      sources = parted s n;
-      first = so.replies;
-      later = h.replies;
-      replied = refl;
-      mid = v;
-      tally = tally_of reply;
-      runs = past s n;
-      stands = rw n.there refl;
-      breaks_off = h.so;
-    };
-  }
-
-  -- where none is next, all have run
-  pub all_ran : next_source v.sources left ≡ None → Replied may (λ replies. RunsSources d numbers replies w (tally_of reply) v)
-  all_ran none = record {
-    replies = so.replies;
-    given = so.given;
-    so =
-        subst (λ (ns : List ℕ). RunsSources d ns so.replies w (tally_of reply) v) (sym so.parts)
-        (runs_past d left so.done so.replies w v (tally_of reply) (none_is v.sources left none).0 so.runs);
-  }
-
-  -- so it is where the dispatch is by relations that are the same
-  module _ (later : Relations) (same : SameRelations may later) (s : Source) (n : NextIs v.sources left s) (number : ℕ) (is : s.number ≡ number) where
-    pub later_runs : (more : List ℕ) → more ≡ numbers_after v.sources left → (one : Reply) (u : World) → Carried (Ok one) d later (beginning v (tasks.Due number)) u
-        → RunSoFar d may numbers more w (record { result = one.result; dispatches = reply.dispatches + 1; steps = reply.steps + one.steps }) u
-    later_runs more after one u carried =
-        subst (λ (ns : List ℕ). RunSoFar d may numbers ns w (record { result = one.result; dispatches = reply.dispatches + 1; steps = reply.steps + one.steps }) u) (sym after)
-        (next_runs s n one _ u (replied_before same (λ replies x. subst (λ k. Dispatches d replies (beginning v (tasks.Due k)) one.steps u) (sym is) x) carried.0) carried.1 refl refl)
-
-    pub later_breaks_off : (left_peers : List peers.Peer) (shown : List (List ℕ)) → Replied later (λ replies. Halting d later replies (beginning v (tasks.Due number)) left_peers shown)
-        → Replied may (λ replies. SourceBreaksOff d may numbers replies w left_peers shown)
-    later_breaks_off left_peers shown h =
-        next_breaks_off s n left_peers shown (replied_before same (λ replies x. subst (λ k. Halting d may replies (beginning v (tasks.Due k)) left_peers shown) (sym is) (halting_before d same x)) h)
-
-    module _ (well : WellRead d) (rests : Rests d v) where
-      pub later_safe : Accepted d → IsSafe d (beginning v (tasks.Due number))
-      later_safe a = subst (λ k. IsSafe d (beginning v (tasks.Due k))) is (source_safe d well v rests s.number s n.there a)
-
-      pub later_rests : (one : Reply) (u : World) → Carried (Ok one) d later (beginning v (tasks.Due number)) u → Rests d u
-      later_rests one u carried =
-          source_rests d well v rests s.number s n.there carried.0.replies (fitting d later carried.0.replies carried.0.given) one.steps u
-          (subst (λ k. Dispatches d carried.0.replies (beginning v (tasks.Due k)) one.steps u) (sym is) carried.0.so)
 
 -- ** how a turn begins
 

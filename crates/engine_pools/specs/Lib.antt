@@ -10,3 +10,4 @@ pub mod CallPoints
 pub mod Dispatched
 pub mod Ways
 pub mod TurnView
+pub mod Courses

@@ -26,7 +26,7 @@ Stepped (Err _) d may p q = IsCutOff d may p q
 -- steps up to a counted one, or to the end
 abbrev pub Advanced : Result Bool AllocError → Definition → Relations → Point → Point → Type 0
 Advanced (Ok true) d may p q = Follows d may p q × (p.view.counted < most_steps) × (q.view.counted ≡ suc p.view.counted)
-Advanced (Ok false) d may p q = Follows d may p q × HasEnded d q.view
+Advanced (Ok false) d may p q = Follows d may p q × HasEnded d q.view × (q.view.counted ≡ p.view.counted)
 Advanced (Err _) d may p q = IsCutOff d may p q
 
 -- all steps

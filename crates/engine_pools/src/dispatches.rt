@@ -13,6 +13,7 @@ ghost use Rattle.ui_machine.specs.Prefix.{IsPrefix};
 ghost use Rattle.native_peers.specs.Pool.{entries, relations, seen};
 ghost use Rattle.native_peers.specs.Seen.{SameRelations};
 ghost use Rattle.engine_world.specs.Counting.{KeepsCounts};
+ghost use Rattle.engine_pools.specs.Courses.{nothing_yet};
 ghost use Rattle.engine_pools.specs.Dispatched.{Carried, EndsBy, IsAtRest};
 ghost use Rattle.engine_pools.specs.PoolView.{Knows, world_at};
 ghost use Rattle.engine_pools.specs.Safety.{IsSafe};
@@ -38,8 +39,25 @@ pub struct Reply {
     pub steps: u64,
 }
 
-// The task is all there is to do, and nothing of its dispatch is counted yet.
-fn begin_dispatch(
+impl Reply {
+    /// What no dispatch has led to.
+    pub fn none() -> Reply
+        ensures { result ≡ nothing_yet }
+    {
+        Reply {
+            result: None,
+            dispatches: 0,
+            steps: 0,
+        }
+    }
+}
+
+/// Begins a dispatch: the task is all there is to do, and nothing is counted yet.
+///
+/// # Errors
+///
+/// `AllocError` if no memory is found.
+pub fn begin_dispatch(
     engine: &mut Engine,
     definition: &Definition,
     task: Task,
@@ -88,8 +106,15 @@ pub fn dispatch(
     end_dispatch(engine, definition)
 }
 
-// Says the line of a dispatch's end, and answers what it led to.
-fn end_dispatch(engine: &mut Engine, definition: &Definition) -> Result<Reply, AllocError>
+/// Says the line of a dispatch's end, and answers what it led to.
+///
+/// # Errors
+///
+/// `AllocError` if no memory is found.
+pub(crate) fn end_dispatch(
+    engine: &mut Engine,
+    definition: &Definition,
+) -> Result<Reply, AllocError>
     requires rests { IsAtRest definition.now engine.now }
     ensures rests { OnOk result (IsAtRest definition.now engine.new) }
     ensures says { IfOk result (λ reply. EndsBy reply definition.now (config_of definition.now engine.old) (world_of engine.new.world)) }

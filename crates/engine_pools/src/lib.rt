@@ -7,6 +7,7 @@
 
 mod boxes;
 mod calls;
+mod courses;
 mod dispatches;
 mod program_steps;
 mod quiet_steps;
@@ -14,5 +15,6 @@ mod runs;
 mod tasks;
 mod turns;
 
-pub use dispatches::{Reply, dispatch};
-pub use turns::{begin_turn, run_sources};
+pub use courses::{Course, Progress, advance, begin_next};
+pub use dispatches::{Reply, begin_dispatch, dispatch};
+pub use turns::begin_turn;

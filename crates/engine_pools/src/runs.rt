@@ -1,6 +1,6 @@
 //! Runs: steps until nothing is left to do.
 
-ghost use Rattle.std.specs.Prelude.{◌≡◌, ◌≤◌, OnOk};
+ghost use Rattle.std.specs.Prelude.{◌≡◌, ◌≤◌, ◌+◌, IfOk, OnOk};
 ghost use Rattle.ui_machine.specs.Prefix.{IsPrefix};
 ghost use Rattle.ui_machine.specs.Steps.{most_steps};
 ghost use Rattle.native_peers.specs.Pool.{entries, relations, seen};
@@ -8,6 +8,7 @@ ghost use Rattle.native_peers.specs.Seen.{SameRelations};
 ghost use Rattle.engine_world.specs.Counting.{Counts, nothing};
 ghost use Rattle.engine_world.specs.View.{world_of};
 ghost use Rattle.engine_pools.specs.CallPoints.{point_of};
+ghost use Rattle.engine_pools.specs.Courses.{RanFor, steps_left};
 ghost use Rattle.engine_pools.specs.Safety.{ComesOfSafe};
 ghost use Rattle.engine_pools.specs.Stepped.{Advanced, Ran, Stepped};
 
@@ -92,4 +93,36 @@ pub(crate) fn run(
             return Ok(());
         }
     }
+}
+
+/// Makes at most so many counted steps. Where none is left to make before that, answers how many more it would have made. No run of the
+/// machine from there may be stuck.
+///
+/// # Errors
+///
+/// `AllocError` if no memory is found.
+pub(crate) fn run_for(
+    engine: &mut Engine,
+    definition: &Definition,
+    pool: &mut PeerPool,
+    most: u64,
+) -> Result<Option<u64>, AllocError>
+    requires safe { ComesOfSafe definition.now (point_of definition.now (seen (λ p. (⟦<dyn Peer as Peer>⟧ p.peer.vtable).state p.peer.value) (entries pool.now)) engine.now) }
+    requires counted { Counts definition.now nothing engine.now }
+    ensures counted { OnOk result (Counts definition.now nothing engine.new) }
+    ensures ran { RanFor result definition.now (relations (λ p. (⟦<dyn Peer as Peer>⟧ p.peer.vtable).moves p.peer.value) (entries pool.old))
+        (point_of definition.now (seen (λ p. (⟦<dyn Peer as Peer>⟧ p.peer.vtable).state p.peer.value) (entries pool.old)) engine.old) (point_of definition.now (seen (λ p. (⟦<dyn Peer as Peer>⟧ p.peer.vtable).state p.peer.value) (entries pool.new)) engine.new) }
+    ensures made { IfOk result (λ left. engine.new.counted + steps_left left ≡ engine.old.counted + most) }
+    ensures few { OnOk result (engine.old.counted ≤ most_steps → engine.new.counted ≤ most_steps) }
+    ensures same { SameRelations (relations (λ p. (⟦<dyn Peer as Peer>⟧ p.peer.vtable).moves p.peer.value) (entries pool.old)) (relations (λ p. (⟦<dyn Peer as Peer>⟧ p.peer.vtable).moves p.peer.value) (entries pool.new)) }
+    ensures grows { IsPrefix (world_of engine.old.world).transcript (world_of engine.new.world).transcript }
+{
+    let mut left = most;
+    'steps: while left > 0 {
+        if !advance(engine, definition, pool)? {
+            return Ok(Some(left));
+        }
+        left -= 1;
+    }
+    Ok(None)
 }

@@ -1,30 +1,14 @@
 -- What a session's peers may do stays as it is from line to line.
 use Rattle.std.proofs.Common.{ℕ, ◌+◌, Bool, List, [], ◌∷◌, Option, inl, inr}
-use Rattle.ui_machine.specs.Definition.{Definition}
-use Rattle.ui_machine.specs.declared.arm.Halt.TheVariants as halts
-use Rattle.ui_machine.specs.Runs.{HaltsIn, at_a_source, at_its_beginning}
-use Rattle.ui_machine.specs.State.Config.{World}
-use Rattle.ui_machine.specs.State.Peers.{Peer, Reply}
-use Rattle.ui_machine.specs.State.Tasks.{Event}
-use Rattle.ui_machine.specs.State.Tasks as config
 use Rattle.native_peers.specs.Seen.{Relations, SameRelations}
-use Rattle.engine_pools.specs.Ways.{CutOff, EventLeaves}
-use Rattle.engine_pools.proofs.Points.{left_before, replied_before}
+use Rattle.engine_pools.proofs.Points.{replied_before}
+use Rattle.engine_pools.proofs.UnderWay.{cut_before}
 use Rattle.ui_engine.specs.SessionView.{SessionState, without_lines}
 use Rattle.event_lines.specs.EventFileRun as file_run
 use Rattle.event_lines.specs.EventFileRun.{EventFileRun, LineComesTo, LinesComeTo, LineSort, Meets, Outcome, said, refused, cut_off, stopped, too_many, too_long, skipped, sort_of_line}
 use Rattle.event_lines.specs.Events.{event_replies}
 
 module _ {may later : Relations} (same : SameRelations may later) where
-  leaves_before : (d : Definition) (event : Event) (replies : List Reply) (w : World) (shown : List (List ℕ)) (h : HaltsIn d event replies w halts.OutOfMemory shown) (left : List Peer)
-      → EventLeaves d later event replies w shown h left → EventLeaves d may event replies w shown h left
-  leaves_before d (config.request r) replies w shown h peers leaves = left_before d same leaves
-  leaves_before d (config.turn moment) replies w shown (at_its_beginning stops) peers leaves = leaves
-  leaves_before d (config.turn moment) replies w shown (at_a_source h) peers leaves = left_before d same leaves
-
-  pub cut_before : {d : Definition} {event : Event} {replies : List Reply} {w : World} {left : List Peer} {shown : List (List ℕ)} → CutOff d later event replies w left shown → CutOff d may event replies w left shown
-  cut_before {d} {event} {replies} {w} {left} {shown} cut = record { halts = cut.halts; leaves = leaves_before d event replies w shown cut.halts left cut.leaves }
-
   -- what a session answers
   pub event_before : (old new : SessionState) (line : List ℕ) (outcome : Outcome) → event_replies later old line outcome new → event_replies may old line outcome new
   event_before old new line (said lines) says = record {
@@ -41,7 +25,7 @@ module _ {may later : Relations} (same : SameRelations may later) where
   event_before old new line (stopped lines) (inl h) = inl (record {
     event = h.event;
     denotes = h.denotes;
-    breaks_off = replied_before same (λ replies cut. cut_before cut) h.breaks_off;
+    breaks_off = replied_before same (λ replies cut. cut_before old.definition same cut) h.breaks_off;
     shows = h.shows;
     definition = h.definition;
     stops = h.stops;

@@ -8,3 +8,4 @@ pub mod Befores
 pub mod RunOver
 pub mod Openings
 pub mod CheckProofs
+pub mod SliceLemmas

@@ -13,3 +13,5 @@ pub mod Files
 pub mod Endings
 pub mod Checks
 pub mod CheckView
+pub mod LineStarts
+pub mod Slices

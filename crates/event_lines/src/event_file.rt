@@ -15,8 +15,9 @@ ghost use Rattle.event_lines.specs.Writing.{Sends};
 use crate::chunk::Chunk;
 use crate::devices::{Reader, Writer};
 use crate::gather::Gather;
-use crate::line_outcome::{LineOutcome, handle_line};
+use crate::line_outcome::{LineOutcome, LineStart, start_line};
 use crate::line_reader::{Found, LineReader};
+use crate::slices::follow;
 use crate::writing::put_outcome;
 use builder_defs::EventReader;
 use native_peers::Peer;
@@ -44,15 +45,17 @@ fn tell<W: Writer>(
     ensures seated { IsSeated (seen (λ p. (⟦<dyn Peer as Peer>⟧ p.peer.vtable).state p.peer.value) (entries session.new.pool)) session.new.core }
     ensures same { SameRelations (relations (λ p. (⟦<dyn Peer as Peer>⟧ p.peer.vtable).moves p.peer.value) (entries session.old.pool)) (relations (λ p. (⟦<dyn Peer as Peer>⟧ p.peer.vtable).moves p.peer.value) (entries session.new.pool)) }
 {
-    let before = session.transcript().len();
-    let outcome = handle_line(alloc, session, events, number, found, buffer);
-    let said = &session.transcript()[before..];
-    let put = put_outcome(gather, writer, number, outcome, said);
-    session.forget();
-    let Ok(()) = put else {
-        return Err(DeviceFault);
-    };
-    Ok(outcome)
+    let known = session.transcript().len();
+    match start_line(alloc, session, events, number, found, buffer) {
+        LineStart::Begun(progress) => follow(session, progress, known, number, gather, writer),
+        LineStart::Over(outcome) => {
+            let said = &session.transcript()[known..];
+            let put = put_outcome(gather, writer, number, outcome, said);
+            session.forget();
+            put?;
+            Ok(outcome)
+        }
+    }
 }
 
 /// Hands the lines of a reader to a session, says what comes of them, and answers the status: 0; 5 where a line was refused; 3 where

@@ -19,6 +19,7 @@ mod line_reader;
 mod opening;
 mod output;
 mod refusal;
+mod slices;
 mod whole_runs;
 mod writing;
 

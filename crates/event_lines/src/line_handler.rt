@@ -1,17 +1,16 @@
 //! The lines of a run in its session, which carries out the events that they denote.
 
-ghost use Rattle.std.specs.Prelude.{◌≤◌, length, drop};
+ghost use Rattle.std.specs.Prelude.{◌≡◌};
+ghost use Rattle.ui_machine.specs.Prefix.{IsPrefix};
 ghost use Rattle.native_peers.specs.Pool.{entries, relations, seen};
-ghost use Rattle.native_peers.specs.Seen.{SameRelations};
-ghost use Rattle.ui_engine.specs.SessionView.{IsSeated, state_at};
-ghost use Rattle.event_lines.specs.Events.{event_replies};
-ghost use Rattle.event_lines.specs.LineOutcome.{outcome_of};
+ghost use Rattle.ui_engine.specs.SessionView.{IsSeated};
+ghost use Rattle.event_lines.specs.LineStarts.{LineBegins};
 
 use crate::refusal::LineRefusal;
 use builder_defs::{EventError, EventReader};
 use native_peers::Peer;
 use std::alloc::Global;
-use ui_engine::{Session, SessionFault};
+use ui_engine::{Progress, Session, SessionFault};
 
 /// Why an event line was not carried out to its end.
 #[derive(Clone, Copy, Debug, PartialEq, Eq)]
@@ -52,29 +51,25 @@ impl From<SessionFault> for LineFault {
     }
 }
 
-/// Carries out one line, neither blank nor past the limit. Each peer that it calls replies as it may. What the reader of events read
-/// before makes no difference.
+/// Begins the event of one line, neither blank nor past the limit. What the reader of events read before makes no difference.
 ///
 /// # Errors
 ///
 /// `Refused` by the first refusal of the line or of its event, and `Stopped` where memory is refused or the session had stopped.
-pub fn handle(
+pub fn begin(
     alloc: Global,
     session: &mut Session,
     events: &mut EventReader,
     line: &[u8],
-) -> Result<(), LineFault>
+) -> Result<Progress, LineFault>
     requires seated { IsSeated (seen (λ p. (⟦<dyn Peer as Peer>⟧ p.peer.vtable).state p.peer.value) (entries session.now.pool)) session.now.core }
-    ensures grows { length session.old.core.world.transcript ≤ length session.new.core.world.transcript }
-    ensures replies { event_replies (relations (λ p. (⟦<dyn Peer as Peer>⟧ p.peer.vtable).moves p.peer.value) (entries session.old.pool))
-        (state_at (seen (λ p. (⟦<dyn Peer as Peer>⟧ p.peer.vtable).state p.peer.value) (entries session.old.pool)) session.old.core) line.now
-        (outcome_of result (drop (length session.old.core.world.transcript) session.new.core.world.transcript))
-        (state_at (seen (λ p. (⟦<dyn Peer as Peer>⟧ p.peer.vtable).state p.peer.value) (entries session.new.pool)) session.new.core) }
+    ensures grows { IsPrefix session.old.core.world.transcript session.new.core.world.transcript }
+    ensures begins { LineBegins result (relations (λ p. (⟦<dyn Peer as Peer>⟧ p.peer.vtable).moves p.peer.value) (entries session.old.pool)) (seen (λ p. (⟦<dyn Peer as Peer>⟧ p.peer.vtable).state p.peer.value) (entries session.old.pool)) session.old.core line.now session.new.core }
     ensures seated { IsSeated (seen (λ p. (⟦<dyn Peer as Peer>⟧ p.peer.vtable).state p.peer.value) (entries session.new.pool)) session.new.core }
-    ensures same { SameRelations (relations (λ p. (⟦<dyn Peer as Peer>⟧ p.peer.vtable).moves p.peer.value) (entries session.old.pool)) (relations (λ p. (⟦<dyn Peer as Peer>⟧ p.peer.vtable).moves p.peer.value) (entries session.new.pool)) }
+    ensures pool { session.new.pool ≡ session.old.pool }
 {
     let definition = session.definition();
     let event = events.read(alloc, definition, line)?;
-    session.dispatch(event)?;
-    Ok(())
+    let progress = session.begin(event)?;
+    Ok(progress)
 }

@@ -1,23 +1,22 @@
 //! One line of the event file, handed to the session.
 
-ghost use Rattle.std.specs.Prelude.{◌≡◌, ◌≤◌, ℕ, List, false, length, drop};
+ghost use Rattle.std.specs.Prelude.{◌≡◌, ℕ, List};
+ghost use Rattle.ui_machine.specs.Prefix.{IsPrefix};
 ghost use Rattle.native_peers.specs.Pool.{entries, relations, seen};
-ghost use Rattle.native_peers.specs.Seen.{SameRelations};
-ghost use Rattle.ui_engine.specs.SessionView.{IsSeated, state_at};
-ghost use Rattle.event_lines.specs.Events.{event_replies};
-ghost use Rattle.event_lines.specs.EventFileRun.{LineComesTo, ends, status_after, is_blank};
+ghost use Rattle.ui_engine.specs.SessionView.{IsSeated};
+ghost use Rattle.event_lines.specs.EventFileRun.{ends, status_after, is_blank};
 ghost use Rattle.event_lines.specs.LineOutcome.{outcome_with};
+ghost use Rattle.event_lines.specs.LineStarts.{GoesOnWhole, IfBegun, LineStarts};
 ghost use Rattle.event_lines.specs.Reading.{IsOf};
-ghost use Rattle.ui_machine.specs.Limits.{most_lines};
 
 use crate::MAX_LINES;
-use crate::line_handler::{LineFault, handle};
+use crate::line_handler::{LineFault, begin};
 use crate::line_reader::Found;
 use crate::refusal::LineRefusal;
 use builder_defs::EventReader;
 use native_peers::Peer;
 use std::alloc::Global;
-use ui_engine::Session;
+use ui_engine::{Progress, Session};
 
 /// What a line came to, beside the lines that were said.
 #[derive(Clone, Copy, Debug, PartialEq, Eq)]
@@ -60,40 +59,47 @@ fn is_blank(line: &[u8]) -> bool
         .all(|b| *b == b' ' || *b == b'\t' || *b == b'\r')
 }
 
-/// Hands the session the line that was found, unless the run refuses it or passes over it.
-pub fn handle_line(
+/// How a line starts.
+#[derive(Drop)]
+pub enum LineStart {
+    /// It has come to this.
+    Over(LineOutcome),
+    /// Its event has come so far.
+    Begun(Progress),
+}
+
+/// Begins the line that was found in the session, unless the run refuses it or passes over it.
+pub fn start_line(
     alloc: Global,
     session: &mut Session,
     events: &mut EventReader,
     number: u64,
     found: Found,
     buffer: &[u8],
-) -> LineOutcome
+) -> LineStart
     requires seated { IsSeated (seen (λ p. (⟦<dyn Peer as Peer>⟧ p.peer.vtable).state p.peer.value) (entries session.now.pool)) session.now.core }
-    ensures comes { (line : List ℕ) → IsOf found buffer.now line →
-        LineComesTo (event_replies (relations (λ p. (⟦<dyn Peer as Peer>⟧ p.peer.vtable).moves p.peer.value) (entries session.old.pool))) (state_at (seen (λ p. (⟦<dyn Peer as Peer>⟧ p.peer.vtable).state p.peer.value) (entries session.old.pool)) session.old.core) number line
-        (outcome_with result (drop (length session.old.core.world.transcript) session.new.core.world.transcript))
-        (state_at (seen (λ p. (⟦<dyn Peer as Peer>⟧ p.peer.vtable).state p.peer.value) (entries session.new.pool)) session.new.core) }
-    ensures grows { length session.old.core.world.transcript ≤ length session.new.core.world.transcript }
-    ensures goes_on { (said : List (List ℕ)) → ends (outcome_with result said) ≡ false → (number ≤ most_lines) × (found ≡ Found.Whole) }
+    ensures starts { (line : List ℕ) → IsOf found buffer.now line → LineStarts result (relations (λ p. (⟦<dyn Peer as Peer>⟧ p.peer.vtable).moves p.peer.value) (entries session.old.pool)) (seen (λ p. (⟦<dyn Peer as Peer>⟧ p.peer.vtable).state p.peer.value) (entries session.old.pool)) session.old.core number buffer.now line session.new.core }
+    ensures begun { IfBegun result (relations (λ p. (⟦<dyn Peer as Peer>⟧ p.peer.vtable).moves p.peer.value) (entries session.old.pool)) (seen (λ p. (⟦<dyn Peer as Peer>⟧ p.peer.vtable).state p.peer.value) (entries session.old.pool)) session.old.core buffer.now session.new.core }
+    ensures grows { IsPrefix session.old.core.world.transcript session.new.core.world.transcript }
+    ensures goes_on { GoesOnWhole result number found }
     ensures seated { IsSeated (seen (λ p. (⟦<dyn Peer as Peer>⟧ p.peer.vtable).state p.peer.value) (entries session.new.pool)) session.new.core }
-    ensures same { SameRelations (relations (λ p. (⟦<dyn Peer as Peer>⟧ p.peer.vtable).moves p.peer.value) (entries session.old.pool)) (relations (λ p. (⟦<dyn Peer as Peer>⟧ p.peer.vtable).moves p.peer.value) (entries session.new.pool)) }
+    ensures pool { session.new.pool ≡ session.old.pool }
 {
     if found == Found::NoMemory {
-        return LineOutcome::Stopped;
+        return LineStart::Over(LineOutcome::Stopped);
     }
     if number > MAX_LINES {
-        return LineOutcome::CutOff(LineRefusal::TooMany);
+        return LineStart::Over(LineOutcome::CutOff(LineRefusal::TooMany));
     }
     if found == Found::TooLong {
-        return LineOutcome::CutOff(LineRefusal::TooLong);
+        return LineStart::Over(LineOutcome::CutOff(LineRefusal::TooLong));
     }
     if is_blank(buffer) {
-        return LineOutcome::Said;
+        return LineStart::Over(LineOutcome::Said);
     }
-    match handle(alloc, session, events, buffer) {
-        Ok(()) => return LineOutcome::Said,
-        Err(LineFault::Refused(refusal)) => return LineOutcome::Refused(refusal),
-        Err(LineFault::Stopped) => return LineOutcome::Stopped,
+    match begin(alloc, session, events, buffer) {
+        Ok(progress) => return LineStart::Begun(progress),
+        Err(LineFault::Refused(refusal)) => return LineStart::Over(LineOutcome::Refused(refusal)),
+        Err(LineFault::Stopped) => return LineStart::Over(LineOutcome::Stopped),
     }
 }

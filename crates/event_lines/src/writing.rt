@@ -82,7 +82,12 @@ fn put_refused<W: Writer>(
     )
 }
 
-fn put_stopped<W: Writer>(
+/// Says that no memory was found for a line.
+///
+/// # Errors
+///
+/// `DeviceFault` if a device fails. It is not called again.
+pub fn put_stopped<W: Writer>(
     gather: &mut Gather,
     writer: &mut W,
     number: u64,

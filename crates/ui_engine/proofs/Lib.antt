@@ -1,6 +1,7 @@
 mod Beginning
 mod Ending
-mod Serving
-mod Turns
+mod InParts
 mod Served
 mod TakenProofs
+mod Forgetting
+pub mod Slices

@@ -1,9 +1,9 @@
 -- What a session asks of a dispatch, and what it keeps after it. The definition is named twice, as the code has it and as the session does.
-use Rattle.std.proofs.Common.{◌≡◌, ℕ, List, None, Ok, false, sym, subst}
+use Rattle.std.proofs.Common.{◌≡◌, ℕ, List, None, Ok, sym, subst}
 use Rattle.ui_machine.specs.Definition.{Definition}
-use Rattle.ui_machine.specs.Rules.Events.{names_released, refusal}
+use Rattle.ui_machine.specs.Rules.Events.{refusal}
 use Rattle.ui_machine.specs.Rules.MainLoop.{turned}
-use Rattle.ui_machine.specs.Runs.{of_build, of_request}
+use Rattle.ui_machine.specs.Runs.{of_build}
 use Rattle.ui_machine.specs.State.Config.{World}
 use Rattle.ui_machine.specs.State.Tasks.{Event, Request}
 use Rattle.ui_machine.specs.State.Tasks as config
@@ -17,11 +17,12 @@ use Rattle.law_typing.specs.Verdict.Accepted.{Accepted}
 use Rattle.native_peers.specs.Matching.{as_peers}
 use Rattle.native_peers.specs.Seen.{Relations, Seen}
 use Rattle.engine_pools.specs.declared.dispatches.Reply.{Reply}
+use Rattle.engine_pools.specs.Courses.{MayBegin}
 use Rattle.engine_pools.specs.Dispatched.{Carried}
 use Rattle.engine_pools.specs.PoolView.{Knows, world_at}
 use Rattle.engine_pools.specs.Promises.{BuildKeeps, EventKeeps, Rests}
 use Rattle.engine_pools.specs.Safety.{IsSafe}
-use Rattle.engine_pools.proofs.Keeping.{build_promised, build_rests, build_safe, request_rests, request_safe, serve_keeps, turn_event_keeps, turn_rests}
+use Rattle.engine_pools.proofs.Keeping.{build_promised, build_rests, build_safe, serve_keeps, turn_event_keeps, turn_rests}
 use Rattle.engine_pools.proofs.Points.{fitting}
 use Rattle.engine_pools.proofs.Resting.{rests_here, rests_there}
 use Rattle.ui_engine.specs.SessionView.{SessionState}
@@ -49,39 +50,30 @@ module _ (d e : Definition) (same : e ≡ d) (from : IsDenoted e) where
     build_keeps = build_promised d well (as_peers pool) (matched_is_ready d (as_peers pool) matches (all_free pool))
 
   module _ (pool : List Seen) (w : World) (knows : Knows w pool) (rests : Rests d w) where
-    rests_so : Rests d (world_at pool w)
+    pub rests_so : Rests d (world_at pool w)
     rests_so = rests_there d pool w knows rests
-
-    pub rests_beside : Rests e (world_at pool w)
-    rests_beside = subst (λ (x : Definition). Rests x (world_at pool w)) (sym same) rests_so
 
     -- ** requests
 
     module _ (r : Request) (read : RequestRead d r) where
-      pub serves_safely : names_released w r ≡ false → Accepted d → IsSafe e (of_request (world_at pool w) r)
-      serves_safely held a = subst (λ (x : Definition). IsSafe x (of_request (world_at pool w) r)) (sym same) (request_safe d well (world_at pool w) rests_so r read held a)
-
-      pub served_rests : names_released w r ≡ false → (may : Relations) (reply : Reply) (left : List Seen) (new : World) → Carried (Ok reply) d may (of_request (world_at pool w) r) (world_at left new)
-          → Knows new left → Rests d new
-      served_rests held may reply left new carried known =
-          rests_here d left new known
-          (request_rests d well (world_at pool w) rests_so r read held carried.0.replies (fitting d may carried.0.replies carried.0.given) reply.steps (world_at left new) carried.0.so)
-
       pub request_kept : refusal w (config.request r) ≡ None → EventKeeps d (world_at pool w) (config.request r)
       request_kept none = serve_keeps d well (world_at pool w) rests_so r read none
+
+      pub request_may_begin : refusal w (config.request r) ≡ None → MayBegin d (config.request r) (world_at pool w)
+      request_may_begin none = record { read = read; goes = none; rests = rests_so }
 
     -- ** turns
 
     pub turn_kept : (moment : ℕ) → EventKeeps d (world_at pool w) (config.turn moment)
     turn_kept moment = turn_event_keeps d well (world_at pool w) rests_so moment
 
+    pub turn_may_begin : (moment : ℕ) → refusal w (config.turn moment) ≡ None → MayBegin d (config.turn moment) (world_at pool w)
+    turn_may_begin moment none = record { read = tt; goes = none; rests = rests_so }
+
   pub turned_rests : (w : World) (moment : ℕ) → Rests d w → Rests d (turned d w moment)
   turned_rests w moment rests = turn_rests d well w moment rests
 
 -- ** where the code names a session otherwise
-
-pub rests_as : {d e : Definition} {w : World} → e ≡ d → Rests e w → Rests d w
-rests_as {d} {e} {w} same rests = subst (λ (x : Definition). Rests x w) same rests
 
 pub knows_inside : (pool : List Seen) {s t : SessionState} → s ≡ t → Knows t.world pool → Knows s.world pool
 knows_inside pool same knows = subst (λ (x : SessionState). Knows x.world pool) (sym same) knows

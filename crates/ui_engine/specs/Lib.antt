@@ -1,3 +1,4 @@
+pub mod Phases
 pub mod SessionView
 pub mod BuildBegins
 pub mod Endings

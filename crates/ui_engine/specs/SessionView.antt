@@ -1,15 +1,21 @@
 -- What a session has come to, and what it answers.
-use Rattle.std.specs.Prelude.{◌≡◌, Bool, true, false, List, [], option_map, string_bytes, ⊤, Option, Some, None, Result, Ok, Err}
+use Rattle.std.specs.Prelude.{◌≡◌, ℕ, Bool, true, false, List, [], option_map, string_bytes, ⊤, Option, Some, None, Result, Ok, Err}
 use Rattle.ui_machine.specs.Definition.{Definition}
 use Rattle.ui_machine.specs.Rules.Events.{Refusal, gone, clock_back, refusal}
 use Rattle.ui_machine.specs.Runs.{of_build}
 use Rattle.ui_machine.specs.State.Config.{World}
 use Rattle.ui_machine.specs.State.Peers.{Peer}
-use Rattle.ui_machine.specs.State.Tasks.{Event}
+use Rattle.ui_machine.specs.State.Tasks.{Event, Task}
 use Rattle.g_values.specs.View.{value_view}
 use Rattle.law_pools.specs.Needs.{Mismatch, closed, misshapen, missing, unused}
+use Rattle.machine_laws.specs.FrontLaws.{fronted}
 use Rattle.native_peers.specs.Seen.{Relations, Seen}
+use Rattle.engine_pools.specs.declared.courses.Course.{Course}
+use Rattle.engine_pools.specs.declared.courses.Progress.{Progress}
+use Rattle.engine_pools.specs.declared.courses.Progress.TheVariants as progress
 use Rattle.engine_pools.specs.declared.dispatches.Reply.{Reply}
+use Rattle.engine_pools.specs.Courses.{IsUnderWay}
+use Rattle.engine_pools.specs.Following.{Point}
 use Rattle.engine_pools.specs.PoolView.{Knows, world_at}
 use Rattle.engine_pools.specs.Ways.{Ways, carrying_out, serving, tally_of}
 use Rattle.ui_engine.specs.declared.faults.SessionFault.{SessionFault}
@@ -17,15 +23,27 @@ use Rattle.ui_engine.specs.declared.faults.SessionFault.TheVariants as faults
 use Rattle.ui_engine.specs.declared.faults.StartFault.{StartFault}
 use Rattle.ui_engine.specs.declared.faults.StartFault.TheVariants as starts
 
--- a definition, the world, and whether the session has stopped
+-- A definition, the world, and what is left to do with the steps that are counted so far; whether the session has stopped, and whether an
+-- event is under way, for which it has stopped so far as other events go.
 pub record SessionState : Type 0 where
   pub definition : Definition
   pub world : World
+  pub agenda : List Task
+  pub counted : ℕ
   pub stopped : Bool
+  pub under_way : Bool
 
 -- the same session with its peers as they are seen in its pool
 abbrev pub state_at : List Seen → SessionState → SessionState
 state_at pool s = record s { world = world_at pool s.world }
+
+-- where it has come to, beside its pool
+abbrev pub point_in : List Seen → SessionState → Point
+point_in pool s = record { pool = pool; view = record { world = s.world; agenda = s.agenda; counted = s.counted } }
+
+-- the same session with these lines in front of its own
+abbrev pub with_front : List (List ℕ) → SessionState → SessionState
+with_front front s = record s { world = fronted front s.world }
 
 -- the same session without the lines that it has said
 abbrev pub without_lines : SessionState → SessionState
@@ -73,6 +91,38 @@ AnswersBy may None result old event new = Comes result (serving may old.definiti
 abbrev pub AnswersEvent : Relations → Bool → Result Reply SessionFault → SessionState → Event → SessionState → Type 0
 AnswersEvent may true result old event new = (result ≡ Err faults.Stopped) × (new ≡ old)
 AnswersEvent may false result old event new = AnswersBy may (refusal old.world event) result old event new
+
+-- ** events in parts
+
+-- an event from a world has come so far, in which the session does nothing else; of it these lines are no longer kept
+pub record InCourse (may : Relations) (d : Definition) (event : Event) (w : World) (front : List (List ℕ)) (course : Course) (pool : List Seen) (new : SessionState) : Type 0 where
+  pub definition : new.definition ≡ d
+  pub under_way : new.under_way ≡ true
+  pub so_far : IsUnderWay d may event w front course (point_in pool new)
+
+-- so it is of some event
+pub record HasCourse (may : Relations) (course : Course) (pool : List Seen) (s : SessionState) : Type 0 where
+  pub event : Event
+  pub from : World
+  pub front : List (List ℕ)
+  pub in_course : InCourse may s.definition event from front course pool s
+
+-- What comes of going on with an event, in a session that did not stop before: it has come so far, or it has ended, or no memory was found.
+abbrev pub ComesOn : Result Progress SessionFault → Relations → Definition → Event → World → List (List ℕ) → List Seen → SessionState → Type 0
+ComesOn (Ok (progress.UnderWay course)) may d event w front pool new = InCourse may d event w front course pool new
+ComesOn (Ok (progress.Ended reply)) may d event w front pool new = Comes (Ok reply) (serving may d w event) d (with_front front (state_at pool new))
+ComesOn (Err fault) may d event w front pool new = Comes (Err fault) (serving may d w event) d (with_front front (state_at pool new))
+
+-- What comes of beginning an event, by why it is refused, if it is. That changes nothing.
+abbrev pub BeginsBy : Relations → Option Refusal → Result Progress SessionFault → List Seen → SessionState → Event → SessionState → Type 0
+BeginsBy may (Some gone) result pool old event new = (result ≡ Err faults.Released) × (new ≡ old)
+BeginsBy may (Some clock_back) result pool old event new = (result ≡ Err faults.ClockBack) × (new ≡ old)
+BeginsBy may None result pool old event new = ComesOn result may old.definition event (world_at pool old.world) [] pool new
+
+-- of any event: a session that has stopped answers that, and changes nothing
+abbrev pub BeginsEvent : Relations → Bool → Result Progress SessionFault → List Seen → SessionState → Event → SessionState → Type 0
+BeginsEvent may true result pool old event new = (result ≡ Err faults.Stopped) × (new ≡ old)
+BeginsEvent may false result pool old event new = BeginsBy may (refusal old.world event) result pool old event new
 
 -- why no session began: how the pool failed to match, if it did
 abbrev pub IsWhy : StartFault → Option Mismatch → Type 0

@@ -1,23 +1,25 @@
 //! What a session is beside its pool: how its events are carried out.
 
-ghost use Rattle.std.specs.Prelude.{◌≡◌, ◌≤◌, None, length, map, string_bytes, false};
+ghost use Rattle.std.specs.Prelude.{◌≡◌, ◌≤◌, ◌+◌, [], None, ℕ, List, map, string_bytes, false};
 ghost use Rattle.ui_machine.specs.Prefix.{IsPrefix};
 ghost use Rattle.ui_machine.specs.Rules.Events.{refusal};
+ghost use Rattle.ui_machine.specs.State.Config.{World};
 ghost use Rattle.ui_machine.specs.State.Tasks as config;
 ghost use Rattle.law_sessions.specs.Sessions.{EventRead};
 ghost use Rattle.law_typing.specs.Good.Requests.{RequestRead};
 ghost use Rattle.definition_format.specs.Meaning.{event_of, request_of};
 ghost use Rattle.native_peers.specs.Pool.{entries, relations, seen};
 ghost use Rattle.native_peers.specs.Seen.{SameRelations};
+ghost use Rattle.engine_pools.specs.Courses.{HasCome, IfEnded, IfUnderWay, nothing_yet};
 ghost use Rattle.engine_pools.specs.PoolView.{Knows, world_at};
 ghost use Rattle.engine_pools.specs.Promises.{EventKeeps};
-ghost use Rattle.engine_pools.specs.TurnView.{running_sources};
-ghost use Rattle.ui_engine.specs.SessionView.{AnswersBy, AnswersEvent, Comes, IsSeated, state_at, without_lines};
+ghost use Rattle.ui_engine.specs.Phases.{phase_of};
+ghost use Rattle.ui_engine.specs.SessionView.{AnswersEvent, BeginsBy, BeginsEvent, ComesOn, HasCourse, InCourse, IsSeated, state_at, without_lines};
 
 use crate::faults::SessionFault;
 use definition_format::{Event, Request};
 use definitions::Definition;
-use engine_pools::{Reply, begin_turn, dispatch, run_sources};
+use engine_pools::{Course, Progress, Reply, advance, begin_dispatch, begin_next, begin_turn};
 use engine_world::engine::Engine;
 use engine_world::task::Task;
 use main_context::{Batch, TurnError};
@@ -25,27 +27,54 @@ use native_peers::{Peer, PeerPool};
 use std::marker::Model;
 use verified::Verified;
 
-/// A session without its pool. Where it has not stopped, each object is counted as often as it is mentioned, and nothing is left to do; and no
-/// event that is read against the definition can leave the machine stuck.
+/// What a session is at.
+#[derive(Clone, Copy, Debug, PartialEq, Eq)]
+pub(crate) enum Phase {
+    /// Nothing is left to do.
+    AtRest,
+    /// An event has begun and not ended.
+    UnderWay,
+    /// No memory was found.
+    Stopped,
+}
+
+/// A session without its pool. At rest each object is counted as often as it is mentioned, and nothing is left to do; and no event that is
+/// read against the definition can leave the machine stuck.
 #[derive(Drop)]
 pub struct Core {
     pub(crate) verified: Verified,
     pub(crate) engine: Engine,
-    pub(crate) stopped: bool,
+    pub(crate) phase: Phase,
+}
+
+// What a session is at, where an event has come so far.
+fn phase_at(progress: &Progress) -> Phase
+    ensures { result ≡ phase_of progress.now }
+{
+    match progress {
+        Progress::UnderWay(_) => Phase::UnderWay,
+        Progress::Ended(_) => Phase::AtRest,
+    }
 }
 
 impl Model for Core {
-    ghost use Rattle.std.specs.Prelude.{◌≡◌, false};
+    ghost use Rattle.ui_engine.specs.Phases.{IsKept, has_stopped, is_under_way};
     ghost use Rattle.ui_engine.specs.SessionView.{SessionState};
+    ghost use Rattle.engine_world.specs.TaskView.{agenda_of};
     ghost use Rattle.engine_world.specs.View.{world_of};
-    ghost use Rattle.engine_pools.specs.Dispatched.{IsAtRest};
-    ghost use Rattle.engine_pools.specs.Promises.{Rests};
 
     ghost Value = { SessionState };
 
-    ghost view = { λ s. record { definition = s.verified; world = world_of s.engine.world; stopped = s.stopped } };
+    ghost view = { λ s. record {
+      definition = s.verified;
+      world = world_of s.engine.world;
+      agenda = agenda_of s.verified s.engine;
+      counted = s.engine.counted;
+      stopped = has_stopped s.phase;
+      under_way = is_under_way s.phase;
+    } };
 
-    ghost invariant = { λ s. s.stopped ≡ false → IsAtRest s.verified s.engine × Rests s.verified (world_of s.engine.world) };
+    ghost invariant = { λ s. IsKept s.verified s.engine s.phase };
 }
 
 impl Core {
@@ -64,87 +93,143 @@ impl Core {
         ensures same { SameRelations (relations (λ p. (⟦<dyn Peer as Peer>⟧ p.peer.vtable).moves p.peer.value) (entries pool.old)) (relations (λ p. (⟦<dyn Peer as Peer>⟧ p.peer.vtable).moves p.peer.value) (entries pool.new)) }
         ensures grows { IsPrefix self.old.world.transcript self.new.world.transcript }
     {
-        if self.stopped {
-            return Err(SessionFault::Stopped);
-        }
-        match event {
-            Event::Request(request) => self.serve(pool, request),
-            Event::Turn(moment) => self.turn(pool, moment),
+        let course = match self.begin(pool, event)? {
+            Progress::Ended(reply) => return Ok(reply),
+            Progress::UnderWay(course) => course,
+        };
+        match self.advance(pool, course, u64::MAX)? {
+            Progress::Ended(reply) => Ok(reply),
+            Progress::UnderWay(_) => unreachable!(),
         }
     }
 
-    // Carries out a request, unless it names an object that was released.
-    fn serve(&mut self, pool: &mut PeerPool, request: Request) -> Result<Reply, SessionFault>
+    /// Begins an event beside a pool that the session knows; the pool is left as it is. While the event is under way the session has stopped
+    /// for others. The event has to be one that was read against the session's definition.
+    ///
+    /// # Errors
+    ///
+    /// As `Session::begin`.
+    pub fn begin(&mut self, pool: &PeerPool, event: Event) -> Result<Progress, SessionFault>
+        requires read { EventRead self.now.definition (event_of event) }
+        requires seated { IsSeated (seen (λ p. (⟦<dyn Peer as Peer>⟧ p.peer.vtable).state p.peer.value) (entries pool.now)) self.now }
+        ensures begins { BeginsEvent (relations (λ p. (⟦<dyn Peer as Peer>⟧ p.peer.vtable).moves p.peer.value) (entries pool.now)) self.old.stopped result (seen (λ p. (⟦<dyn Peer as Peer>⟧ p.peer.vtable).state p.peer.value) (entries pool.now)) self.old (event_of event) self.new }
+        ensures keeps { self.old.stopped ≡ false → refusal self.old.world (event_of event) ≡ None → EventKeeps self.old.definition (world_at (seen (λ p. (⟦<dyn Peer as Peer>⟧ p.peer.vtable).state p.peer.value) (entries pool.now)) self.old.world) (event_of event) }
+        ensures seated { IsSeated (seen (λ p. (⟦<dyn Peer as Peer>⟧ p.peer.vtable).state p.peer.value) (entries pool.now)) self.new }
+        ensures in_course { IfUnderWay result (λ course. HasCourse (relations (λ p. (⟦<dyn Peer as Peer>⟧ p.peer.vtable).moves p.peer.value) (entries pool.now)) course (seen (λ p. (⟦<dyn Peer as Peer>⟧ p.peer.vtable).state p.peer.value) (entries pool.now)) self.new) }
+        ensures none { IfUnderWay result (λ course. course.so_far.steps + self.new.counted ≡ 0) }
+        ensures grows { IsPrefix self.old.world.transcript self.new.world.transcript }
+    {
+        match self.phase {
+            Phase::AtRest => {}
+            Phase::UnderWay | Phase::Stopped => return Err(SessionFault::Stopped),
+        }
+        match event {
+            Event::Request(request) => self.begin_request(pool, request),
+            Event::Turn(moment) => self.begin_turn(pool, moment),
+        }
+    }
+
+    // Begins a request, unless it names an object that was released.
+    fn begin_request(&mut self, pool: &PeerPool, request: Request) -> Result<Progress, SessionFault>
         requires goes_on { self.now.stopped ≡ false }
         requires read { RequestRead self.now.definition (request_of request) }
         requires knows { Knows self.now.world (seen (λ p. (⟦<dyn Peer as Peer>⟧ p.peer.vtable).state p.peer.value) (entries pool.now)) }
-        ensures answers { AnswersBy (relations (λ p. (⟦<dyn Peer as Peer>⟧ p.peer.vtable).moves p.peer.value) (entries pool.old)) (refusal self.old.world (config.request (request_of request))) result (state_at (seen (λ p. (⟦<dyn Peer as Peer>⟧ p.peer.vtable).state p.peer.value) (entries pool.old)) self.old) (config.request (request_of request)) (state_at (seen (λ p. (⟦<dyn Peer as Peer>⟧ p.peer.vtable).state p.peer.value) (entries pool.new)) self.new) }
-        ensures keeps { refusal self.old.world (config.request (request_of request)) ≡ None → EventKeeps self.old.definition (world_at (seen (λ p. (⟦<dyn Peer as Peer>⟧ p.peer.vtable).state p.peer.value) (entries pool.old)) self.old.world) (config.request (request_of request)) }
-        ensures seated { IsSeated (seen (λ p. (⟦<dyn Peer as Peer>⟧ p.peer.vtable).state p.peer.value) (entries pool.new)) self.new }
-        ensures same { SameRelations (relations (λ p. (⟦<dyn Peer as Peer>⟧ p.peer.vtable).moves p.peer.value) (entries pool.old)) (relations (λ p. (⟦<dyn Peer as Peer>⟧ p.peer.vtable).moves p.peer.value) (entries pool.new)) }
+        ensures begins { BeginsBy (relations (λ p. (⟦<dyn Peer as Peer>⟧ p.peer.vtable).moves p.peer.value) (entries pool.now)) (refusal self.old.world (config.request (request_of request))) result (seen (λ p. (⟦<dyn Peer as Peer>⟧ p.peer.vtable).state p.peer.value) (entries pool.now)) self.old (config.request (request_of request)) self.new }
+        ensures keeps { refusal self.old.world (config.request (request_of request)) ≡ None → EventKeeps self.old.definition (world_at (seen (λ p. (⟦<dyn Peer as Peer>⟧ p.peer.vtable).state p.peer.value) (entries pool.now)) self.old.world) (config.request (request_of request)) }
+        ensures seated { IsSeated (seen (λ p. (⟦<dyn Peer as Peer>⟧ p.peer.vtable).state p.peer.value) (entries pool.now)) self.new }
+        ensures none { IfUnderWay result (λ course. course.so_far.steps + self.new.counted ≡ 0) }
         ensures grows { IsPrefix self.old.world.transcript self.new.world.transcript }
     {
+        // For the proof: the clauses speak of the pool.
+        let _ = pool;
         if self.engine.world.names_released(&request) {
             return Err(SessionFault::Released);
         }
         let definition = self.verified.definition();
         // For the proof: some bytes denote the definition.
         let _types = definition.types();
-        let task = Task::Handling(request);
-        match dispatch(&mut self.engine, definition, pool, task) {
-            Ok(reply) => return Ok(reply),
-            Err(error) => {
-                self.stopped = true;
-                return Err(SessionFault::from(error));
-            }
-        }
+        self.phase = Phase::Stopped;
+        begin_dispatch(&mut self.engine, definition, Task::Handling(request))?;
+        self.phase = Phase::UnderWay;
+        let so_far = Reply::none();
+        Ok(Progress::UnderWay(Course { left: None, so_far }))
     }
 
-    // A turn of the main loop: the sources that are ready and have the least priority number run, each in a dispatch of its own. Where no
-    // memory is found the session stops.
-    fn turn(&mut self, pool: &mut PeerPool, moment: u64) -> Result<Reply, SessionFault>
+    // Begins a turn of the main loop: the sources that are ready and have the least priority number run, each in a dispatch of its own. Where
+    // no memory is found the session stops.
+    fn begin_turn(&mut self, pool: &PeerPool, moment: u64) -> Result<Progress, SessionFault>
         requires goes_on { self.now.stopped ≡ false }
         requires knows { Knows self.now.world (seen (λ p. (⟦<dyn Peer as Peer>⟧ p.peer.vtable).state p.peer.value) (entries pool.now)) }
-        ensures answers { AnswersBy (relations (λ p. (⟦<dyn Peer as Peer>⟧ p.peer.vtable).moves p.peer.value) (entries pool.old)) (refusal self.old.world (config.turn moment)) result (state_at (seen (λ p. (⟦<dyn Peer as Peer>⟧ p.peer.vtable).state p.peer.value) (entries pool.old)) self.old) (config.turn moment) (state_at (seen (λ p. (⟦<dyn Peer as Peer>⟧ p.peer.vtable).state p.peer.value) (entries pool.new)) self.new) }
-        ensures keeps { refusal self.old.world (config.turn moment) ≡ None → EventKeeps self.old.definition (world_at (seen (λ p. (⟦<dyn Peer as Peer>⟧ p.peer.vtable).state p.peer.value) (entries pool.old)) self.old.world) (config.turn moment) }
-        ensures seated { IsSeated (seen (λ p. (⟦<dyn Peer as Peer>⟧ p.peer.vtable).state p.peer.value) (entries pool.new)) self.new }
-        ensures same { SameRelations (relations (λ p. (⟦<dyn Peer as Peer>⟧ p.peer.vtable).moves p.peer.value) (entries pool.old)) (relations (λ p. (⟦<dyn Peer as Peer>⟧ p.peer.vtable).moves p.peer.value) (entries pool.new)) }
+        ensures begins { BeginsBy (relations (λ p. (⟦<dyn Peer as Peer>⟧ p.peer.vtable).moves p.peer.value) (entries pool.now)) (refusal self.old.world (config.turn moment)) result (seen (λ p. (⟦<dyn Peer as Peer>⟧ p.peer.vtable).state p.peer.value) (entries pool.now)) self.old (config.turn moment) self.new }
+        ensures keeps { refusal self.old.world (config.turn moment) ≡ None → EventKeeps self.old.definition (world_at (seen (λ p. (⟦<dyn Peer as Peer>⟧ p.peer.vtable).state p.peer.value) (entries pool.now)) self.old.world) (config.turn moment) }
+        ensures seated { IsSeated (seen (λ p. (⟦<dyn Peer as Peer>⟧ p.peer.vtable).state p.peer.value) (entries pool.now)) self.new }
+        ensures none { IfUnderWay result (λ course. course.so_far.steps + self.new.counted ≡ 0) }
         ensures grows { IsPrefix self.old.world.transcript self.new.world.transcript }
     {
         let definition = self.verified.definition();
         // For the proof: some bytes denote the definition.
         let _types = definition.types();
         match begin_turn(&mut self.engine, definition, moment) {
-            Ok(batch) => self.run_batch(pool, batch),
+            Ok(batch) => self.begin_sources(pool, batch),
             Err(TurnError::ClockBack) => Err(SessionFault::ClockBack),
             Err(TurnError::OutOfMemory) => {
-                self.stopped = true;
+                self.phase = Phase::Stopped;
                 Err(SessionFault::OutOfMemory)
             }
         }
     }
 
-    // Runs the sources of a turn that has begun.
-    fn run_batch(&mut self, pool: &mut PeerPool, batch: Batch) -> Result<Reply, SessionFault>
+    // Begins the first source of a turn that has begun, if there is one.
+    fn begin_sources(&mut self, pool: &PeerPool, batch: Batch) -> Result<Progress, SessionFault>
         requires goes_on { self.now.stopped ≡ false }
-        requires fresh { self.now.world.result ≡ None }
-        requires few { length batch ≤ 256 }
         requires knows { Knows self.now.world (seen (λ p. (⟦<dyn Peer as Peer>⟧ p.peer.vtable).state p.peer.value) (entries pool.now)) }
-        ensures comes { Comes result (running_sources (relations (λ p. (⟦<dyn Peer as Peer>⟧ p.peer.vtable).moves p.peer.value) (entries pool.old)) self.old.definition batch (world_at (seen (λ p. (⟦<dyn Peer as Peer>⟧ p.peer.vtable).state p.peer.value) (entries pool.old)) self.old.world)) self.old.definition (state_at (seen (λ p. (⟦<dyn Peer as Peer>⟧ p.peer.vtable).state p.peer.value) (entries pool.new)) self.new) }
+        ensures comes { (event : config.Event) (w : World) → HasCome self.old.definition (relations (λ p. (⟦<dyn Peer as Peer>⟧ p.peer.vtable).moves p.peer.value) (entries pool.now)) event w batch nothing_yet (world_at (seen (λ p. (⟦<dyn Peer as Peer>⟧ p.peer.vtable).state p.peer.value) (entries pool.now)) self.old.world) →
+            ComesOn result (relations (λ p. (⟦<dyn Peer as Peer>⟧ p.peer.vtable).moves p.peer.value) (entries pool.now)) self.old.definition event w [] (seen (λ p. (⟦<dyn Peer as Peer>⟧ p.peer.vtable).state p.peer.value) (entries pool.now)) self.new }
+        ensures seated { IsSeated (seen (λ p. (⟦<dyn Peer as Peer>⟧ p.peer.vtable).state p.peer.value) (entries pool.now)) self.new }
+        ensures none { IfUnderWay result (λ course. course.so_far.steps + self.new.counted ≡ 0) }
+        ensures grows { IsPrefix self.old.world.transcript self.new.world.transcript }
+    {
+        // For the proof: the clauses speak of the pool.
+        let _ = pool;
+        let definition = self.verified.definition();
+        // For the proof: some bytes denote the definition.
+        let _types = definition.types();
+        let left = Some(batch);
+        let so_far = Reply::none();
+        self.phase = Phase::Stopped;
+        let progress = begin_next(&mut self.engine, definition, Course { left, so_far })?;
+        self.phase = phase_at(&progress);
+        Ok(progress)
+    }
+
+    /// Goes on with an event for at most so many counted steps, by the pool beside which it began.
+    ///
+    /// # Errors
+    ///
+    /// As `Session::advance`.
+    pub fn advance(
+        &mut self,
+        pool: &mut PeerPool,
+        course: Course,
+        most: u64,
+    ) -> Result<Progress, SessionFault>
+        requires in_course { HasCourse (relations (λ p. (⟦<dyn Peer as Peer>⟧ p.peer.vtable).moves p.peer.value) (entries pool.now)) course (seen (λ p. (⟦<dyn Peer as Peer>⟧ p.peer.vtable).state p.peer.value) (entries pool.now)) self.now }
+        ensures comes { (event : config.Event) (w : World) (front : List (List ℕ)) → InCourse (relations (λ p. (⟦<dyn Peer as Peer>⟧ p.peer.vtable).moves p.peer.value) (entries pool.old)) self.old.definition event w front course (seen (λ p. (⟦<dyn Peer as Peer>⟧ p.peer.vtable).state p.peer.value) (entries pool.old)) self.old →
+            ComesOn result (relations (λ p. (⟦<dyn Peer as Peer>⟧ p.peer.vtable).moves p.peer.value) (entries pool.old)) self.old.definition event w front (seen (λ p. (⟦<dyn Peer as Peer>⟧ p.peer.vtable).state p.peer.value) (entries pool.new)) self.new }
+        ensures in_course { IfUnderWay result (λ course. HasCourse (relations (λ p. (⟦<dyn Peer as Peer>⟧ p.peer.vtable).moves p.peer.value) (entries pool.new)) course (seen (λ p. (⟦<dyn Peer as Peer>⟧ p.peer.vtable).state p.peer.value) (entries pool.new)) self.new) }
         ensures seated { IsSeated (seen (λ p. (⟦<dyn Peer as Peer>⟧ p.peer.vtable).state p.peer.value) (entries pool.new)) self.new }
+        ensures made { IfUnderWay result (λ next. next.so_far.steps + self.new.counted ≡ course.so_far.steps + self.old.counted + most) }
+        ensures most { IfEnded result (λ reply. reply.steps ≤ course.so_far.steps + self.old.counted + most) }
         ensures same { SameRelations (relations (λ p. (⟦<dyn Peer as Peer>⟧ p.peer.vtable).moves p.peer.value) (entries pool.old)) (relations (λ p. (⟦<dyn Peer as Peer>⟧ p.peer.vtable).moves p.peer.value) (entries pool.new)) }
         ensures grows { IsPrefix self.old.world.transcript self.new.world.transcript }
     {
         let definition = self.verified.definition();
         // For the proof: some bytes denote the definition.
         let _types = definition.types();
-        match run_sources(&mut self.engine, definition, pool, batch) {
-            Ok(reply) => return Ok(reply),
-            Err(error) => {
-                self.stopped = true;
-                return Err(SessionFault::from(error));
-            }
-        }
+        self.phase = Phase::Stopped;
+        let progress = advance(&mut self.engine, definition, pool, course, most)?;
+        self.phase = phase_at(&progress);
+        Ok(progress)
     }
 
     /// The definition that it runs.

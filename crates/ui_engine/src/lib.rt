@@ -11,7 +11,7 @@ mod session;
 mod starts;
 
 pub use cores::Core;
-pub use engine_pools::Reply;
+pub use engine_pools::{Course, Progress, Reply};
 pub use faults::{SessionFault, StartFault};
 pub use frame_stacks::{Frame, Frames};
 pub use session::{Finished, Refused, Session, Started};

@@ -1,8 +1,10 @@
 //! A session: a verified definition, its pool of peers, and its state while its events come.
 
-ghost use Rattle.std.specs.Prelude.{◌≡◌, None, map, string_bytes, IfOk, IfErr, false};
+ghost use Rattle.std.specs.Prelude.{◌≡◌, ◌≤◌, ◌+◌, ℕ, List, None, map, string_bytes, IfOk, IfErr, false};
 ghost use Rattle.ui_machine.specs.Prefix.{IsPrefix};
 ghost use Rattle.ui_machine.specs.Rules.Events.{refusal};
+ghost use Rattle.ui_machine.specs.State.Config.{World};
+ghost use Rattle.ui_machine.specs.State.Tasks as config;
 ghost use Rattle.law_pools.specs.Needs.{mismatch};
 ghost use Rattle.law_sessions.specs.Sessions.{EventRead};
 ghost use Rattle.definition_format.specs.Meaning.{event_of};
@@ -10,18 +12,20 @@ ghost use Rattle.native_peers.specs.Matching.{as_peers};
 ghost use Rattle.native_peers.specs.Pool.{entries, relations, seen};
 ghost use Rattle.native_peers.specs.Seen.{SameRelations};
 ghost use Rattle.ui_engine.specs.Endings.{taken_closed};
+ghost use Rattle.engine_pools.specs.Courses.{IfEnded, IfUnderWay};
+ghost use Rattle.engine_pools.specs.declared.courses.Course.{Course};
 ghost use Rattle.engine_pools.specs.PoolView.{world_at};
 ghost use Rattle.engine_pools.specs.Promises.{BuildKeeps, EventKeeps};
 ghost use Rattle.ui_engine.specs.BuildBegins.{IsBegun};
-ghost use Rattle.ui_engine.specs.SessionView.{AnswersEvent, Comes, IsSeated, IsWhy, building, state_at, without_lines};
+ghost use Rattle.ui_engine.specs.SessionView.{AnswersEvent, BeginsEvent, Comes, ComesOn, HasCourse, InCourse, IsSeated, IsWhy, building, state_at, without_lines};
 
-use crate::cores::Core;
+use crate::cores::{Core, Phase};
 use crate::endings::close_taken;
 use crate::faults::{SessionFault, StartFault};
 use crate::starts::{Beginning, begin};
 use definition_format::Event;
 use definitions::Definition;
-use engine_pools::{Reply, dispatch};
+use engine_pools::{Course, Progress, Reply, dispatch};
 use engine_world::places::FIRST_PLACE;
 use engine_world::task::Task;
 use native_peers::{Peer, PeerPool};
@@ -81,7 +85,7 @@ fn build(verified: Verified, mut pool: PeerPool, beginning: Beginning) -> Starte
                 core: Core {
                     verified,
                     engine,
-                    stopped: false,
+                    phase: Phase::AtRest,
                 },
                 pool,
             },
@@ -92,7 +96,7 @@ fn build(verified: Verified, mut pool: PeerPool, beginning: Beginning) -> Starte
                 core: Core {
                     verified,
                     engine,
-                    stopped: true,
+                    phase: Phase::Stopped,
                 },
                 pool,
             },
@@ -154,6 +158,51 @@ impl Session {
         self.core.dispatch(&mut self.pool, event)
     }
 
+    /// Begins an event. Where it has more than its beginning to do it is under way: `advance` goes on with it, and until it has ended the session
+    /// has stopped for others. The lines that are said with it can be taken meanwhile. One that is given up leaves the session stopped. The
+    /// event has to be one that was read against the session's definition.
+    ///
+    /// # Errors
+    ///
+    /// As `dispatch`.
+    pub fn begin(&mut self, event: Event) -> Result<Progress, SessionFault>
+        requires read { EventRead self.now.core.definition (event_of event) }
+        requires seated { IsSeated (seen (λ p. (⟦<dyn Peer as Peer>⟧ p.peer.vtable).state p.peer.value) (entries self.now.pool)) self.now.core }
+        ensures begins { BeginsEvent (relations (λ p. (⟦<dyn Peer as Peer>⟧ p.peer.vtable).moves p.peer.value) (entries self.old.pool)) self.old.core.stopped result (seen (λ p. (⟦<dyn Peer as Peer>⟧ p.peer.vtable).state p.peer.value) (entries self.old.pool)) self.old.core (event_of event) self.new.core }
+        ensures keeps { self.old.core.stopped ≡ false → refusal self.old.core.world (event_of event) ≡ None →
+            EventKeeps self.old.core.definition (world_at (seen (λ p. (⟦<dyn Peer as Peer>⟧ p.peer.vtable).state p.peer.value) (entries self.old.pool)) self.old.core.world) (event_of event) }
+        // So it is what `advance` asks for.
+        ensures in_course { IfUnderWay result (λ course. HasCourse (relations (λ p. (⟦<dyn Peer as Peer>⟧ p.peer.vtable).moves p.peer.value) (entries self.new.pool)) course (seen (λ p. (⟦<dyn Peer as Peer>⟧ p.peer.vtable).state p.peer.value) (entries self.new.pool)) self.new.core) }
+        ensures seated { IsSeated (seen (λ p. (⟦<dyn Peer as Peer>⟧ p.peer.vtable).state p.peer.value) (entries self.new.pool)) self.new.core }
+        ensures pool { self.new.pool ≡ self.old.pool }
+        ensures none { IfUnderWay result (λ course. course.so_far.steps + self.new.core.counted ≡ 0) }
+        ensures grows { IsPrefix self.old.core.world.transcript self.new.core.world.transcript }
+    {
+        self.core.begin(&self.pool, event)
+    }
+
+    /// Goes on with an event for at most so many counted steps: where it does not end, just so many were made. It comes to what `dispatch`
+    /// would have come to, in so many parts.
+    ///
+    /// # Errors
+    ///
+    /// `OutOfMemory` if no memory is found, which stops the session; the peer that was called last may have replied without a line that
+    /// reports it.
+    pub fn advance(&mut self, course: Course, most: u64) -> Result<Progress, SessionFault>
+        requires in_course { HasCourse (relations (λ p. (⟦<dyn Peer as Peer>⟧ p.peer.vtable).moves p.peer.value) (entries self.now.pool)) course (seen (λ p. (⟦<dyn Peer as Peer>⟧ p.peer.vtable).state p.peer.value) (entries self.now.pool)) self.now.core }
+        ensures comes { (event : config.Event) (w : World) (front : List (List ℕ)) → InCourse (relations (λ p. (⟦<dyn Peer as Peer>⟧ p.peer.vtable).moves p.peer.value) (entries self.old.pool)) self.old.core.definition event w front course (seen (λ p. (⟦<dyn Peer as Peer>⟧ p.peer.vtable).state p.peer.value) (entries self.old.pool)) self.old.core →
+            ComesOn result (relations (λ p. (⟦<dyn Peer as Peer>⟧ p.peer.vtable).moves p.peer.value) (entries self.old.pool)) self.old.core.definition event w front (seen (λ p. (⟦<dyn Peer as Peer>⟧ p.peer.vtable).state p.peer.value) (entries self.new.pool)) self.new.core }
+        // So it is what `advance` asks for.
+        ensures in_course { IfUnderWay result (λ course. HasCourse (relations (λ p. (⟦<dyn Peer as Peer>⟧ p.peer.vtable).moves p.peer.value) (entries self.new.pool)) course (seen (λ p. (⟦<dyn Peer as Peer>⟧ p.peer.vtable).state p.peer.value) (entries self.new.pool)) self.new.core) }
+        ensures seated { IsSeated (seen (λ p. (⟦<dyn Peer as Peer>⟧ p.peer.vtable).state p.peer.value) (entries self.new.pool)) self.new.core }
+        ensures made { IfUnderWay result (λ next. next.so_far.steps + self.new.core.counted ≡ course.so_far.steps + self.old.core.counted + most) }
+        ensures most { IfEnded result (λ reply. reply.steps ≤ course.so_far.steps + self.old.core.counted + most) }
+        ensures same { SameRelations (relations (λ p. (⟦<dyn Peer as Peer>⟧ p.peer.vtable).moves p.peer.value) (entries self.old.pool)) (relations (λ p. (⟦<dyn Peer as Peer>⟧ p.peer.vtable).moves p.peer.value) (entries self.new.pool)) }
+        ensures grows { IsPrefix self.old.core.world.transcript self.new.core.world.transcript }
+    {
+        self.core.advance(&mut self.pool, course, most)
+    }
+
     /// The definition that it runs.
     pub fn definition(&self) -> &Definition
         ensures { result.now ≡ self.now.core.definition }
@@ -173,6 +222,8 @@ impl Session {
     pub fn forget(&mut self)
         ensures lines { self.new.core ≡ without_lines self.old.core }
         ensures pool { self.new.pool ≡ self.old.pool }
+        // An event that is under way can still be gone on with.
+        ensures in_course { (course : Course) → HasCourse (relations (λ p. (⟦<dyn Peer as Peer>⟧ p.peer.vtable).moves p.peer.value) (entries self.old.pool)) course (seen (λ p. (⟦<dyn Peer as Peer>⟧ p.peer.vtable).state p.peer.value) (entries self.old.pool)) self.old.core → HasCourse (relations (λ p. (⟦<dyn Peer as Peer>⟧ p.peer.vtable).moves p.peer.value) (entries self.new.pool)) course (seen (λ p. (⟦<dyn Peer as Peer>⟧ p.peer.vtable).state p.peer.value) (entries self.new.pool)) self.new.core }
     {
         self.core.forget();
     }

@@ -3,7 +3,7 @@ use Rattle.std.proofs.lemmas.Result.{err_from_is_err_and}
 use Rattle.ui_machine.proofs.Prefixes.{prefix_on, prefix_same}
 use Rattle.engine_world.specs.View.{world_of}
 use Rattle.engine_pools.proofs.Points.{breaks_before, breaks_on, follows_before, follows_here, follows_on, safe_on, same_here, same_on}
-use Rattle.engine_pools.proofs.StepProofs.{counts_so, stepped_as}
+use Rattle.engine_pools.proofs.StepProofs.{counts_so, nothing_left, stepped_as}
 use Rattle.engine_pools.proofs.runs.advance.Goals as goal
 
 pub loop-init : goal.loop-init
@@ -43,3 +43,10 @@ returns-in-Nothing-clause-same g c = same_on c.loop.invariant.same c.step.ensure
 
 pub returns-in-Counted-clause-same : goal.returns-in-Counted-clause-same
 returns-in-Counted-clause-same g c = same_on c.loop.invariant.same c.step.ensures.same
+
+pub returns-in-Nothing-clause-advanced : goal.returns-in-Nothing-clause-advanced
+returns-in-Nothing-clause-advanced g c =
+    let d = c.args.definition.now in
+    let s = stepped_as d _ _ _ c.in-Nothing.is c.in_ok-step.ensures.stepped in
+    let f = c.loop.invariant.follows in
+    nothing_left d s f c.loop.invariant.counted

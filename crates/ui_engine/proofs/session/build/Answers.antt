@@ -1,4 +1,4 @@
-use Rattle.std.proofs.Common.{true, false, Err, refl, subst, sym}
+use Rattle.std.proofs.Common.{Err, subst, sym}
 use Rattle.ui_machine.specs.Definition.{Definition}
 use Rattle.ui_machine.specs.Runs.{beginning, of_build}
 use Rattle.ui_machine.specs.State.Config.{Config}
@@ -10,6 +10,7 @@ use Rattle.engine_world.specs.TaskView.{build_from}
 use Rattle.engine_pools.specs.Dispatched.{IsAtRest}
 use Rattle.engine_pools.specs.PoolView.{world_at}
 use Rattle.engine_pools.specs.Safety.{IsSafe}
+use Rattle.ui_engine.specs.declared.cores.Phase.TheVariants as phases
 use Rattle.ui_engine.specs.declared.faults.SessionFault.{SessionFault}
 use Rattle.ui_engine.specs.SessionView.{Comes, building, state_at}
 use Rattle.ui_engine.proofs.Beginning.{begins_at}
@@ -30,7 +31,7 @@ dispatch-requires-clause-safe g c =
     subst (λ (x : Definition). IsSafe e (beginning w (Building (build_from x 0 fs)))) (sym same) (subst (λ (x : Config). IsSafe e x) (sym begins) safe)
 
 pub invariant_of-result : goal.invariant_of-result
-invariant_of-result g c _ =
+invariant_of-result g c =
     let pool = seen (λ p. (g.dyn-1.0.entry p.peer.vtable).1.state p.peer.value) (entries c.args.pool) in
     let may = relations (λ p. (g.dyn-1.0.entry p.peer.vtable).1.moves p.peer.value) (entries c.args.pool) in
     let left = seen (λ p. (g.dyn-1.0.entry p.peer.vtable).1.state p.peer.value) (entries c.dispatch.new.pool) in
@@ -57,7 +58,7 @@ returns-in-Ok-clause-built g c =
     let new = world_of c.dispatch.new.engine.world in
     let begins = begins_at d (as_peers pool) w fs c.requires.begun.world c.requires.begun.forwards in
     let carried = built_as (as_peers pool) w fs c.in-Ok.reply same begins c.in-Ok.ensures.carried in
-    ended d may left (of_build d (as_peers pool)) c.in-Ok.reply new false refl carried
+    ended d may left (of_build d (as_peers pool)) c.in-Ok.reply c.dispatch.new.engine carried
 
 pub returns-in-Err-clause-built : goal.returns-in-Err-clause-built
 returns-in-Err-clause-built g c =
@@ -71,5 +72,5 @@ returns-in-Err-clause-built g c =
     let new = world_of c.dispatch.new.engine.world in
     let begins = begins_at d (as_peers pool) w fs c.requires.begun.world c.requires.begun.forwards in
     let there = build_broken_as (as_peers pool) w fs same begins c.in-Err.ensures.carried in
-    subst (λ (f : SessionFault). Comes (Err f) (building may d (as_peers pool)) d (state_at left (session_at d new true))) (sym c.from.ensures)
-    (broke_off d may left (of_build d (as_peers pool)) new there)
+    subst (λ (f : SessionFault). Comes (Err f) (building may d (as_peers pool)) d (state_at left (session_at d c.dispatch.new.engine phases.Stopped))) (sym c.from.ensures)
+    (broke_off d may left (of_build d (as_peers pool)) c.dispatch.new.engine there)

@@ -1,4 +1,4 @@
-use Rattle.std.proofs.Common.{◌≡◌, Ok, subst}
+use Rattle.std.proofs.Common.{◌≡◌, [], Ok, subst}
 use Rattle.std.proofs.lemmas.Result.{err_from_is_err_and}
 use Rattle.ui_machine.specs.Definition.{Definition}
 use Rattle.law_sessions.specs.Sessions.{EventRead}
@@ -6,7 +6,7 @@ use Rattle.definition_format.specs.Meaning.{event_of}
 use Rattle.builder_defs.specs.EventMeaning.{Fails, event_denoted}
 use Rattle.native_peers.specs.Pool.{entries}
 use Rattle.event_lines.proofs.EventLemmas.{unread}
-use Rattle.c_sessions.specs.Nobody.{alone, nobody}
+use Rattle.c_sessions.specs.Nobody.{nobody}
 use Rattle.c_sessions.proofs.Alone.{halts_alone, neither, none, says_alone, seated_alone}
 use Rattle.c_sessions.proofs.Streams.{left_after, place_after}
 use Rattle.c_sessions.proofs.hosted_session.HostedSession.dispatch_line.Goals as goal
@@ -22,7 +22,7 @@ returns-in_err-event-clause-replies c =
     let p = err_from_is_err_and c.from_residual.result c.from_residual.ensures.1 in
     let line = c.args.line.now in
     let fails = subst (λ (d : Definition). Fails c.in_err-event.field-0.0 (event_denoted d line)) c.definition-definition.ensures c.in_err-event.ensures.exact in
-    rw (p.1, p.2) (unread nobody (alone c.args.self.now.core) line c.in_err-event.field-0.0 fails)
+    rw (p.1, p.2) (unread nobody [] c.args.self.now.core line c.in_err-event.field-0.0 fails)
 
 pub returns-in_err-dispatch-clause-replies : goal.returns-in_err-dispatch-clause-replies
 returns-in_err-dispatch-clause-replies c =

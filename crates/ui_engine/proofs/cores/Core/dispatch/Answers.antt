@@ -1,42 +1,35 @@
-use Rattle.std.proofs.Common.{◌≡◌, None, ap, subst, sym, ◌∙◌}
-use Rattle.ui_machine.specs.Rules.Events.{refusal}
-use Rattle.definition_format.specs.declared.events.Event as code
+use Rattle.std.proofs.Common.{Ok, subst}
+use Rattle.std.proofs.lemmas.Result.{err_from_is_err_and}
 use Rattle.definition_format.specs.Meaning.{event_of}
 use Rattle.native_peers.specs.Pool.{entries, relations, seen}
-use Rattle.engine_pools.specs.PoolView.{world_at}
-use Rattle.engine_pools.specs.Promises.{EventKeeps}
-use Rattle.ui_engine.specs.SessionView.{AnswersEvent, SessionState, state_at}
-use Rattle.ui_engine.proofs.Serving.{answers_event}
+use Rattle.engine_pools.specs.declared.courses.Progress.{Progress}
+use Rattle.ui_engine.specs.SessionView.{BeginsEvent}
+use Rattle.ui_engine.proofs.InParts.{answers_fault, answers_reply, comes_as, has_ended, made_as, none_as}
 use Rattle.ui_engine.proofs.cores.Core.dispatch.Goals as goal
 
-pub returns-in-Request-clause-answers : goal.returns-in-Request-clause-answers
-returns-in-Request-clause-answers g c =
+pub returns-in_err-reply-2-clause-answers : goal.returns-in_err-reply-2-clause-answers
+returns-in_err-reply-2-clause-answers g c =
     let may = relations (λ p. (g.dyn-1.0.entry p.peer.vtable).1.moves p.peer.value) (entries c.args.pool.now) in
     let pool = seen (λ p. (g.dyn-1.0.entry p.peer.vtable).1.state p.peer.value) (entries c.args.pool.now) in
-    let left = seen (λ p. (g.dyn-1.0.entry p.peer.vtable).1.state p.peer.value) (entries c.serve.new.pool) in
     let s = c.args.self.now in
-    let goes_on = sym (ap (λ (x : SessionState). x.stopped) c.self.view_is) ∙ c.if-self.false in
-    subst (λ (event : code.Event). AnswersEvent may s.stopped c.serve.result (state_at pool s) (event_of event) (state_at left c.serve.new.self)) (sym c.in-Request.is)
-    (answers_event may c.serve.result (state_at pool s) _ (state_at left c.serve.new.self) goes_on c.serve.ensures.answers)
+    let begins = subst (λ (p : Progress). BeginsEvent may s.stopped (Ok p) pool s (event_of c.args.event) c.begin.new.self) c.in-UnderWay.is c.in_ok-reply.ensures.begins in
+    let p = err_from_is_err_and c.from_residual-in_err-reply-2.result c.from_residual-in_err-reply-2.ensures.1 in
+    rw (p.1, p.2) (answers_fault may pool _ s (event_of c.args.event) s.stopped c.in-UnderWay.course c.begin.new.self c.advance.new.self begins c.in_err-reply-2.field-0.0 c.in_err-reply-2.ensures.comes)
 
-pub returns-in-Request-clause-keeps : goal.returns-in-Request-clause-keeps
-returns-in-Request-clause-keeps g c _ none =
-    let pool = seen (λ p. (g.dyn-1.0.entry p.peer.vtable).1.state p.peer.value) (entries c.args.pool.now) in
-    let s = c.args.self.now in
-    subst (λ (event : code.Event). refusal s.world (event_of event) ≡ None → EventKeeps s.definition (world_at pool s.world) (event_of event)) (sym c.in-Request.is) c.serve.ensures.keeps none
-
-pub returns-in-Turn-clause-answers : goal.returns-in-Turn-clause-answers
-returns-in-Turn-clause-answers g c =
+pub returns-clause-answers : goal.returns-clause-answers
+returns-clause-answers g c =
     let may = relations (λ p. (g.dyn-1.0.entry p.peer.vtable).1.moves p.peer.value) (entries c.args.pool.now) in
     let pool = seen (λ p. (g.dyn-1.0.entry p.peer.vtable).1.state p.peer.value) (entries c.args.pool.now) in
-    let left = seen (λ p. (g.dyn-1.0.entry p.peer.vtable).1.state p.peer.value) (entries c.turn.new.pool) in
     let s = c.args.self.now in
-    let goes_on = sym (ap (λ (x : SessionState). x.stopped) c.self.view_is) ∙ c.if-self.false in
-    subst (λ (event : code.Event). AnswersEvent may s.stopped c.turn.result (state_at pool s) (event_of event) (state_at left c.turn.new.self)) (sym c.in-Turn.is)
-    (answers_event may c.turn.result (state_at pool s) _ (state_at left c.turn.new.self) goes_on c.turn.ensures.answers)
+    let begins = subst (λ (p : Progress). BeginsEvent may s.stopped (Ok p) pool s (event_of c.args.event) c.begin.new.self) c.in-UnderWay.is c.in_ok-reply.ensures.begins in
+    answers_reply may pool _ s (event_of c.args.event) s.stopped c.in-UnderWay.course c.begin.new.self c.advance.new.self begins c.in-Ended-2.reply
+    (comes_as _ _ c.in-UnderWay.course pool _ c.begin.new.self c.advance.new.self c.in-Ended-2.is c.in_ok-reply-2.ensures.comes)
 
-pub returns-in-Turn-clause-keeps : goal.returns-in-Turn-clause-keeps
-returns-in-Turn-clause-keeps g c _ none =
+pub unreachable-requires : goal.unreachable-requires
+unreachable-requires g c =
+    let may = relations (λ p. (g.dyn-1.0.entry p.peer.vtable).1.moves p.peer.value) (entries c.args.pool.now) in
     let pool = seen (λ p. (g.dyn-1.0.entry p.peer.vtable).1.state p.peer.value) (entries c.args.pool.now) in
     let s = c.args.self.now in
-    subst (λ (event : code.Event). refusal s.world (event_of event) ≡ None → EventKeeps s.definition (world_at pool s.world) (event_of event)) (sym c.in-Turn.is) c.turn.ensures.keeps none
+    let begins = subst (λ (p : Progress). BeginsEvent may s.stopped (Ok p) pool s (event_of c.args.event) c.begin.new.self) c.in-UnderWay.is c.in_ok-reply.ensures.begins in
+    has_ended may pool _ s (event_of c.args.event) s.stopped c.in-UnderWay.course c.begin.new.self c.advance.new.self begins c.in-UnderWay-2.field-0
+    (comes_as _ _ c.in-UnderWay.course pool _ c.begin.new.self c.advance.new.self c.in-UnderWay-2.is c.in_ok-reply-2.ensures.comes) (none_as c.begin.new.self.counted c.in-UnderWay.is c.in_ok-reply.ensures.none) (made_as c.advance.new.self.counted _ c.in-UnderWay-2.is c.in_ok-reply-2.ensures.made)

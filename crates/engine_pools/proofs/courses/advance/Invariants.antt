@@ -1,0 +1,28 @@
+use Rattle.std.proofs.Common.{◌≡◌, ◌+◌, ℕ, List, length}
+use Rattle.ui_machine.specs.Prefix.{IsPrefix}
+use Rattle.ui_machine.specs.State.Config.{World}
+use Rattle.ui_machine.specs.State.Tasks.{Event}
+use Rattle.native_peers.specs.Pool.{entries, relations, seen}
+use Rattle.native_peers.specs.Seen.{SameRelations}
+use Rattle.engine_world.specs.Counting.{Counts, nothing}
+use Rattle.engine_world.specs.View.{world_of}
+use Rattle.engine_pools.specs.CallPoints.{point_of}
+use Rattle.engine_pools.specs.Courses.{IsUnderWay, sources_left}
+use Rattle.engine_pools.proofs.courses.advance.Given as goal
+
+abbrev pub invariant-dispatches : goal.invariant-dispatches
+invariant-dispatches g l =
+    let old = seen (λ p. (g.dyn-1.0.entry p.peer.vtable).1.state p.peer.value) (entries l.fn.pool) in
+    let now = seen (λ p. (g.dyn-1.0.entry p.peer.vtable).1.state p.peer.value) (entries l.pool) in
+    let may = relations (λ p. (g.dyn-1.0.entry p.peer.vtable).1.moves p.peer.value) (entries l.fn.pool) in
+    record {
+      so : (event : Event) (w : World) (front : List (List ℕ)) → IsUnderWay l.definition may event w front l.fn.course (point_of l.definition old l.fn.engine)
+          → IsUnderWay l.definition may event w front l.course (point_of l.definition now l.engine);
+      same : SameRelations may (relations (λ p. (g.dyn-1.0.entry p.peer.vtable).1.moves p.peer.value) (entries l.pool));
+      counts : Counts l.definition nothing l.engine;
+      grows : IsPrefix (world_of l.fn.engine.world).transcript (world_of l.engine.world).transcript;
+      made : l.course.so_far.steps + l.engine.counted + l.most ≡ l.fn.course.so_far.steps + l.fn.engine.counted + l.fn.most;
+    }
+
+abbrev pub decreases-dispatches : goal.decreases-dispatches
+decreases-dispatches g l = length (sources_left l.course.left)

@@ -1,0 +1,29 @@
+use Rattle.std.proofs.Common.{◌≡◌, ◌≤◌, ◌+◌}
+use Rattle.ui_machine.specs.Steps.{most_steps}
+use Rattle.ui_machine.specs.Prefix.{IsPrefix}
+use Rattle.native_peers.specs.Pool.{entries, relations, seen}
+use Rattle.native_peers.specs.Seen.{SameRelations}
+use Rattle.engine_world.specs.Counting.{Counts, nothing}
+use Rattle.engine_world.specs.View.{world_of}
+use Rattle.engine_pools.specs.CallPoints.{point_of}
+use Rattle.engine_pools.specs.Following.{Follows}
+use Rattle.engine_pools.specs.Safety.{ComesOfSafe}
+use Rattle.engine_pools.proofs.runs.run_for.Given as goal
+
+abbrev pub invariant-steps : goal.invariant-steps
+invariant-steps g l =
+    let old = seen (λ p. (g.dyn-1.0.entry p.peer.vtable).1.state p.peer.value) (entries l.fn.pool) in
+    let now = seen (λ p. (g.dyn-1.0.entry p.peer.vtable).1.state p.peer.value) (entries l.pool) in
+    let may = relations (λ p. (g.dyn-1.0.entry p.peer.vtable).1.moves p.peer.value) (entries l.fn.pool) in
+    record {
+      follows : Follows l.definition may (point_of l.definition old l.fn.engine) (point_of l.definition now l.engine);
+      safe : ComesOfSafe l.definition (point_of l.definition now l.engine);
+      same : SameRelations may (relations (λ p. (g.dyn-1.0.entry p.peer.vtable).1.moves p.peer.value) (entries l.pool));
+      counts : Counts l.definition nothing l.engine;
+      grows : IsPrefix (world_of l.fn.engine.world).transcript (world_of l.engine.world).transcript;
+      made : l.engine.counted + l.left ≡ l.fn.engine.counted + l.fn.most;
+      few : l.fn.engine.counted ≤ most_steps → l.engine.counted ≤ most_steps;
+    }
+
+abbrev pub decreases-steps : goal.decreases-steps
+decreases-steps g l = l.left

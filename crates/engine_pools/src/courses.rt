@@ -1,0 +1,149 @@
+//! Events that are gone on with for so many steps at a time.
+
+ghost use Rattle.std.specs.Prelude.{◌≡◌, ◌≤◌, ◌+◌, ◌*◌, ℕ, List, option_map};
+ghost use Rattle.ui_machine.specs.Prefix.{IsPrefix};
+ghost use Rattle.ui_machine.specs.State.Config.{World};
+ghost use Rattle.ui_machine.specs.State.Tasks.{Event};
+ghost use Rattle.ui_machine.specs.Steps.{most_steps};
+ghost use Rattle.engine_world.specs.Counting.{Counts, nothing};
+ghost use Rattle.engine_world.specs.View.{world_of};
+ghost use Rattle.engine_world.specs.EngineView.{config_of};
+ghost use Rattle.law_typing.specs.Laws.WellRead.{WellRead};
+ghost use Rattle.law_typing.specs.Verdict.Accepted.{Accepted};
+ghost use Rattle.main_context.specs.Attached.{next_source, numbers_after};
+ghost use Rattle.main_context.specs.Dues.{due_of};
+ghost use Rattle.native_peers.specs.Pool.{entries, relations, seen};
+ghost use Rattle.native_peers.specs.Seen.{SameRelations};
+ghost use Rattle.engine_pools.specs.CallPoints.{point_of};
+ghost use Rattle.engine_pools.specs.Courses.{BeginsNext, GoesOn, IfEnded, IfUnderWay, IsUnderWay, Proceeds, sources_left};
+ghost use Rattle.engine_pools.specs.Dispatched.{IsAtRest};
+ghost use Rattle.engine_pools.specs.PoolView.{Knows, world_at};
+ghost use Rattle.engine_pools.specs.Promises.{Rests};
+
+use crate::dispatches::{Reply, begin_dispatch, end_dispatch};
+use crate::runs::run_for;
+use definitions::Definition;
+use engine_world::engine::Engine;
+use engine_world::task::Task;
+use main_context::{Batch, Due};
+use native_peers::{Peer, PeerPool};
+use std::alloc::AllocError;
+
+/// An event that has begun and not ended: it is in one of its dispatches.
+#[derive(Drop)]
+pub struct Course {
+    /// The sources of its turn whose dispatches have not begun; none of a request.
+    pub left: Option<Batch>,
+    /// What the dispatches before this one led to.
+    pub so_far: Reply,
+}
+
+/// How far an event has come.
+#[derive(Drop)]
+pub enum Progress {
+    /// It goes on.
+    UnderWay(Course),
+    /// It has ended, and led to this.
+    Ended(Reply),
+}
+
+// The source whose turn is next, if there is one.
+fn next_due(engine: &Engine, left: &mut Option<Batch>) -> Option<Due>
+    ensures given { result ≡ option_map due_of (next_source (world_of engine.now.world).sources (sources_left left.old)) }
+    ensures left { sources_left left.new ≡ numbers_after (world_of engine.now.world).sources (sources_left left.old) }
+{
+    match left {
+        Some(batch) => engine.world.context.next_of(batch),
+        None => None,
+    }
+}
+
+/// Begins the dispatch of the source whose turn is next. Where there is none the event has ended.
+///
+/// # Errors
+///
+/// `AllocError` if no memory is found.
+pub fn begin_next(
+    engine: &mut Engine,
+    definition: &Definition,
+    course: Course,
+) -> Result<Progress, AllocError>
+    requires rests { IsAtRest definition.now engine.now }
+    ensures still { IfEnded result (λ _. engine.new ≡ engine.old) }
+    ensures counted { IfUnderWay result (λ _. Counts definition.now nothing engine.new) }
+    ensures begins { BeginsNext result course (world_of engine.old.world) (config_of definition.now engine.new) }
+    ensures grows { IsPrefix (world_of engine.old.world).transcript (world_of engine.new.world).transcript }
+{
+    let Course { mut left, so_far } = course;
+    let Some(due) = next_due(engine, &mut left) else {
+        return Ok(Progress::Ended(so_far));
+    };
+    let task = Task::Due { source: due.source };
+    begin_dispatch(engine, definition, task)?;
+    Ok(Progress::UnderWay(Course { left, so_far }))
+}
+
+/// Goes on with an event for at most so many counted steps: where it does not end, just so many were made. The dispatch of a source begins
+/// where the one before it has ended.
+///
+/// # Errors
+///
+/// `AllocError` if no memory is found: the transcript is as far as the event came.
+pub fn advance(
+    engine: &mut Engine,
+    definition: &Definition,
+    pool: &mut PeerPool,
+    course: Course,
+    most: u64,
+) -> Result<Progress, AllocError>
+    requires accepted { Accepted definition.now }
+    requires well { WellRead definition.now }
+    requires counted { Counts definition.now nothing engine.now }
+    requires goes_on { GoesOn definition.now (relations (λ p. (⟦<dyn Peer as Peer>⟧ p.peer.vtable).moves p.peer.value) (entries pool.now)) course
+        (point_of definition.now (seen (λ p. (⟦<dyn Peer as Peer>⟧ p.peer.vtable).state p.peer.value) (entries pool.now)) engine.now) }
+    ensures rests { IfEnded result (λ _. IsAtRest definition.now engine.new) }
+    ensures knows { IfEnded result (λ _. Knows (world_of engine.new.world) (seen (λ p. (⟦<dyn Peer as Peer>⟧ p.peer.vtable).state p.peer.value) (entries pool.new))) }
+    ensures resting { IfEnded result (λ _. Rests definition.now (world_at (seen (λ p. (⟦<dyn Peer as Peer>⟧ p.peer.vtable).state p.peer.value) (entries pool.new)) (world_of engine.new.world))) }
+    ensures counted { IfUnderWay result (λ _. Counts definition.now nothing engine.new) }
+    ensures proceeds { (event : Event) (w : World) (front : List (List ℕ)) →
+        IsUnderWay definition.now (relations (λ p. (⟦<dyn Peer as Peer>⟧ p.peer.vtable).moves p.peer.value) (entries pool.old)) event w front course
+        (point_of definition.now (seen (λ p. (⟦<dyn Peer as Peer>⟧ p.peer.vtable).state p.peer.value) (entries pool.old)) engine.old) →
+        Proceeds result definition.now (relations (λ p. (⟦<dyn Peer as Peer>⟧ p.peer.vtable).moves p.peer.value) (entries pool.old)) event w front
+        (point_of definition.now (seen (λ p. (⟦<dyn Peer as Peer>⟧ p.peer.vtable).state p.peer.value) (entries pool.new)) engine.new) }
+    ensures made { IfUnderWay result (λ next. next.so_far.steps + engine.new.counted ≡ course.so_far.steps + engine.old.counted + most) }
+    ensures most { IfEnded result (λ reply. reply.steps ≤ course.so_far.steps + engine.old.counted + most) }
+    ensures same { SameRelations (relations (λ p. (⟦<dyn Peer as Peer>⟧ p.peer.vtable).moves p.peer.value) (entries pool.old)) (relations (λ p. (⟦<dyn Peer as Peer>⟧ p.peer.vtable).moves p.peer.value) (entries pool.new)) }
+    ensures grows { IsPrefix (world_of engine.old.world).transcript (world_of engine.new.world).transcript }
+{
+    let mut course = course;
+    let mut most = most;
+    'dispatches: loop {
+        most = match run_for(engine, definition, pool, most)? {
+            Some(rest) => rest,
+            None => return Ok(Progress::UnderWay(course)),
+        };
+        let one = end_dispatch(engine, definition)?;
+        match begin_next(engine, definition, course.after(one))? {
+            Progress::UnderWay(next) => course = next,
+            Progress::Ended(reply) => return Ok(Progress::Ended(reply)),
+        }
+    }
+}
+
+impl Course {
+    // What is left once the dispatch has ended.
+    fn after(self, one: Reply) -> Course
+        requires few { self.so_far.dispatches + 1 ≤ 256 }
+        requires steps { self.so_far.steps + one.steps ≤ 256 * most_steps }
+        ensures { result ≡ record { left = self.left; so_far = record { result = one.result; dispatches = self.so_far.dispatches + 1; steps = self.so_far.steps + one.steps } } }
+    {
+        Course {
+            left: self.left,
+            so_far: Reply {
+                result: one.result,
+                dispatches: self.so_far.dispatches + 1,
+                steps: self.so_far.steps + one.steps,
+            },
+        }
+    }
+}

@@ -1,0 +1,113 @@
+//! The lines of an event, which are said as they come.
+
+ghost use Rattle.std.specs.Prelude.{◌≡◌, ◌≤◌, ◌++◌, [], Ok, ℕ, List, drop, length, take, true, false, IfOk, MatchResult};
+ghost use Rattle.ui_machine.specs.State.Config.{World};
+ghost use Rattle.ui_machine.specs.State.Tasks.{Event};
+ghost use Rattle.native_peers.specs.Pool.{entries, relations, seen};
+ghost use Rattle.native_peers.specs.Seen.{SameRelations};
+ghost use Rattle.ui_engine.specs.SessionView.{ComesOn, IsSeated, without_lines};
+ghost use Rattle.event_lines.specs.Slices.{Follows, IsBegun, PutsMore};
+ghost use Rattle.event_lines.specs.Texts.{lines_text, stopped_line};
+
+use crate::devices::Writer;
+use crate::gather::Gather;
+use crate::line_outcome::LineOutcome;
+use crate::writing::{put_lines, put_stopped};
+use native_peers::Peer;
+use ui_engine::{Progress, Session};
+use ui_machine::DeviceFault;
+
+/// How many counted steps an event makes between the times that its lines are said.
+const SLICE_STEPS: u64 = 64;
+
+// Says the lines of a session behind the first so many, unless the writer has failed, and has the session forget all of them.
+fn put_new<W: Writer>(
+    session: &mut Session,
+    known: usize,
+    put: Result<(), DeviceFault>,
+    gather: &mut Gather,
+    writer: &mut W,
+) -> Result<(), DeviceFault>
+    requires known { known ≤ length session.now.core.world.transcript }
+    requires works { MatchResult put (λ _. W.failed writer.old ≡ false) (λ _. W.failed writer.old ≡ true) }
+    ensures puts { PutsMore put result (W.sent writer.old) gather.old (W.sent writer.new) gather.new (lines_text (drop known session.old.core.world.transcript)) }
+    ensures marks { MatchResult result (λ _. W.failed writer.new ≡ false) (λ _. W.failed writer.new ≡ true) }
+    ensures forgets { session.new.core ≡ without_lines session.old.core }
+    ensures pool { session.new.pool ≡ session.old.pool }
+{
+    match put {
+        Ok(()) => {
+            let more = put_lines(gather, writer, &session.transcript()[known..]);
+            session.forget();
+            return more;
+        }
+        Err(fault) => {
+            session.forget();
+            return Err(fault);
+        }
+    }
+}
+
+// Says the lines with which an event stopped, and that it did.
+fn stop<W: Writer>(
+    session: &mut Session,
+    number: u64,
+    put: Result<(), DeviceFault>,
+    gather: &mut Gather,
+    writer: &mut W,
+) -> Result<LineOutcome, DeviceFault>
+    requires works { MatchResult put (λ _. W.failed writer.old ≡ false) (λ _. W.failed writer.old ≡ true) }
+    ensures puts { PutsMore put result (W.sent writer.old) gather.old (W.sent writer.new) gather.new (lines_text session.old.core.world.transcript ++ stopped_line number) }
+    ensures is { IfOk result (λ outcome. outcome ≡ LineOutcome.Stopped) }
+    ensures marks { MatchResult result (λ _. W.failed writer.new ≡ false) (λ _. W.failed writer.new ≡ true) }
+    ensures forgets { session.new.core ≡ without_lines session.old.core }
+    ensures pool { session.new.pool ≡ session.old.pool }
+{
+    put_new(session, 0, put, gather, writer)?;
+    put_stopped(gather, writer, number)?;
+    Ok(LineOutcome::Stopped)
+}
+
+/// Goes on with the event of a line until it has ended, and says its lines as they come: those of the session behind the first so many. Where
+/// the writer fails the event goes on to its end unsaid.
+///
+/// # Errors
+///
+/// `DeviceFault` if a device fails. It is not called again.
+pub fn follow<W: Writer>(
+    session: &mut Session,
+    begun: Progress,
+    known: usize,
+    number: u64,
+    gather: &mut Gather,
+    writer: &mut W,
+) -> Result<LineOutcome, DeviceFault>
+    requires known { known ≤ length session.now.core.world.transcript }
+    requires works { W.failed writer.old ≡ false }
+    requires begun { IsBegun begun (relations (λ p. (⟦<dyn Peer as Peer>⟧ p.peer.vtable).moves p.peer.value) (entries session.now.pool)) (seen (λ p. (⟦<dyn Peer as Peer>⟧ p.peer.vtable).state p.peer.value) (entries session.now.pool)) session.now.core }
+    requires seated { IsSeated (seen (λ p. (⟦<dyn Peer as Peer>⟧ p.peer.vtable).state p.peer.value) (entries session.now.pool)) session.now.core }
+    ensures follows { (event : Event) (w : World) → ComesOn (Ok begun) (relations (λ p. (⟦<dyn Peer as Peer>⟧ p.peer.vtable).moves p.peer.value) (entries session.old.pool)) session.old.core.definition event w [] (seen (λ p. (⟦<dyn Peer as Peer>⟧ p.peer.vtable).state p.peer.value) (entries session.old.pool)) session.old.core →
+        Follows (relations (λ p. (⟦<dyn Peer as Peer>⟧ p.peer.vtable).moves p.peer.value) (entries session.old.pool)) session.old.core.definition event w (take known session.old.core.world.transcript) number result (W.sent writer.old) gather.old (W.sent writer.new) gather.new (seen (λ p. (⟦<dyn Peer as Peer>⟧ p.peer.vtable).state p.peer.value) (entries session.new.pool)) session.new.core }
+    ensures marks { MatchResult result (λ _. W.failed writer.new ≡ false) (λ _. W.failed writer.new ≡ true) }
+    ensures seated { IsSeated (seen (λ p. (⟦<dyn Peer as Peer>⟧ p.peer.vtable).state p.peer.value) (entries session.new.pool)) session.new.core }
+    ensures same { SameRelations (relations (λ p. (⟦<dyn Peer as Peer>⟧ p.peer.vtable).moves p.peer.value) (entries session.old.pool)) (relations (λ p. (⟦<dyn Peer as Peer>⟧ p.peer.vtable).moves p.peer.value) (entries session.new.pool)) }
+{
+    let mut progress = begun;
+    let mut known = known;
+    let mut put = Ok(());
+    'slices: loop {
+        put = put_new(session, known, put, gather, writer);
+        known = 0;
+        let course = match progress {
+            Progress::UnderWay(course) => course,
+            Progress::Ended(_) => {
+                put?;
+                return Ok(LineOutcome::Said);
+            }
+        };
+        match session.advance(course, SLICE_STEPS) {
+            Ok(next) => progress = next,
+            Err(_) => return stop(session, number, put, gather, writer),
+        }
+    }
+}
