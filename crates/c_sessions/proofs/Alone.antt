@@ -25,7 +25,7 @@ use Rattle.event_lines.specs.OpeningView.{IsOpening}
 use Rattle.event_lines.specs.Texts.{lines_text}
 use Rattle.event_lines.specs.declared.opening.Opening.TheVariants as code
 use Rattle.event_lines.proofs.Befores.{event_before}
-use Rattle.c_sessions.proofs.Heard.{halted, said_event}
+use Rattle.event_lines.proofs.EventLemmas.{answers_fault, answers_reply}
 use Rattle.c_sessions.specs.Nobody.{alone, nobody}
 use Rattle.c_sessions.specs.Starting.{IsBuilt, IsRefused, IsStopped}
 use Rattle.c_sessions.specs.Unread.{lines_since, unread}
@@ -138,11 +138,11 @@ module _ {I : Type 0} {Held : I → Type 0} (before : List (NamedPeer I Held)) (
 
     pub says_alone : (reply : Reply) → AnswersEvent may old.stopped (Ok reply) first event last
         → event_replies nobody (alone old) line (outcome_of {T = Unit {0}} (Ok tt) (lines_since old new)) (alone new)
-    says_alone reply answers = heard_here (outcome_of {T = Unit {0}} (Ok tt) (lines_since old new)) (said_event may first line event denotes last longer reply answers)
+    says_alone reply answers = heard_here (outcome_of {T = Unit {0}} (Ok tt) (lines_since old new)) (answers_reply may first line event denotes last longer reply answers)
 
     pub halts_alone : (fault : SessionFault) → AnswersEvent may old.stopped (Err fault) first event last
         → event_replies nobody (alone old) line (outcome_of {T = Unit {0}} (Err (dispatch_fault fault)) (lines_since old new)) (alone new)
-    halts_alone fault answers = heard_here (outcome_of {T = Unit {0}} (Err (dispatch_fault fault)) (lines_since old new)) (halted may first line event denotes last longer fault answers)
+    halts_alone fault answers = heard_here (outcome_of {T = Unit {0}} (Err (dispatch_fault fault)) (lines_since old new)) (answers_fault may first line event denotes last longer fault answers)
 
 -- ** a session that is held
 

@@ -1,4 +1,3 @@
-pub mod Heard
 pub mod Alone
 pub mod Handling
 pub mod KeptSome

@@ -9,14 +9,16 @@ use Rattle.definition_format.specs.declared.event_faults.EventError.TheVariants 
 use Rattle.ui_machine.specs.Prefix.{IsPrefix}
 use Rattle.native_peers.specs.Seen.{Relations, Seen}
 use Rattle.engine_pools.specs.declared.courses.Progress.{Progress}
+use Rattle.engine_pools.specs.declared.dispatches.Reply.{Reply}
+use Rattle.engine_pools.specs.Ways.{tally_of}
 use Rattle.ui_engine.specs.declared.faults.SessionFault.{SessionFault}
 use Rattle.ui_engine.specs.declared.faults.SessionFault.TheVariants as ends
-use Rattle.ui_engine.specs.SessionView.{SessionState, BeginsBy, BeginsEvent, state_at}
+use Rattle.ui_engine.specs.SessionView.{SessionState, AnswersBy, AnswersEvent, BeginsBy, BeginsEvent, state_at}
 use Rattle.ui_machine.specs.Limits.{most_line_bytes, most_lines}
 use Rattle.event_lines.specs.EventFileRun as file_run
 use Rattle.event_lines.specs.EventFileRun.{LineComesTo, Meets, Outcome, is_blank, sort_of_line}
 use Rattle.event_lines.specs.LineOutcome.{outcome_of, reading_fault, dispatch_fault}
-use Rattle.event_lines.specs.Events.{event_replies}
+use Rattle.event_lines.specs.Events.{Says, event_replies}
 use Rattle.event_lines.specs.LineStarts.{HasBegun, since}
 use Rattle.event_lines.specs.Reading.{IsOf}
 use Rattle.event_lines.specs.declared.line_reader.Found.{Found}
@@ -34,6 +36,73 @@ drop_all (x ∷ xs) = drop_all xs
 pub grown : {A : Type 0} (xs ys : List A) → IsPrefix xs ys → ys ≡ xs ++ drop (length xs) ys
 grown xs ys longer =
     longer.whole ∙ ap (λ more. xs ++ more) (sym (ap (drop (length xs)) longer.whole ∙ drop_front xs longer.more))
+
+-- ** what a session answers to the event of a line
+
+module _ (may : Relations) (old : SessionState) (line : List ℕ) (event : Event) (denotes : event_denoted old.definition line ≡ Ok event)
+    (new : SessionState) (longer : IsPrefix old.world.transcript new.world.transcript) where
+  shows : new.world.transcript ≡ old.world.transcript ++ since old new
+  shows = grown old.world.transcript new.world.transcript longer
+
+  -- it was carried out
+  pub answers_reply : (reply : Reply) → AnswersEvent may old.stopped (Ok reply) old event new → Says may old line (since old new) new
+  answers_reply reply answers = by old.stopped answers
+    where
+      on : (why : Option Refusal) → AnswersBy may why (Ok reply) old event new → Says may old line (since old new) new
+      on (Some gone) h = cc h.0
+      on (Some clock_back) h = cc h.0
+      on None h = record {
+        event = event;
+        tally = tally_of reply;
+        denotes = denotes;
+        serves = h.leads;
+        shows = shows;
+        definition = h.definition;
+        goes_on = h.goes_on;
+      }
+
+      by : (b : Bool) → AnswersEvent may b (Ok reply) old event new → Says may old line (since old new) new
+      by true h = cc h.0
+      by false h = on (refusal old.world event) h
+
+  -- it is refused, or no memory is found
+  pub answers_fault : (fault : SessionFault) → AnswersEvent may old.stopped (Err fault) old event new
+      → event_replies may old line (outcome_of {T = Unit {0}} (Err (dispatch_fault fault)) (since old new)) new
+  answers_fault fault answers = by old.stopped fault answers
+    where
+      on : (why : Option Refusal) (fault : SessionFault) → refusal old.world event ≡ why → AnswersBy may why (Err fault) old event new
+          → event_replies may old line (outcome_of {T = Unit {0}} (Err (dispatch_fault fault)) (since old new)) new
+      on (Some gone) ends.Released why h = (inr (record { event = event; why = gone; denotes = denotes; refuses = why }, refl), h.1)
+      on (Some gone) ends.ClockBack why h = cc h.0
+      on (Some gone) ends.Stopped why h = cc h.0
+      on (Some gone) ends.OutOfMemory why h = cc h.0
+      on (Some clock_back) ends.ClockBack why h = (inr (record { event = event; why = clock_back; denotes = denotes; refuses = why }, refl), h.1)
+      on (Some clock_back) ends.Released why h = cc h.0
+      on (Some clock_back) ends.Stopped why h = cc h.0
+      on (Some clock_back) ends.OutOfMemory why h = cc h.0
+      on None ends.OutOfMemory why h = inl (record { event = event; denotes = denotes; breaks_off = h.breaks_off; shows = shows; definition = h.definition; stops = h.stops })
+      on None ends.Stopped why h = absurd h
+      on None ends.ClockBack why h = absurd h
+      on None ends.Released why h = absurd h
+
+      by : (b : Bool) (fault : SessionFault) → AnswersEvent may b (Err fault) old event new
+          → event_replies may old line (outcome_of {T = Unit {0}} (Err (dispatch_fault fault)) (since old new)) new
+      by true ends.Stopped h = inr (ap (since old) h.1 ∙ drop_all old.world.transcript, h.1)
+      by true ends.OutOfMemory h = cc h.0
+      by true ends.ClockBack h = cc h.0
+      by true ends.Released h = cc h.0
+      by false fault h = on (refusal old.world event) fault refl h
+
+-- an event that does not begin is answered as it is where it is carried out at once
+begun_badly : (may : Relations) (stopped : Bool) (fault : SessionFault) (pool : List Seen) (old : SessionState) (event : Event) (new : SessionState)
+    → BeginsEvent may stopped (Err fault) pool old event new → AnswersEvent may stopped (Err fault) (state_at pool old) event (state_at pool new)
+begun_badly may true fault pool old event new h = (cc h.0, ap (state_at pool) h.1)
+begun_badly may false fault pool old event new h = by (refusal old.world event) h
+  where
+    by : (why : Option Refusal) → BeginsBy may why (Err fault) pool old event new → AnswersBy may why (Err fault) (state_at pool old) event (state_at pool new)
+    by (Some gone) h = (cc h.0, ap (state_at pool) h.1)
+    by (Some clock_back) h = (cc h.0, ap (state_at pool) h.1)
+    by None h = h
 
 module _ (may : Relations) (pool : List Seen) (old : SessionState) (line : List ℕ) where
   pub unread : (error : EventError) → Fails error (event_denoted old.definition line) → event_replies may (state_at pool old) line (outcome_of {T = Unit {0}} (Err (reading_fault error)) (since old old)) (state_at pool old)
@@ -57,33 +126,8 @@ module _ (may : Relations) (pool : List Seen) (old : SessionState) (line : List 
     -- it is refused, or no memory is found
     pub halted : (new : SessionState) → IsPrefix old.world.transcript new.world.transcript → (fault : SessionFault) → BeginsEvent may old.stopped (Err fault) pool old event new
         → event_replies may (state_at pool old) line (outcome_of {T = Unit {0}} (Err (dispatch_fault fault)) (since old new)) (state_at pool new)
-    halted new longer fault begins = by old.stopped fault begins
-      where
-        shows : new.world.transcript ≡ old.world.transcript ++ since old new
-        shows = grown old.world.transcript new.world.transcript longer
-
-        on : (why : Option Refusal) (fault : SessionFault) → refusal old.world event ≡ why → BeginsBy may why (Err fault) pool old event new
-            → event_replies may (state_at pool old) line (outcome_of {T = Unit {0}} (Err (dispatch_fault fault)) (since old new)) (state_at pool new)
-        on (Some gone) ends.Released why h = (inr (record { event = event; why = gone; denotes = denotes; refuses = why }, refl), ap (state_at pool) h.1)
-        on (Some gone) ends.ClockBack why h = cc h.0
-        on (Some gone) ends.Stopped why h = cc h.0
-        on (Some gone) ends.OutOfMemory why h = cc h.0
-        on (Some clock_back) ends.ClockBack why h = (inr (record { event = event; why = clock_back; denotes = denotes; refuses = why }, refl), ap (state_at pool) h.1)
-        on (Some clock_back) ends.Released why h = cc h.0
-        on (Some clock_back) ends.Stopped why h = cc h.0
-        on (Some clock_back) ends.OutOfMemory why h = cc h.0
-        on None ends.OutOfMemory why h = inl (record { event = event; denotes = denotes; breaks_off = h.breaks_off; shows = shows; definition = h.definition; stops = h.stops })
-        on None ends.Stopped why h = absurd h
-        on None ends.ClockBack why h = absurd h
-        on None ends.Released why h = absurd h
-
-        by : (b : Bool) (fault : SessionFault) → BeginsEvent may b (Err fault) pool old event new
-            → event_replies may (state_at pool old) line (outcome_of {T = Unit {0}} (Err (dispatch_fault fault)) (since old new)) (state_at pool new)
-        by true ends.Stopped h = inr (ap (since old) h.1 ∙ drop_all old.world.transcript, ap (state_at pool) h.1)
-        by true ends.OutOfMemory h = cc h.0
-        by true ends.ClockBack h = cc h.0
-        by true ends.Released h = cc h.0
-        by false fault h = on (refusal old.world event) fault refl h
+    halted new longer fault begins =
+        answers_fault may (state_at pool old) line event denotes (state_at pool new) longer fault (begun_badly may old.stopped fault pool old event new begins)
 
 -- a line that is neither blank nor past a limit is the session's to answer
 pub heard : (may : Relations) (old new : SessionState) (n : ℕ) (found : Found) (buffer line : List ℕ) (outcome : Outcome) → found ≡ founds.Whole → IsOf found buffer line → n ≤ most_lines → is_blank buffer ≡ false

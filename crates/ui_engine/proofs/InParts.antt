@@ -76,7 +76,7 @@ kept_advanced d f same new pool (progress.Ended reply) counts rests knows restin
 
 module _ (d : Definition) (may : Relations) (event : Event) (w : World) (front : List (List ℕ)) (pool : List Seen) (e : Engine) where
   pub comes_so_far : (p : Progress) → Proceeds (Ok p) d may event w front (point_of d pool e) → (phase : Phase) → phase ≡ phase_of p → ComesOn (Ok p) may d event w front pool (session_at d e phase)
-  comes_so_far (progress.UnderWay course) so phase is = record { definition = refl; under_way = ap is_under_way is; so_far = so }
+  comes_so_far (progress.UnderWay course) so phase is = record { definition = refl; under_way = ap is_under_way is; stops = ap has_stopped is; so_far = so }
   comes_so_far (progress.Ended reply) so phase is = record { leads = so.0; value = so.1; definition = refl; goes_on = ap has_stopped is }
 
   pub comes_to_nothing : (serving may d w event).breaks_off (with_seen pool (world_of e.world).peers) (front ++ (world_of e.world).transcript)
@@ -147,6 +147,7 @@ module _ (may : Relations) (d e : Definition) (same : e ≡ d) (pool : List Seen
       subst (λ (x : Reply). ComesOn (Ok (progress.UnderWay (record { left = None; so_far = x }))) may d (config.request r) (world_at pool (world_of engine.world)) [] pool (session_at d new phases.UnderWay)) (sym none) (record {
         definition = refl;
         under_way = refl;
+        stops = refl;
         so_far = engine_handles d may pool (world_of engine.world) knows r new begins (subst (λ (x : Definition). config_of x new ≡ beginning (world_of engine.world) (Handling r)) same is);
       })
 

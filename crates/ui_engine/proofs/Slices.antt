@@ -26,6 +26,7 @@ module _ (may : Relations) (d : Definition) (event : Event) (w : World) (front :
       record {
         definition = so.definition;
         under_way = so.under_way;
+        stops = so.stops;
         so_far = record {
           may_begin = u.may_begin;
           first = u.first;
@@ -50,7 +51,7 @@ module _ (may : Relations) (d : Definition) (event : Event) (w : World) (front :
 
 module _ {may later : Relations} (same : SameRelations may later) (d : Definition) (event : Event) (w : World) (front : List (List ℕ)) (pool : List Seen) (s : SessionState) where
   pub course_before : (course : Course) → InCourse later d event w front course pool s → InCourse may d event w front course pool s
-  course_before course so = record { definition = so.definition; under_way = so.under_way; so_far = under_way_before same so.so_far }
+  course_before course so = record { definition = so.definition; under_way = so.under_way; stops = so.stops; so_far = under_way_before same so.so_far }
 
   pub comes_before : (r : Result Progress SessionFault) → ComesOn r later d event w front pool s → ComesOn r may d event w front pool s
   comes_before (Ok (progress.UnderWay course)) so = course_before course so
@@ -69,6 +70,7 @@ module _ {may later : Relations} (same : SameRelations may later) (d : Definitio
     in_course = subst (λ (x : Definition). InCourse later x event w front course pool s) (sym so.definition) (record {
       definition = so.definition;
       under_way = so.under_way;
+      stops = so.stops;
       so_far = under_way_before (same_back same) so.so_far;
     });
   }

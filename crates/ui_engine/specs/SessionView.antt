@@ -94,10 +94,12 @@ AnswersEvent may false result old event new = AnswersBy may (refusal old.world e
 
 -- ** events in parts
 
--- an event from a world has come so far, in which the session does nothing else; of it these lines are no longer kept
+-- An event from a world has come so far. The session does nothing else: as far as other events go it has stopped. Of the event these lines
+-- are no longer kept.
 pub record InCourse (may : Relations) (d : Definition) (event : Event) (w : World) (front : List (List ℕ)) (course : Course) (pool : List Seen) (new : SessionState) : Type 0 where
   pub definition : new.definition ≡ d
   pub under_way : new.under_way ≡ true
+  pub stops : new.stopped ≡ true
   pub so_far : IsUnderWay d may event w front course (point_in pool new)
 
 -- so it is of some event

@@ -117,6 +117,7 @@ impl Core {
         ensures seated { IsSeated (seen (λ p. (⟦<dyn Peer as Peer>⟧ p.peer.vtable).state p.peer.value) (entries pool.now)) self.new }
         ensures in_course { IfUnderWay result (λ course. HasCourse (relations (λ p. (⟦<dyn Peer as Peer>⟧ p.peer.vtable).moves p.peer.value) (entries pool.now)) course (seen (λ p. (⟦<dyn Peer as Peer>⟧ p.peer.vtable).state p.peer.value) (entries pool.now)) self.new) }
         ensures none { IfUnderWay result (λ course. course.so_far.steps + self.new.counted ≡ 0) }
+        ensures ended { IfEnded result (λ reply. reply ≡ nothing_yet) }
         ensures grows { IsPrefix self.old.world.transcript self.new.world.transcript }
     {
         match self.phase {
@@ -138,6 +139,7 @@ impl Core {
         ensures keeps { refusal self.old.world (config.request (request_of request)) ≡ None → EventKeeps self.old.definition (world_at (seen (λ p. (⟦<dyn Peer as Peer>⟧ p.peer.vtable).state p.peer.value) (entries pool.now)) self.old.world) (config.request (request_of request)) }
         ensures seated { IsSeated (seen (λ p. (⟦<dyn Peer as Peer>⟧ p.peer.vtable).state p.peer.value) (entries pool.now)) self.new }
         ensures none { IfUnderWay result (λ course. course.so_far.steps + self.new.counted ≡ 0) }
+        ensures ended { IfEnded result (λ reply. reply ≡ nothing_yet) }
         ensures grows { IsPrefix self.old.world.transcript self.new.world.transcript }
     {
         // For the proof: the clauses speak of the pool.
@@ -164,6 +166,7 @@ impl Core {
         ensures keeps { refusal self.old.world (config.turn moment) ≡ None → EventKeeps self.old.definition (world_at (seen (λ p. (⟦<dyn Peer as Peer>⟧ p.peer.vtable).state p.peer.value) (entries pool.now)) self.old.world) (config.turn moment) }
         ensures seated { IsSeated (seen (λ p. (⟦<dyn Peer as Peer>⟧ p.peer.vtable).state p.peer.value) (entries pool.now)) self.new }
         ensures none { IfUnderWay result (λ course. course.so_far.steps + self.new.counted ≡ 0) }
+        ensures ended { IfEnded result (λ reply. reply ≡ nothing_yet) }
         ensures grows { IsPrefix self.old.world.transcript self.new.world.transcript }
     {
         let definition = self.verified.definition();
@@ -187,6 +190,7 @@ impl Core {
             ComesOn result (relations (λ p. (⟦<dyn Peer as Peer>⟧ p.peer.vtable).moves p.peer.value) (entries pool.now)) self.old.definition event w [] (seen (λ p. (⟦<dyn Peer as Peer>⟧ p.peer.vtable).state p.peer.value) (entries pool.now)) self.new }
         ensures seated { IsSeated (seen (λ p. (⟦<dyn Peer as Peer>⟧ p.peer.vtable).state p.peer.value) (entries pool.now)) self.new }
         ensures none { IfUnderWay result (λ course. course.so_far.steps + self.new.counted ≡ 0) }
+        ensures ended { IfEnded result (λ reply. reply ≡ nothing_yet) }
         ensures grows { IsPrefix self.old.world.transcript self.new.world.transcript }
     {
         // For the proof: the clauses speak of the pool.

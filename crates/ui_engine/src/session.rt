@@ -12,7 +12,7 @@ ghost use Rattle.native_peers.specs.Matching.{as_peers};
 ghost use Rattle.native_peers.specs.Pool.{entries, relations, seen};
 ghost use Rattle.native_peers.specs.Seen.{SameRelations};
 ghost use Rattle.ui_engine.specs.Endings.{taken_closed};
-ghost use Rattle.engine_pools.specs.Courses.{IfEnded, IfUnderWay};
+ghost use Rattle.engine_pools.specs.Courses.{IfEnded, IfUnderWay, nothing_yet};
 ghost use Rattle.engine_pools.specs.declared.courses.Course.{Course};
 ghost use Rattle.engine_pools.specs.PoolView.{world_at};
 ghost use Rattle.engine_pools.specs.Promises.{BuildKeeps, EventKeeps};
@@ -175,7 +175,9 @@ impl Session {
         ensures in_course { IfUnderWay result (λ course. HasCourse (relations (λ p. (⟦<dyn Peer as Peer>⟧ p.peer.vtable).moves p.peer.value) (entries self.new.pool)) course (seen (λ p. (⟦<dyn Peer as Peer>⟧ p.peer.vtable).state p.peer.value) (entries self.new.pool)) self.new.core) }
         ensures seated { IsSeated (seen (λ p. (⟦<dyn Peer as Peer>⟧ p.peer.vtable).state p.peer.value) (entries self.new.pool)) self.new.core }
         ensures pool { self.new.pool ≡ self.old.pool }
+        // No step is counted yet. Where it has ended, as a turn of which no source is ready, it led to nothing.
         ensures none { IfUnderWay result (λ course. course.so_far.steps + self.new.core.counted ≡ 0) }
+        ensures ended { IfEnded result (λ reply. reply ≡ nothing_yet) }
         ensures grows { IsPrefix self.old.core.world.transcript self.new.core.world.transcript }
     {
         self.core.begin(&self.pool, event)

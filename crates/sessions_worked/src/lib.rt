@@ -1,0 +1,10 @@
+//! A worked session: it meets what going on with an event asks.
+#![tactic(auto)]
+
+ghost use Rattle.sessions_worked.specs.InTurn.{MetInTurn};
+
+/// A session is in the middle of a turn: the dispatch of the first source has ended, and that of the second has counted a step. So it meets what
+/// `Session::advance` asks.
+pub fn turn()
+    ensures { MetInTurn }
+{}
