@@ -1,15 +1,12 @@
 -- What an emission collects of its programs, and where else a program's result goes.
-use Rattle.std.proofs.Common.{◌≡◌, ◌≤◌, ◌∙◌, refl, sym, ap, subst, ℕ, ◌+◌, ◌++◌, Bool, true, false, cond, List, [], ◌∷◌, Option, None, Some, Result, Ok, Err, arith}
-use Rattle.std.specs.Prelude.{OnOk}
+use Rattle.std.proofs.Common.{◌≡◌, ◌≤◌, ◌∙◌, refl, sym, ap, subst, ℕ, ◌+◌, ◌++◌, Bool, true, false, cond, List, [], ◌∷◌, Option, None, Some, Ok, Err, arith}
 use Rattle.ui_machine.specs.declared.arm.Arm.{Arm}
 use Rattle.ui_machine.specs.declared.arm.Arm.TheVariants as arms
-use Rattle.ui_machine.specs.declared.arm.Halt.{Halt}
-use Rattle.ui_machine.specs.declared.arm.Halt.TheVariants as halts
 use Rattle.ui_machine.specs.Definition.{Definition}
 use Rattle.ui_machine.specs.Definition.Signals.{Accumulator, Signal}
 use Rattle.ui_machine.specs.Definition.Values.{Value}
-use Rattle.ui_machine.specs.Outcome.{Answer, Goes, known, only_if, ◌>>=◌}
-use Rattle.ui_machine.specs.Rules.Accumulation.{accumulated, collecting, down_to_emission, entries_after, down_to_source, given_down, is_last, left_by_stop, suits}
+use Rattle.ui_machine.specs.Outcome.{Answer, known, only_if, ◌>>=◌}
+use Rattle.ui_machine.specs.Rules.Accumulation.{collecting, down_to_emission, entries_after, down_to_source, given_down, is_last, left_by_stop, suits}
 use Rattle.ui_machine.specs.Rules.Accumulation as machine
 use Rattle.ui_machine.specs.Rules.EmissionPlan.{signal_at, signal_of}
 use Rattle.ui_machine.specs.Rules.MainLoop.{kept_source}
@@ -23,15 +20,18 @@ use Rattle.ui_machine.specs.State.Tasks.{Answering, Emission, Emitting, PlanEntr
 use Rattle.g_values.specs.declared.value.Value as values
 use Rattle.instance_tables.specs.Store.{Store, count_of}
 use Rattle.signal_core.specs.Emission.{Due, Walk, is_over, stopped}
+use Rattle.engine_world.specs.Able.{Able}
 use Rattle.engine_world.specs.KnownHandlers.{AllTakeKnownHandlers, EndsWithoutTransfers}
-use Rattle.engine_instructions.specs.CollectView.{TestsNone, collects, gives_none, stops_at}
+use Rattle.engine_instructions.specs.CollectView.{collects, stops_at}
 use Rattle.engine_world.specs.Counting.{Counts, OnlyCounts}
 use Rattle.engine_world.specs.TaskView.{agenda_of, emission_of, entries_to_come, task_of, tasks_of}
 use Rattle.engine_world.specs.declared.engine.Engine.{Engine}
 use Rattle.engine_world.specs.declared.task.Stack.{Stack}
 use Rattle.engine_world.specs.declared.task.Task as code
 use Rattle.engine_world.specs.declared.task.Task.TheVariants as tasks
+use Rattle.engine_world.proofs.Ableness.{able_as, first}
 use Rattle.engine_world.proofs.Counts.{restacked}
+use Rattle.engine_instructions.proofs.Tested.{passes}
 use Rattle.engine_instructions.proofs.StoppedEmissions.{over_leaves, stop_leaves, stop_same, turns_alike}
 use Rattle.engine_world.specs.TransferView.{due_later, due_now, entries_due_of}
 use Rattle.engine_world.specs.declared.task.Transfers.{Transfers}
@@ -139,20 +139,28 @@ module _ (d : Definition) (w : World) (e : Emission) (entries : List PlanEntry) 
     collect_unknown none = down_by (Ok class) of ∙ ap (λ (s : Option Signal). leave (known arms.Code s >>= take_by)) none
 
     module _ (s : Signal) (some : signal_of d class e.signal ≡ Some s) where
-      collect_by : (fits : Bool) → suits (kind_fits (class_in w.objects) d.types) given s.result ≡ fits
-          → down_to_emission d w e entries rest given ≡ leave (only_if fits arms.Result (Ok (machine.collected s e entries given)))
-      collect_by fits is =
-          down_by (Ok class) of ∙ ap (λ (s : Option Signal). leave (known arms.Code s >>= take_by)) some
-          ∙ ap (λ b. leave (only_if b arms.Result (Ok (machine.collected s e entries given)))) is
+      abbrev take_all : Answer Task
+      take_all = Ok (machine.collected s e entries given)
 
-      pub collect_unsuited : suits (kind_fits (class_in w.objects) d.types) given s.result ≡ false → down_to_emission d w e entries rest given ≡ Err arms.Result
-      collect_unsuited is = collect_by false is
+      suited : Bool
+      suited = suits (kind_fits (class_in w.objects) d.types) given s.result
 
-      pub collect_suited : suits (kind_fits (class_in w.objects) d.types) given s.result ≡ true
-          → down_to_emission d w e entries rest given ≡ leaves w (machine.collected s e entries given ∷ rest)
-      collect_suited is = collect_by true is
+      collect_by : down_to_emission d w e entries rest given ≡ leave (only_if suited arms.Result take_all)
+      unfolding suited
+      collect_by = down_by (Ok class) of ∙ ap (λ (s : Option Signal). leave (known arms.Code s >>= take_by)) some
+
+      -- what no arm stops is taken
+      pub collect_suited : Able (down_to_emission d w e entries rest given) → down_to_emission d w e entries rest given ≡ leaves w (machine.collected s e entries given ∷ rest)
+      collect_suited able =
+          let fits = first (only_if suited arms.Result take_all) (λ task. leaves w (task ∷ rest)) (able_as collect_by able) in
+          collect_by ∙ ap leave (passes suited arms.Result take_all fits)
 
 -- ** to other tasks
+
+-- a program above a task that is no emission's and no source's gives none
+abbrev gives_none : World → List Task → Option Value → Answer Left
+gives_none w agenda None = leaves w agenda
+gives_none w agenda (Some v) = Err arms.Result
 
 pub gives_last : (d : Definition) (w : World) (given : Option Value) → given_down d w [] given ≡ gives_none w [] given
 gives_last d w None = refl
@@ -203,10 +211,16 @@ module _ (d : Definition) (hs : List Handler) (w : World) (rest : List Task) whe
   gives_other (tasks.Due source) (Some v) other = refl
   gives_other (tasks.Handling event) (Some v) other = refl
 
--- code that tests that nothing is given, above the same tasks
-pub goes_none : (d : Definition) (w : World) (r : Result (Unit {0}) Halt) (given : Option Value) (old new tasks : List Task) → TestsNone r given → old ≡ tasks → new ≡ tasks
-    → given_down d w tasks given ≡ gives_none w tasks given → Goes r (given_down d w old given) (record { world = w; agenda = new })
-goes_none d w r given old new tasks tests first back is = rw (first, back, is) (tests w tasks)
+-- where no arm stops it nothing is given, above the same tasks
+pub gives_nothing : (d : Definition) (w : World) (given : Option Value) (old new tasks : List Task) → old ≡ tasks → new ≡ tasks → given_down d w tasks given ≡ gives_none w tasks given
+    → Able (given_down d w old given) → given_down d w old given ≡ leaves w new
+gives_nothing d w given old new tasks first back is able =
+    let same : given_down d w old given ≡ gives_none w tasks given = ap (λ (ts : List Task). given_down d w ts given) first ∙ is in
+    same ∙ by given (able_as same able) ∙ ap (leaves w) (sym back)
+  where
+    by : (given : Option Value) → Able (gives_none w tasks given) → gives_none w tasks given ≡ leaves w tasks
+    by None able = refl
+    by (Some v) able = absurd able
 
 -- ** counts
 
@@ -226,11 +240,6 @@ collected_counts d e t s taken old new entries only counts object args first beg
       omega (arith, objects, floats, counts o, ap (λ (ts : List Task). total (in_task o) ts) first, ap (same o) object, ap (total (in_value o)) args, h.exact o);
 }
 
--- what no memory or no result leaves as it is
-pub on_any : {P : Type 0} (r : Result (Unit {0}) Halt) → P → OnOk r P
-on_any (Ok x) p = p
-on_any (Err e) p = tt
-
 -- the same world and the same tasks
 pub leaves_as : (w v : World) (ts us : List Task) → w ≡ v → ts ≡ us → leaves w ts ≡ leaves v us
 leaves_as w v ts us world agenda = rw (world, agenda) refl
@@ -247,13 +256,16 @@ popped_emission d e s taken m entries first begun h = record {
 
 -- ** to a source
 
--- what a program gives to the source below it
-pub gives_source : (d : Definition) (w : World) (r : Result (Unit {0}) Halt) (source : ℕ) (rest : List Task) (given : Option Value) (v : World) (new : List Task) → new ≡ rest
-    → Goes r (kept_source w source given) v → Goes r (given_down d w (Answering source ∷ rest) given) (record { world = v; agenda = new })
+-- no arm stops the source where none stops the program above it
+pub source_able : (d : Definition) (w : World) (source : ℕ) (rest : List Task) (given : Option Value) → Able (given_down d w (Answering source ∷ rest) given) → Able (kept_source w source given)
 unfolding down_to_source
-gives_source d w (Ok x) source rest given v new back goes = ap (λ (a : Answer World). a >>= λ k. leaves k rest) goes ∙ ap (λ (ts : List Task). leaves v ts) (sym back)
-gives_source d w (Err halts.OutOfMemory) source rest given v new back goes = tt
-gives_source d w (Err (halts.Stuck arm)) source rest given v new back goes = ap (λ (a : Answer World). a >>= λ k. leaves k rest) goes
+source_able d w source rest given able = first (kept_source w source given) (λ k. leaves k rest) able
+
+-- what a program gives to the source below it
+pub gives_source : (d : Definition) (w : World) (source : ℕ) (rest : List Task) (given : Option Value) (v : World) (new : List Task) → new ≡ rest
+    → kept_source w source given ≡ Ok v → given_down d w (Answering source ∷ rest) given ≡ leaves v new
+unfolding down_to_source
+gives_source d w source rest given v new back kept = ap (λ (a : Answer World). a >>= λ k. leaves k rest) kept ∙ ap (leaves v) (sym back)
 
 -- its task held nothing
 pub popped_source : (d : Definition) (e : Engine) (s : Stack) (taken : ℕ → ℕ) (source : ℕ) → agenda_of d e ≡ Answering source ∷ tasks_of d e.world.handlers.handlers s

@@ -1,13 +1,12 @@
 -- What instructions on handlers lead to, by the handlers that they mean.
 use Rattle.std.proofs.Common.{◌≡◌, ◌∙◌, refl, sym, ap, subst, ℕ, Bool, cond, not, List, [], ◌∷◌, map, Option, Some, None, Ok, Err, arith}
 use Rattle.ui_machine.specs.declared.arm.Arm.TheVariants as arms
-use Rattle.ui_machine.specs.declared.arm.Halt.{Halt}
 use Rattle.ui_machine.specs.Definition.{Definition}
 use Rattle.ui_machine.specs.Definition.Lookups.{program_of}
 use Rattle.ui_machine.specs.Instructions.{in_front}
 use Rattle.ui_machine.specs.Instructions.Registers.{goes_on, operand_in}
 use Rattle.ui_machine.specs.Instructions.Signals.{on_handlers}
-use Rattle.ui_machine.specs.Outcome.{Answer, Stops, known, ◌>>=◌}
+use Rattle.ui_machine.specs.Outcome.{Answer, known, ◌>>=◌}
 use Rattle.ui_machine.specs.State.Config.{Config, Started, World}
 use Rattle.ui_machine.specs.State.Tasks.{Frame, Running, Task}
 use Rattle.ui_machine.specs.Steps.{left}
@@ -24,12 +23,26 @@ use Rattle.engine_world.specs.Standing.{gone_handlers, without_gone}
 use Rattle.engine_world.specs.TaskView.{agenda_of, tasks_of}
 use Rattle.engine_world.specs.View.{world_of}
 use Rattle.engine_world.specs.declared.engine.Engine.{Engine}
+use Rattle.engine_world.specs.Able.{Able}
+use Rattle.engine_world.proofs.Ableness.{able_as, first, instructed, past}
 use Rattle.engine_world.proofs.HandlerAdded.{with_handlers}
 use Rattle.engine_world.proofs.Counts.{keeps_by, handled, only_list}
 use Rattle.engine_world.proofs.Gone.{kept_left, tasks_alike}
 use Rattle.engine_world.proofs.SameTurns.{OnlyBlocks, blocks_same, some_blocks}
-use Rattle.engine_world.proofs.Emits.{stops_on}
-use Rattle.engine_world.proofs.Registers.{stops_left}
+
+module _ (d : Definition) (w : World) (f : Frame) (object : ℕ) (program : List ℕ) where
+  -- the handlers of the program of a name, on the object that is found
+  of_named : ℕ → Answer Matched
+  of_named id = known arms.Code (program_of d program) >>= λ number. Ok (record { object = id; program = number })
+
+  pub named_able : Able (matched_in d w f object program) → (id : ℕ) → operand_in w f object ≡ Ok id → Able (known arms.Code (program_of d program))
+  unfolding of_named
+  named_able able id is = first (known arms.Code (program_of d program)) (λ number. Ok (record { object = id; program = number })) (past (operand_in w f object) of_named id is able)
+
+  pub matched_so : (id number : ℕ) → operand_in w f object ≡ Ok id → program_of d program ≡ Some number → matched_in d w f object program ≡ Ok (record { object = id; program = number })
+  unfolding of_named
+  matched_so id number at is =
+      ap (λ (a : Answer ℕ). a >>= of_named) at ∙ ap (λ (o : Option ℕ). known arms.Code o >>= λ number. Ok (record { object = id; program = number })) is
 
 module _ (d : Definition) (w : World) (f : Frame) (object : ℕ) (program : List ℕ) (change : World → ℕ → ℕ → World) where
   changes : Matched → Answer Started
@@ -50,11 +63,9 @@ module _ (d : Definition) (w : World) (f : Frame) (object : ℕ) (program : List
       by (Err arm) = refl
       by (Ok id) = named id (program_of d program)
 
-  -- what stops it stops the program
-  pub matched_stops : (halt : Halt) → Stops halt (matched_in d w f object program) → (n : ℕ) (rest : List Task) → Stops halt (left n (in_front rest (on_handlers d w f object program change)))
-  matched_stops halt s n rest =
-      stops_left n rest (on_handlers d w f object program change) halt
-      (subst (λ (a : Answer Started). Stops halt a) (sym by_matched) (stops_on halt (matched_in d w f object program) changes s))
+  -- no arm stops it where none stops the program
+  pub matched_able : (n : ℕ) (rest : List Task) → Able (left n (in_front rest (on_handlers d w f object program change))) → Able (matched_in d w f object program)
+  matched_able n rest able = first (matched_in d w f object program) changes (able_as by_matched (instructed n rest (on_handlers d w f object program change) able))
 
   -- the handlers change, and the program goes on
   pub matched_goes : (m : Matched) → matched_in d w f object program ≡ Ok m → on_handlers d w f object program change ≡ goes_on (change w m.object m.program) [] f

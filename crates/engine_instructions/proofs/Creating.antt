@@ -5,8 +5,6 @@ use Rattle.std.proofs.lemmas.Bool.Decides.{nat_tests}
 use Rattle.std.proofs.lemmas.List.Sums.{sum_by-cons}
 use Rattle.ui_machine.specs.declared.arm.Arm.{Arm}
 use Rattle.ui_machine.specs.declared.arm.Arm.TheVariants as arms
-use Rattle.ui_machine.specs.declared.arm.Halt.{Halt}
-use Rattle.ui_machine.specs.declared.arm.Halt.TheVariants as halts
 use Rattle.ui_machine.specs.Definition.{Definition}
 use Rattle.ui_machine.specs.Definition.Lookups.{place_at, place_of}
 use Rattle.ui_machine.specs.Definition.Places.{Attached, Bind, Place}
@@ -15,7 +13,7 @@ use Rattle.ui_machine.specs.Definition.Values as values
 use Rattle.ui_machine.specs.Instructions.{in_front}
 use Rattle.ui_machine.specs.Instructions.Objects.{creating, made_if_room, made_new}
 use Rattle.ui_machine.specs.Instructions.Registers.{goes_on, with_register, written_to}
-use Rattle.ui_machine.specs.Outcome.{Answer, Stops, known, only_if, ◌>>=◌}
+use Rattle.ui_machine.specs.Outcome.{Answer, known, only_if, ◌>>=◌}
 use Rattle.ui_machine.specs.Rules.Build.{adopts_if, connected_items, is_making, made_items, numbered, to_make}
 use Rattle.ui_machine.specs.Rules.Construction.{has_shape, making, peer_left, peer_to_take}
 use Rattle.ui_machine.specs.Seq.{total}
@@ -30,10 +28,10 @@ use Rattle.engine_world.specs.TaskView.{agenda_of, build_end, build_from, connec
 use Rattle.engine_world.specs.View.{world_of}
 use Rattle.engine_world.specs.declared.engine.Engine.{Engine}
 use Rattle.engine_world.specs.declared.task.ForwardReference.{ForwardReference}
-use Rattle.engine_world.proofs.Emits.{stops_on}
+use Rattle.engine_world.specs.Able.{Able}
+use Rattle.engine_world.proofs.Ableness.{able_as, first}
 use Rattle.engine_world.proofs.Lists.{total-append}
 use Rattle.engine_world.proofs.Signals.{bind_same}
-use Rattle.engine_instructions.proofs.Starting.{stops_as}
 
 -- ** what it comes to
 
@@ -69,10 +67,10 @@ module _ (d : Definition) (w : World) (rest : List Task) (f : Frame) (to : ℕ) 
       ∙ ap (λ (b : Bool). has_room d w (to_make rest) && b) (sym wanted) ∙ so)
       ∙ ap (λ (p : Option ℕ). created_if room d w f to q.number p) (sym takes)
 
--- what stops the making stops the program
-pub created_stops : (d : Definition) (w : World) (f : Frame) (to place : ℕ) (peer : Option ℕ) (halt : Halt) → Stops halt (making d w place peer false) → Stops halt (created d w f to place peer)
+-- no arm stops the making where none stops the program
+pub made_able : (d : Definition) (w : World) (f : Frame) (to place : ℕ) (peer : Option ℕ) → Able (created d w f to place peer) → Able (making d w place peer false)
 unfolding created
-created_stops d w f to place peer halt s = stops_on halt (making d w place peer false) _ s
+made_able d w f to place peer able = first (making d w place peer false) _ able
 
 -- ** a register that is written behind the making
 
@@ -94,14 +92,13 @@ module _ (n : ℕ) (rest : List Task) (to : ℕ) (v : Option Value) (f : Frame) 
           let same : record { world = w; agenda = Running (record f { registers = r }) ∷ rest; counted = n } ≡ mid = cc e in
           (ap (λ (c : Config). c.world) (sym same), ap (λ (c : Config). Ok (record c { world = u; agenda = t ∷ c.agenda })) same)
 
-  stops_behind : (w u : World) (t : Task) (halt : Halt) → Stops halt (left n (in_front rest (written_to w to v f))) → Stops halt (goes_behind u t (with_register to v f.registers))
+  able_before : (w u : World) (t : Task) → Able (goes_behind u t (with_register to v f.registers)) → Able (left n (in_front rest (written_to w to v f)))
   unfolding left in_front written_to
-  stops_behind w u t halts.OutOfMemory s = tt
-  stops_behind w u t (halts.Stuck arm) s = by (with_register to v f.registers) s
+  able_before w u t able = by (with_register to v f.registers) able
     where
-      by : (rs : Answer Registers) → writes w rs ≡ Err arm → goes_behind u t rs ≡ Err arm
-      by (Err other) e = e
-      by (Ok r) e = absurd (cc e)
+      by : (rs : Answer Registers) → Able (goes_behind u t rs) → Able (writes w rs)
+      by (Err arm) able = able
+      by (Ok r) able = tt
 
 module _ (d : Definition) (e m : Engine) (f : Frame) (to place : ℕ) (peer : Option ℕ) (u : World) (t : Task) (v : Value) (made : making d (world_of e.world) place peer false ≡ starts u (t ∷ []))
     (agenda : agenda_of d m ≡ agenda_of d e) (count : m.counted ≡ e.counted) (names : v ≡ values.object (Some (suc (length (world_of e.world).objects)))) where
@@ -123,10 +120,9 @@ module _ (d : Definition) (e m : Engine) (f : Frame) (to place : ℕ) (peer : Op
       with_register to (Some (values.object (Some (suc (length (world_of e.world).objects))))) f.registers >>= λ (r : Registers). goes_on s.world s.tasks (record f { registers = r })))) made
       ∙ ap (λ (x : Value). goes_behind e.counted (agenda_of d e) to (Some x) f u t (with_register to (Some x) f.registers)) (sym names)
 
-  -- where the register can't be written
-  pub create_unwritten : (halt : Halt) → Stops halt writing_so → Stops halt creating_so
-  create_unwritten halt s =
-      stops_as halt creating_so _ as_made (stops_behind e.counted (agenda_of d e) to (Some v) f (world_of m.world) u t halt (stops_as halt _ writing_so (sym same_place) s))
+  -- no arm stops the write where none stops the program
+  pub write_able : Able creating_so → Able writing_so
+  write_able able = able_as (sym same_place) (able_before e.counted (agenda_of d e) to (Some v) f (world_of m.world) u t (able_as as_made able))
 
   module _ (mid : Engine) (wrote : writing_so ≡ Ok (config_of d mid)) where
     pub create_world : world_of mid.world ≡ world_of m.world

@@ -1,13 +1,12 @@
 -- How an object is disposed.
 use Rattle.std.proofs.Common.{◌≡◌, ◌∙◌, refl, sym, ap, subst, ℕ, false, List, [], ◌∷◌, map, Option, Result, Ok, Err, arith}
 use Rattle.std.specs.Prelude.{OnOk}
-use Rattle.ui_machine.specs.declared.arm.Halt.{Halt}
+use Rattle.std.specs.declared.alloc.AllocError.{AllocError}
 use Rattle.ui_machine.specs.declared.arm.Halt.TheVariants as halts
 use Rattle.ui_machine.specs.Definition.{Definition}
 use Rattle.ui_machine.specs.Instructions.{in_front}
 use Rattle.ui_machine.specs.Instructions.Objects.{disposing}
 use Rattle.ui_machine.specs.Instructions.Registers.{operand_in}
-use Rattle.ui_machine.specs.Outcome.{Goes, Stops}
 use Rattle.ui_machine.specs.Rules.Disposal.{closing, disposed}
 use Rattle.ui_machine.specs.Rules.Sets.{is_disposed}
 use Rattle.ui_machine.specs.Seq.{total}
@@ -25,13 +24,15 @@ use Rattle.signal_core.specs.Connected.{Connected}
 use Rattle.machine_laws.specs.GoneLaws.{Gone, pruned}
 use Rattle.machine_laws.proofs.GoneProofs.{hold_as}
 use Rattle.ui_machine.specs.State.Peers.{first_left}
+use Rattle.engine_world.specs.Able.{Able, Leads, LeadsWithoutGone}
 use Rattle.engine_world.specs.Counting.{KeepsCounts}
 use Rattle.engine_world.specs.EngineView.{config_of}
-use Rattle.engine_world.specs.Standing.{GoesWithoutGone, gone_handlers}
+use Rattle.engine_world.specs.Standing.{gone_handlers}
 use Rattle.engine_world.specs.TaskView.{agenda_of, tasks_of}
 use Rattle.engine_world.specs.View.{held_of, world_of}
 use Rattle.engine_world.specs.declared.engine.Engine.{Engine}
 use Rattle.engine_world.specs.declared.world.World as code
+use Rattle.engine_world.proofs.Ableness.{no_arm, none_stops}
 use Rattle.engine_world.proofs.Counts.{Exact, beside_of, closed_got, from_counted, handled, keeps_by, to_counted}
 use Rattle.engine_instructions.proofs.ObjectSteps.{dispose_stuck, disposes}
 use Rattle.engine_instructions.proofs.Pushed.{count_pushed, world_pushed}
@@ -57,18 +58,21 @@ keeps_disposed d e t hs bs w gone id closing disposes closes only is left =
 
 module _ (d : Definition) (e b new : Engine) (f : Frame) (object id : ℕ) (is : operand_in (world_of e.world) f object ≡ Ok id) (first : is_disposed (living e.world.table.objects id) ≡ false)
     (beside : b ≡ record e { stack = b.stack }) (agenda : agenda_of d b ≡ Running f ∷ agenda_of d e) where
-  stays_stuck : (halt : Halt) → Stops halt (disposed d (world_of e.world) id) → Stops halt (disposing d (world_of e.world) f object)
-  stays_stuck halts.OutOfMemory s = tt
-  stays_stuck (halts.Stuck arm) s = dispose_stuck d (world_of e.world) f object id is first arm s
+  -- its part is not stuck where the instruction is not
+  pub disposes_able : Able (left e.counted (in_front (agenda_of d e) (disposing d (world_of e.world) f object))) → Able (disposed d (world_of b.world) id)
+  disposes_able able =
+      subst (λ (w : World). Able (disposed d w id)) (sym (world_pushed d e b f beside))
+      (none_stops (disposed d (world_of e.world) id) (λ arm stuck. no_arm _ arm able
+      (stops_left e.counted (agenda_of d e) (disposing d (world_of e.world) f object) (halts.Stuck arm) (dispose_stuck d (world_of e.world) f object id is first arm stuck))))
 
-  pub disposes_behind : {X : Type 0} (result : Result X Halt) → Goes result (disposed d (world_of b.world) id) (world_of new.world)
+  pub disposes_behind : {X : Type 0} (result : Result X AllocError) → Leads result (disposed d (world_of b.world) id) (world_of new.world)
       → OnOk result (agenda_of d new ≡ map (pruned (gone_handlers (world_of new.world))) (agenda_of d b)) → OnOk result (new.counted ≡ b.counted)
-      → GoesWithoutGone result (left e.counted (in_front (agenda_of d e) (disposing d (world_of e.world) f object))) (config_of d new)
-  disposes_behind {X} result goes tasks count = by result (subst (λ (w : World). Goes result (disposed d w id) (world_of new.world)) (world_pushed d e b f beside) goes) tasks count
+      → LeadsWithoutGone result (left e.counted (in_front (agenda_of d e) (disposing d (world_of e.world) f object))) (config_of d new)
+  disposes_behind {X} result leads tasks count = by result (subst (λ (w : World). Leads result (disposed d w id) (world_of new.world)) (world_pushed d e b f beside) leads) tasks count
     where
-      by : (result : Result X Halt) → Goes result (disposed d (world_of e.world) id) (world_of new.world)
+      by : (result : Result X AllocError) → Leads result (disposed d (world_of e.world) id) (world_of new.world)
           → OnOk result (agenda_of d new ≡ map (pruned (gone_handlers (world_of new.world))) (agenda_of d b)) → OnOk result (new.counted ≡ b.counted)
-          → GoesWithoutGone result (left e.counted (in_front (agenda_of d e) (disposing d (world_of e.world) f object))) (config_of d new)
+          → LeadsWithoutGone result (left e.counted (in_front (agenda_of d e) (disposing d (world_of e.world) f object))) (config_of d new)
       by (Ok x) done tasks count = (
         record { world = world_of new.world; agenda = Running f ∷ agenda_of d e; counted = e.counted },
         started_left e.counted (agenda_of d e) (disposing d (world_of e.world) f object) (world_of new.world) [] f _ _ _
@@ -77,4 +81,4 @@ module _ (d : Definition) (e b new : Engine) (f : Frame) (object id : ℕ) (is :
             let counted_so = count ∙ count_pushed d e b f beside in
             rw (left_so, counted_so) refl),
       )
-      by (Err halt) s tasks count = stops_left e.counted (agenda_of d e) (disposing d (world_of e.world) f object) halt (stays_stuck halt s)
+      by (Err error) leads tasks count = tt

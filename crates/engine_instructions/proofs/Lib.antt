@@ -2,6 +2,7 @@ pub mod Programs
 pub mod KnownCode
 mod Jumping
 mod Starting
+mod Tested
 mod PropertySteps
 mod ObjectSteps
 mod Adopting

@@ -22,6 +22,8 @@ use Rattle.ui_machine.specs.State.Objects.{Object, Objects, changed, living, obj
 use Rattle.ui_machine.specs.State.Tasks.{Frame, Thawing}
 use Rattle.frames.specs.Operand.{identity_in}
 use Rattle.instance_tables.specs.Family.{parent_in}
+use Rattle.engine_world.specs.Able.{Able}
+use Rattle.engine_world.proofs.Ableness.{no_arm}
 use Rattle.engine_world.proofs.Emits.{stops_on}
 
 -- ** operands
@@ -88,6 +90,18 @@ module _ (d : Definition) (w : World) (f : Frame) (to : ℕ) (id : List ℕ) whe
 
       pub names : p.is_prototype ≡ false → look_up_object d w f to id ≡ gives w to (values.object (identity_held (builder_entry w place))) f
       names so = names_so false so ∙ ap (λ (v : Value). gives w to v f) (held_value (builder_entry w place))
+
+    -- it is that of an object where the instruction is not stuck
+    pub names_able : Able (look_up_object d w f to id) → look_up_object d w f to id ≡ gives w to (values.object (identity_held (builder_entry w place))) f
+    names_able able = by (place_at d place) refl
+      where
+        of : (p : Place) → place_at d place ≡ Some p → (b : Bool) → p.is_prototype ≡ b → look_up_object d w f to id ≡ gives w to (values.object (identity_held (builder_entry w place))) f
+        of p at true so = absurd (no_arm _ _ able (name_prototype p at so))
+        of p at false so = names p at so
+
+        by : (p : Option Place) → place_at d place ≡ p → look_up_object d w f to id ≡ gives w to (values.object (identity_held (builder_entry w place))) f
+        by None at = absurd (no_arm _ _ able (name_nowhere at))
+        by (Some p) at = of p at p.is_prototype refl
 
 -- ** what floats, and freezes
 

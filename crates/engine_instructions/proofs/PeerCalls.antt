@@ -1,14 +1,13 @@
 -- What the instruction `call` finds, and what it leads to.
-use Rattle.std.proofs.Common.{◌≡◌, ◌∙◌, refl, sym, ap, subst, ℕ, Bool, true, false, length, nat_lt, List, [], ◌∷◌, Option, None, Some, IsSome, Ok, Err, slice_get, option_and_then}
+use Rattle.std.proofs.Common.{◌≡◌, ◌∙◌, refl, sym, ap, ℕ, Bool, true, false, length, nat_lt, List, [], ◌∷◌, Option, None, Some, IsSome, Ok, Err, slice_get, option_and_then}
 use Rattle.ui_machine.specs.declared.arm.Arm.TheVariants as arms
-use Rattle.ui_machine.specs.declared.arm.Halt.{Halt}
 use Rattle.ui_machine.specs.Definition.{Definition}
 use Rattle.ui_machine.specs.Definition.Signals.{Method}
 use Rattle.ui_machine.specs.Definition.Values.{Value}
 use Rattle.ui_machine.specs.Instructions.{in_front}
 use Rattle.ui_machine.specs.Instructions.Peers.{calling}
 use Rattle.ui_machine.specs.Instructions.Registers.{goes_on, operand_in, values_in}
-use Rattle.ui_machine.specs.Outcome.{Answer, Stops, known, only_if, ◌>>=◌}
+use Rattle.ui_machine.specs.Outcome.{Answer, known, only_if, ◌>>=◌}
 use Rattle.ui_machine.specs.Rules.Disposal.{peer_of}
 use Rattle.ui_machine.specs.Rules.Programs.{all_fit}
 use Rattle.ui_machine.specs.Rules.Transform.{kind_fits}
@@ -18,8 +17,9 @@ use Rattle.ui_machine.specs.State.Peers.{Peer, method_number, method_of}
 use Rattle.ui_machine.specs.State.Tasks.{Call, Calling, Frame, Task}
 use Rattle.ui_machine.specs.Steps.{left}
 use Rattle.engine_instructions.specs.CallingView.{Called, called_in, due_call}
-use Rattle.engine_world.proofs.Emits.{stops_on}
-use Rattle.engine_world.proofs.Registers.{stops_left}
+use Rattle.engine_world.specs.Able.{Able}
+use Rattle.engine_world.proofs.Ableness.{able_as, first, instructed, past, past_test}
+use Rattle.engine_instructions.proofs.Tested.{passes}
 
 -- ** the method
 
@@ -90,36 +90,28 @@ module _ (d : Definition) (w : World) (f : Frame) (to object : ℕ) (name args :
   abbrev with_id : ℕ → Answer Call
   with_id id = called_in w id name >>= with_called id
 
-  -- what stops on the way
-  pub operand_stops : (halt : Halt) → Stops halt (operand_in w f object) → Stops halt (due_call d w f to object name args)
-  operand_stops halt s = stops_on halt (operand_in w f object) with_id s
+  -- ** where no arm stops the call
 
-  module _ (id : ℕ) (is : operand_in w f object ≡ Ok id) where
-    due_by : (a : Answer Called) → called_in w id name ≡ a → due_call d w f to object name args ≡ (a >>= with_called id)
-    due_by a so = ap (λ (x : Answer ℕ). x >>= with_id) is ∙ ap (λ (x : Answer Called). x >>= with_called id) so
-
-    pub not_called : Err arms.Call ≡ called_in w id name → due_call d w f to object name args ≡ Err arms.Call
-    not_called none = due_by (Err arms.Call) (sym none)
+  module _ (able : Able (due_call d w f to object name args)) (id : ℕ) (is : operand_in w f object ≡ Ok id) where
+    pub called_able : Able (called_in w id name)
+    called_able = first (called_in w id name) (with_called id) (past (operand_in w f object) with_id id is able)
 
     module _ (c : Called) (so : Ok c ≡ called_in w id name) where
-      pub values_stop : (halt : Halt) → Stops halt (values_in f args) → Stops halt (due_call d w f to object name args)
-      values_stop halt s = subst (λ (a : Answer Call). Stops halt a) (sym (due_by (Ok c) (sym so))) (stops_on halt (values_in f args) (with_values id c) s)
+      past_called : Able (with_called id c)
+      past_called = past (called_in w id name) (with_called id) c (sym so) (past (operand_in w f object) with_id id is able)
 
-      module _ (given : List Value) (has : values_in f args ≡ Ok given) where
-        due_if : (a b : Bool) → fits c given ≡ a → nat_lt to (length f.registers) ≡ b → due_call d w f to object name args ≡ only_if a arms.Call (only_if b arms.Code (Ok (call_so id c given)))
-        due_if a b fit room =
-            due_by (Ok c) (sym so) ∙ ap (λ (x : Answer (List Value)). x >>= with_values id c) has
-            ∙ ap (λ x. only_if x arms.Call (only_if (nat_lt to (length f.registers)) arms.Code (Ok (call_so id c given)))) fit
-            ∙ ap (λ x. only_if a arms.Call (only_if x arms.Code (Ok (call_so id c given)))) room
+      pub values_able : Able (values_in f args)
+      values_able = first (values_in f args) (with_values id c) past_called
 
-        pub misfits : fits c given ≡ false → due_call d w f to object name args ≡ Err arms.Call
-        misfits not_so = due_if false (nat_lt to (length f.registers)) not_so refl
-
-        pub no_register : fits c given ≡ true → nat_lt to (length f.registers) ≡ false → due_call d w f to object name args ≡ Err arms.Code
-        no_register fit none = due_if true false fit none
-
-        pub is_due : fits c given ≡ true → nat_lt to (length f.registers) ≡ true → due_call d w f to object name args ≡ Ok (call_so id c given)
-        is_due fit room = due_if true true fit room
+      pub is_due : (given : List Value) → values_in f args ≡ Ok given → due_call d w f to object name args ≡ Ok (call_so id c given)
+      is_due given has =
+          let room = only_if (nat_lt to (length f.registers)) arms.Code (Ok (call_so id c given)) in
+          let due : Able (with_values id c given) = past (values_in f args) (with_values id c) given has past_called in
+          ap (λ (x : Answer ℕ). x >>= with_id) is
+          ∙ ap (λ (x : Answer Called). x >>= with_called id) (sym so)
+          ∙ ap (λ (x : Answer (List Value)). x >>= with_values id c) has
+          ∙ passes (fits c given) arms.Call room due
+          ∙ passes (nat_lt to (length f.registers)) arms.Code (Ok (call_so id c given)) (past_test (fits c given) arms.Call room due)
 
   -- ** the instruction
 
@@ -182,10 +174,8 @@ module _ (d : Definition) (w : World) (f : Frame) (to object : ℕ) (name args :
       of_operand (Err arm) = refl
       of_operand (Ok id) = of_object id (object_at w.objects id)
 
-  pub call_stops : (n : ℕ) (rest : List Task) (halt : Halt) → Stops halt (due_call d w f to object name args) → Stops halt (left n (in_front rest (calling d w f to object name args)))
-  call_stops n rest halt s =
-      stops_left n rest (calling d w f to object name args) halt
-      (subst (λ (a : Answer Started). Stops halt a) (sym by_due) (stops_on halt (due_call d w f to object name args) goes s))
+  pub due_able : (n : ℕ) (rest : List Task) → Able (left n (in_front rest (calling d w f to object name args))) → Able (due_call d w f to object name args)
+  due_able n rest able = first (due_call d w f to object name args) goes (able_as by_due (instructed n rest (calling d w f to object name args) able))
 
   pub calls : (call : Call) → due_call d w f to object name args ≡ Ok call → calling d w f to object name args ≡ goes_on w (Calling call ∷ []) f
   calls call is = by_due ∙ ap (λ (a : Answer Call). a >>= goes) is

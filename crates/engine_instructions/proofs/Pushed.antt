@@ -1,5 +1,5 @@
 -- The rest of a program that was put before the other tasks, and what instructions on objects leave behind it.
-use Rattle.std.proofs.Common.{◌≡◌, ◌∙◌, refl, ap, subst, ℕ, suc, ◌+◌, Bool, true, false, not, nat_lt, List, ◌∷◌, map, Option, None, Some, is_some, Result, Ok, Err, arith}
+use Rattle.std.proofs.Common.{◌≡◌, ◌∙◌, refl, sym, ap, subst, ℕ, suc, ◌+◌, Bool, true, false, not, nat_lt, List, ◌∷◌, map, Option, None, Some, is_some, Result, Ok, Err, arith}
 use Rattle.std.specs.Prelude.{IfOk, is_none}
 use Rattle.ui_machine.specs.declared.arm.Arm.TheVariants as arms
 use Rattle.ui_machine.specs.declared.arm.Halt.{Halt}
@@ -23,6 +23,10 @@ use Rattle.instance_tables.specs.Family.{Leaves, Sinks, refusal_in}
 use Rattle.instance_tables.specs.Store.{Store, id_of, with_objects}
 use Rattle.instance_tables.proofs.Exact.{leave_exact}
 use Rattle.engine_world.specs.Counting.{Counts, KeepsCounts, in_frame, nothing}
+use Rattle.engine_world.specs.Able.{Able, Leads}
+use Rattle.ui_machine.specs.declared.arm.Halt.TheVariants as halts
+use Rattle.engine_world.proofs.Ableness.{first, no_arm, none_stops}
+use Rattle.std.specs.declared.alloc.AllocError.{AllocError}
 use Rattle.engine_world.specs.EngineView.{config_of}
 use Rattle.engine_world.specs.KinView.{joined}
 use Rattle.engine_world.specs.TaskView.{agenda_of}
@@ -33,6 +37,14 @@ use Rattle.engine_world.proofs.Counts.{Alike, beside_of, from_counted, keeps_by,
 use Rattle.engine_world.proofs.Left.{same_agenda}
 use Rattle.engine_world.proofs.Registers.{stops_left}
 use Rattle.engine_instructions.proofs.Starting.{goes_then, stops_as, stops_elsewhere, written_elsewhere}
+
+-- an answer of code that may halt
+abbrev as_halt : {X : Type 0} → X → Result X Halt
+as_halt x = Ok x
+
+uncounted_able : (rest : List Task) (n : ℕ) (a : Answer Started) → Able a → Able (uncounted rest n a)
+uncounted_able rest n (Ok s) able = tt
+uncounted_able rest n (Err arm) able = able
 
 module _ (d : Definition) (e b : Engine) (f : Frame) where
   -- it goes on to hold what its registers name
@@ -55,6 +67,19 @@ module _ (d : Definition) (e b : Engine) (f : Frame) where
         (subst (λ (w : World). Goes result (uncounted (Running f ∷ agenda_of d e) e.counted (a w)) new) world_pushed
         (subst (λ n. Goes result (uncounted (Running f ∷ agenda_of d e) n (a (world_of b.world))) new) count_pushed
         (subst (λ (ts : List Task). Goes result (uncounted ts b.counted (a (world_of b.world))) new) agenda goes)))
+
+    -- the same of code that is not stuck
+    pub leads_before : {X : Type 0} (result : Result X AllocError) (a : World → Answer Started) (new : Config) → agenda_of d b ≡ Running f ∷ agenda_of d e
+        → Leads result (uncounted (agenda_of d b) b.counted (a (world_of b.world))) new
+        → Leads result (left e.counted (in_front (agenda_of d e) (then_goes_on f (a (world_of e.world))))) new
+    leads_before {X} (Ok x) a new agenda leads = goes_before {X = X} (as_halt x) a new agenda leads
+    leads_before {X} (Err error) a new agenda leads = tt
+
+    pub raising_able : (a : World → Answer Started) → Able (then_goes_on f (a (world_of e.world))) → Able (uncounted (agenda_of d b) b.counted (a (world_of b.world)))
+    unfolding then_goes_on
+    raising_able a able =
+        subst (λ (w : World). Able (uncounted (agenda_of d b) b.counted (a w))) (sym world_pushed)
+        (uncounted_able (agenda_of d b) b.counted (a (world_of e.world)) (first (a (world_of e.world)) _ able))
 
 -- ** what a change of the table leaves
 
@@ -127,15 +152,21 @@ module _ (d : Definition) (e mid : Engine) (f : Frame) (to parent child p c : �
     pub world_written : world_of mid.world ≡ world_of e.world
     world_written = (written_elsewhere e.counted (agenda_of d e) to (Some (values.bool free)) f (world_of e.world) (world_of e.world) (config_of d mid) wrote).0
 
-    pub adopts_behind : {X : Type 0} (result : Result X Halt) (new : Engine) → Goes result (joined d (world_of mid.world) p c) (world_of new.world)
-        → (new.stack ≡ mid.stack) × (new.counted ≡ mid.counted) → new.world.handlers ≡ mid.world.handlers → Goes result adopting_so (config_of d new)
-    adopts_behind {X} result new goes same handlers = by result (subst (λ (w : World). Goes result (joined d w p c) (world_of new.world)) world_written goes)
+    -- where the instruction is not stuck its part is not
+    pub adopts_able : Able adopting_so → Able (joined d (world_of mid.world) p c)
+    adopts_able able =
+        subst (λ (w : World). Able (joined d w p c)) (sym world_written)
+        (none_stops (joined d (world_of e.world) p c) (λ arm stuck. no_arm adopting_so arm able
+        (stops_left e.counted (agenda_of d e) (adopting d (world_of e.world) f to parent child) (halts.Stuck arm)
+        (adopt_stops d (world_of e.world) f to parent child p above c below (halts.Stuck arm) stuck))))
+
+    pub adopts_behind : {X : Type 0} (result : Result X AllocError) (new : Engine) → Leads result (joined d (world_of mid.world) p c) (world_of new.world)
+        → (new.stack ≡ mid.stack) × (new.counted ≡ mid.counted) → new.world.handlers ≡ mid.world.handlers → Leads result adopting_so (config_of d new)
+    adopts_behind {X} result new leads same handlers = by result (subst (λ (w : World). Leads result (joined d w p c) (world_of new.world)) world_written leads)
       where
-        by : (result : Result X Halt) → Goes result (joined d (world_of e.world) p c) (world_of new.world) → Goes result adopting_so (config_of d new)
+        by : (result : Result X AllocError) → Leads result (joined d (world_of e.world) p c) (world_of new.world) → Leads result adopting_so (config_of d new)
         by (Ok x) is =
             ap (λ (a : Answer Started). left e.counted (in_front (agenda_of d e) a)) (adopts d (world_of e.world) f to parent child p above c below free may (world_of new.world) is)
             ∙ (written_elsewhere e.counted (agenda_of d e) to (Some (values.bool free)) f (world_of e.world) (world_of new.world) (config_of d mid) wrote).1
             ∙ rw (same_agenda d mid new same.0 handlers, same.1) refl
-        by (Err halt) s =
-            stops_left e.counted (agenda_of d e) (adopting d (world_of e.world) f to parent child) halt
-            (adopt_stops d (world_of e.world) f to parent child p above c below halt s)
+        by (Err error) leads = tt

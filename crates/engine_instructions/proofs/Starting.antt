@@ -1,5 +1,6 @@
 -- What an instruction starts, as the engine leaves it.
 use Rattle.std.proofs.Common.{◌≡◌, ◌∙◌, refl, sym, ap, subst, append_assoc, ℕ, List, [], ◌∷◌, ◌++◌, Option, Result, Ok, Err}
+use Rattle.std.specs.declared.alloc.AllocError.{AllocError}
 use Rattle.ui_machine.specs.declared.arm.Halt.{Halt}
 use Rattle.ui_machine.specs.declared.arm.Halt.TheVariants as halts
 use Rattle.ui_machine.specs.Definition.Values.{Value}
@@ -10,6 +11,7 @@ use Rattle.ui_machine.specs.Outcome.{Answer, Goes, Stops, ◌>>=◌}
 use Rattle.ui_machine.specs.State.Config.{Config, Started, World}
 use Rattle.ui_machine.specs.State.Tasks.{Frame, Registers, Running, Task}
 use Rattle.ui_machine.specs.Steps.{left, uncounted}
+use Rattle.engine_world.specs.Able.{Able, Leads}
 
 -- what stops is stuck where another answer is
 pub stops_as : {A : Type 0} (halt : Halt) (a b : Answer A) → a ≡ b → Stops halt b → Stops halt a
@@ -61,9 +63,20 @@ module _ (n : ℕ) (rest : List Task) where
         by (Err other) e = e
         by (Ok r) e = absurd (cc e)
 
--- what was done in one place is done in another that is the same
-pub goes_as : {X : Type 0} (result : Result X Halt) (new : Config) (n m : ℕ) (rest tasks : List Task) (a b : Answer Started) → a ≡ b → tasks ≡ rest → m ≡ n
-    → Goes result (left m (in_front tasks b)) new → Goes result (left n (in_front rest a)) new
-goes_as {X} result new n m rest tasks a b same agenda count goes =
-    subst (λ (x : Answer Config). Goes result x new)
-    (ap (λ (ts : List Task). left m (in_front ts b)) agenda ∙ ap (λ (k : ℕ). left k (in_front rest b)) count ∙ ap (λ (x : Answer Started). left n (in_front rest x)) (sym same)) goes
+    -- whether an arm stops it does not depend on the world
+    pub written_able_elsewhere : (w u : World) → Able (left n (in_front rest (written_to w to v f))) → Able (left n (in_front rest (written_to u to v f)))
+    unfolding left in_front written_to
+    written_able_elsewhere w u able = by (with_register to v f.registers) able
+      where
+        by : (rs : Answer Registers) → Able (writes w rs) → Able (writes u rs)
+        by (Err arm) able = able
+        by (Ok r) able = tt
+
+-- what starts in one place starts in another that is the same
+pub same_left : (n m : ℕ) (rest tasks : List Task) (a b : Answer Started) → a ≡ b → tasks ≡ rest → m ≡ n → left n (in_front rest a) ≡ left m (in_front tasks b)
+same_left n m rest tasks a b same agenda count =
+    ap (λ (x : Answer Started). left n (in_front rest x)) same ∙ ap (λ (ts : List Task). left n (in_front ts b)) (sym agenda) ∙ ap (λ (k : ℕ). left k (in_front tasks b)) (sym count)
+
+-- and leads to the same
+pub leads_as : {S X : Type 0} (result : Result X AllocError) (new : S) {a b : Answer S} → a ≡ b → Leads result b new → Leads result a new
+leads_as {S} {X} result new same leads = subst (λ (x : Answer S). Leads result x new) (sym same) leads

@@ -5,7 +5,6 @@ pub mod HandlersView
 pub mod JumpView
 pub mod PropertyView
 pub mod CreateView
-pub mod UnbindView
 pub mod CallingView
 pub mod ClosedPeers
 pub use Rattle.engine_world.specs.ConnectView

@@ -1,55 +1,32 @@
 //! What programs give: an emission collects it (GObject manual, Signals: GSignalAccumulator).
 
-ghost use Rattle.std.specs.Prelude.{◌≡◌, ℕ, ◌+◌, ◌≤◌, [], cond, option_map, IfOk, IfSome, OnOk};
-ghost use Rattle.ui_machine.specs.Outcome.{Goes};
-ghost use Rattle.ui_machine.specs.Rules.Accumulation.{down_to_emission, given_down, suits};
+ghost use Rattle.std.specs.Prelude.{◌≡◌, ℕ, ◌+◌, ◌≤◌, [], cond, option_map, IfOk, OnOk};
+ghost use Rattle.ui_machine.specs.Rules.Accumulation.{down_to_emission, given_down};
 ghost use Rattle.ui_machine.specs.Definition as machine;
 ghost use Rattle.ui_machine.specs.Rules.MainLoop.{kept_source};
-ghost use Rattle.ui_machine.specs.Rules.Transform.{kind_fits};
-ghost use Rattle.ui_machine.specs.State.Objects.{class_in};
 ghost use Rattle.ui_machine.specs.State.References.{in_emission, in_register};
-ghost use Rattle.g_values.specs.View.{kind_view, value_view};
+ghost use Rattle.g_values.specs.View.{value_view};
 ghost use Rattle.signal_core.specs.Emission.{accumulator_of};
-ghost use Rattle.definition_format.specs.Meaning.{IsKnownKind};
 ghost use Rattle.instance_tables.specs.Store.{count_of};
 ghost use Rattle.engine_world.specs.KnownHandlers.{AllTakeKnownHandlers, EndsWithoutTransfers};
+ghost use Rattle.engine_world.specs.Able.{Able, Leads};
 ghost use Rattle.engine_world.specs.Quiet.{IsQuiet};
 ghost use Rattle.engine_world.specs.declared.task.Transfers.TheVariants as at;
-ghost use Rattle.engine_instructions.specs.CollectView.{TestsNone, collects, stops_at};
+ghost use Rattle.engine_instructions.specs.CollectView.{collects, stops_at};
 ghost use Rattle.engine_world.specs.Counting.{Counts, HoldsTasks, KeepsCounts, OnlyCounts, OnlyTasks};
 ghost use Rattle.engine_world.specs.SourceView.{HoldsSources};
 ghost use Rattle.engine_world.specs.TaskView.{agenda_of, emission_of, entries_to_come};
 ghost use Rattle.engine_world.specs.View.{world_of};
 
 use definitions::Definition;
-use engine_world::arguments::fits;
 use engine_world::engine::Engine;
 use engine_world::references::{accumulated, hold_any, let_go_any};
 use engine_world::sources::answer_source;
 use engine_world::task::{Task, Transfers};
-use g_values::{Kind, Value};
+use g_values::Value;
 use instance_tables::Table;
 use signal_core::{Accumulator, Cursor, is_last};
 use std::alloc::{AllocError, Global};
-use type_tree::TypeTree;
-use ui_machine::{Arm, Halt};
-
-/// Whether what a program gave is what is wanted.
-pub(crate) fn suits(
-    table: &Table,
-    types: &TypeTree,
-    given: &Option<Value>,
-    kind: Option<Kind>,
-) -> bool
-    requires known { IfSome (option_map kind_view kind) (IsKnownKind types.now) }
-    ensures { result ≡ suits (kind_fits (class_in table.now.objects) types.now) (option_map value_view given.now) (option_map kind_view kind) }
-{
-    match (given, kind) {
-        (None, None) => true,
-        (Some(value), Some(kind)) => fits(table, types, value, kind),
-        _ => false,
-    }
-}
 
 // An emission takes what its program gave, if it gave something, and answers whether that was the last. It holds what that names, and lets
 // go what the value before it named.
@@ -87,16 +64,6 @@ fn unless_stopped(alloc: Global, transfers: Transfers, is_stopped: bool) -> Tran
     }
 }
 
-// Whether a program gives nothing, as it has to where no emission is below it.
-fn check_none(given: &Option<Value>) -> Result<(), Halt>
-    ensures { TestsNone result (option_map value_view given.now) }
-{
-    match given {
-        None => Ok(()),
-        Some(_) => Err(Halt::Stuck(Arm::Result)),
-    }
-}
-
 // An emission collects what its program gave, which may stop it.
 fn accumulate(
     engine: &mut Engine,
@@ -106,11 +73,13 @@ fn accumulate(
     by_event: bool,
     transfers: Transfers,
     given: Option<Value>,
-) -> Result<(), Halt>
+) -> Result<(), AllocError>
+    requires able { Able (down_to_emission definition.now (world_of engine.now.world) (emission_of cursor args.items by_event) (entries_to_come cursor engine.now.world.handlers.handlers transfers)
+        (agenda_of definition.now engine.now) (option_map value_view given)) }
     requires held { (o : ℕ) → in_register o cursor.value ≤ count_of engine.now.world.table.counts o }
     requires begun { cursor.greatest ≤ engine.now.world.handlers.last }
     requires ends { EndsWithoutTransfers cursor transfers }
-    ensures step { Goes result
+    ensures step { Leads result
         (down_to_emission definition.now (world_of engine.old.world) (emission_of cursor args.items by_event) (entries_to_come cursor engine.old.world.handlers.handlers transfers)
         (agenda_of definition.now engine.old) (option_map value_view given))
         (record { world = world_of engine.new.world; agenda = agenda_of definition.now engine.new }) }
@@ -118,16 +87,14 @@ fn accumulate(
     ensures counted { OnOk result ((taken : ℕ → ℕ)
         → Counts definition.now (λ o. taken o + in_emission o (emission_of cursor args.items by_event)) engine.old → Counts definition.now taken engine.new) }
 {
-    let types = definition.types();
     let object = cursor.object();
     let number = cursor.signal();
-    let class = engine.world.table.class_of(object)?;
-    let Some(signal) = definition.signal(class, number) else {
-        return Err(Halt::Stuck(Arm::Code));
+    let Ok(class) = engine.world.table.class_of(object) else {
+        unreachable!()
     };
-    if !suits(&engine.world.table, types, &given, signal.result) {
-        return Err(Halt::Stuck(Arm::Result));
-    }
+    let Some(signal) = definition.signal(class, number) else {
+        unreachable!()
+    };
     let is_last = collect(
         &mut engine.world.table,
         &mut cursor,
@@ -145,19 +112,19 @@ fn accumulate(
 }
 
 // The program of a source says whether the source stays (GLib manual, GSourceFunc).
-fn answer(engine: &mut Engine, source: u64, given: Option<Value>) -> Result<(), Halt>
+fn answer(engine: &mut Engine, source: u64, given: Option<Value>)
+    requires able { Able (kept_source (world_of engine.now.world) source (option_map value_view given)) }
     requires held { HoldsSources engine.now }
-    ensures kept { Goes result (kept_source (world_of engine.old.world) source (option_map value_view given)) (world_of engine.new.world) }
+    ensures kept { kept_source (world_of engine.old.world) source (option_map value_view given) ≡ Ok (world_of engine.new.world) }
     ensures quiet { IsQuiet (world_of engine.old.world) (world_of engine.new.world) }
     ensures same { (engine.new.stack ≡ engine.old.stack) × (engine.new.counted ≡ engine.old.counted) }
     ensures handlers { engine.new.world.handlers ≡ engine.old.world.handlers }
-    ensures counted { OnOk result ((d : machine.Definition) → KeepsCounts d engine.old engine.new) }
+    ensures counted { (d : machine.Definition) → KeepsCounts d engine.old engine.new }
 {
     let Some(Value::Bool(keep)) = given else {
-        return Err(Halt::Stuck(Arm::Result));
+        unreachable!()
     };
     answer_source(engine, source, keep);
-    Ok(())
 }
 
 /// What a program gives goes to the task below it: an emission collects it, a source stays or not by it, and to all others it gives nothing.
@@ -165,11 +132,12 @@ pub(crate) fn give_down(
     engine: &mut Engine,
     definition: &Definition,
     given: Option<Value>,
-) -> Result<(), Halt>
+) -> Result<(), AllocError>
+    requires able { Able (given_down definition.now (world_of engine.now.world) (agenda_of definition.now engine.now) (option_map value_view given)) }
     requires held { HoldsTasks definition.now engine.now }
     requires sources { HoldsSources engine.now }
     requires begun { AllTakeKnownHandlers engine.now.world.handlers.last engine.now.stack }
-    ensures step { Goes result
+    ensures step { Leads result
         (given_down definition.now (world_of engine.old.world) (agenda_of definition.now engine.old) (option_map value_view given))
         (record { world = world_of engine.new.world; agenda = agenda_of definition.now engine.new }) }
     ensures quiet { IsQuiet (world_of engine.old.world) (world_of engine.new.world) }
@@ -177,7 +145,7 @@ pub(crate) fn give_down(
     ensures counted { OnOk result (KeepsCounts definition.now engine.old engine.new) }
 {
     let Some(task) = engine.stack.pop() else {
-        return check_none(&given);
+        return Ok(());
     };
     match task {
         Task::Emitting {
@@ -186,10 +154,13 @@ pub(crate) fn give_down(
             by_event,
             transfers,
         } => accumulate(engine, definition, cursor, args, by_event, transfers, given),
-        Task::Answering { source } => answer(engine, source, given),
+        Task::Answering { source } => {
+            answer(engine, source, given);
+            Ok(())
+        }
         task => {
             engine.stack.push(task)?;
-            check_none(&given)
+            Ok(())
         }
     }
 }

@@ -1,18 +1,18 @@
 //! `call`: a method of an object's peer is to answer.
 
-ghost use Rattle.std.specs.Prelude.{◌≡◌, List, IfSome, IsSome, OnErr, OnOk, length, map, nat_lt, option_map, string_bytes};
+ghost use Rattle.std.specs.Prelude.{◌≡◌, List, Ok, IfOk, IfSome, IsSome, OnErr, OnOk, map, option_map, string_bytes};
 ghost use Rattle.ui_machine.specs.Definition.Types.{GType};
 ghost use Rattle.ui_machine.specs.Instructions.{in_front};
 ghost use Rattle.ui_machine.specs.Instructions.Peers.{calling};
 ghost use Rattle.ui_machine.specs.declared.arm.Arm.TheVariants as arms;
-ghost use Rattle.ui_machine.specs.Outcome.{Goes, known};
+ghost use Rattle.ui_machine.specs.Outcome.{known};
 ghost use Rattle.ui_machine.specs.State.Objects.{living};
 ghost use Rattle.ui_machine.specs.Steps.{left};
 ghost use Rattle.bytecode.specs.View.{number_of};
 ghost use Rattle.frames.specs.FrameView.{frame_view};
 ghost use Rattle.engine_world.specs.Counting.{Counts, in_frame, nothing};
 ghost use Rattle.engine_world.specs.EngineView.{config_of};
-ghost use Rattle.engine_world.specs.GivenView.{Finds};
+ghost use Rattle.engine_world.specs.Able.{Able, Leads};
 ghost use Rattle.engine_world.specs.Quiet.{IsQuiet};
 ghost use Rattle.engine_world.specs.SeatView.{HasKnownKinds};
 ghost use Rattle.engine_world.specs.TaskView.{agenda_of, call_of};
@@ -22,14 +22,15 @@ ghost use Rattle.engine_instructions.specs.CallingView.{called_in, called_view, 
 use crate::operands::object_in;
 use bytecode::{Call, Register};
 use definitions::Definition;
-use engine_world::arguments::all_fit;
 use engine_world::engine::Engine;
 use engine_world::program_frames::push_frame;
 use engine_world::references::push_task;
 use engine_world::task::{DueCall, Task};
+use engine_world::unstuck::rule_out_stuck;
 use frames::{Frame, values_at};
 use peer_shapes::MethodRef;
-use ui_machine::{Arm, Halt, ObjectId};
+use std::alloc::AllocError;
+use ui_machine::ObjectId;
 
 // A method of a peer, by the numbers of both.
 #[derive(Clone, Copy)]
@@ -64,39 +65,28 @@ fn method_called<'a>(engine: &'a Engine, object: ObjectId, name: &str) -> Option
     })
 }
 
-// Whether a program has the register.
-fn has_register(frame: &Frame, to: Register) -> bool
-    ensures { result ≡ nat_lt to.0 (length (frame_view frame.now).registers) }
-{
-    to.0 < frame.registers.len()
-}
-
 // The call that is due.
 fn due_call(
     engine: &Engine,
     definition: &Definition,
     frame: &Frame,
     call: &Call,
-) -> Result<DueCall, Halt>
-    ensures { Finds call_of result (due_call definition.now (world_of engine.now.world) (frame_view frame.now)
+) -> Result<DueCall, AllocError>
+    requires able { Able (due_call definition.now (world_of engine.now.world) (frame_view frame.now)
         call.now.to.0 call.now.object.0 (string_bytes call.now.method) (map number_of call.now.args.items)) }
+    ensures { IfOk result (λ due. due_call definition.now (world_of engine.now.world) (frame_view frame.now)
+        call.now.to.0 call.now.object.0 (string_bytes call.now.method) (map number_of call.now.args.items) ≡ Ok (call_of due)) }
 {
-    let object = object_in(engine, frame, call.object)?;
+    // For the proof: the clauses speak of the definition.
+    let _ = definition;
+    let object = object_in(engine, frame, call.object);
     let name = call.method.as_str();
     let Some(called) = method_called(engine, object, name) else {
-        return Err(Halt::Stuck(Arm::Call));
+        unreachable!()
     };
     let registers = frame.registers.as_slice();
     let from = call.args.as_slice();
-    let args = values_at(engine.alloc, registers, from)?;
-    let given = args.as_slice();
-    let types = definition.types();
-    if !all_fit(&engine.world.table, types, given, called.method.params) {
-        return Err(Halt::Stuck(Arm::Call));
-    }
-    if !has_register(frame, call.to) {
-        return Err(Halt::Stuck(Arm::Code));
-    }
+    let args = rule_out_stuck(values_at(engine.alloc, registers, from))?;
     Ok(DueCall {
         object,
         peer: called.peer,
@@ -112,9 +102,11 @@ pub(crate) fn call_from_program(
     definition: &Definition,
     frame: Frame,
     call: &Call,
-) -> Result<(), Halt>
+) -> Result<(), AllocError>
+    requires able { Able (left engine.now.counted (in_front (agenda_of definition.now engine.now) (calling definition.now (world_of engine.now.world) (frame_view frame)
+        call.now.to.0 call.now.object.0 (string_bytes call.now.method) (map number_of call.now.args.items)))) }
     requires counted { Counts definition.now (λ o. in_frame o (frame_view frame)) engine.now }
-    ensures step { Goes result
+    ensures step { Leads result
         (left engine.old.counted (in_front (agenda_of definition.now engine.old) (calling definition.now (world_of engine.old.world) (frame_view frame)
         call.now.to.0 call.now.object.0 (string_bytes call.now.method) (map number_of call.now.args.items))))
         (config_of definition.now engine.new) }

@@ -1,9 +1,8 @@
 //! `connect`: a program connects a handler (GObject manual, Signals: `g_signal_connect_data`).
 
-ghost use Rattle.std.specs.Prelude.{◌≡◌, true, IfOk, OnOk, OnErr};
+ghost use Rattle.std.specs.Prelude.{◌≡◌, true, IfOk, Ok, OnOk, OnErr};
 ghost use Rattle.ui_machine.specs.Instructions.{in_front};
 ghost use Rattle.ui_machine.specs.Instructions.Signals.{connecting};
-ghost use Rattle.ui_machine.specs.Outcome.{Goes};
 ghost use Rattle.ui_machine.specs.Steps.{left};
 ghost use Rattle.frames.specs.FrameView.{frame_view};
 ghost use Rattle.bytecode.specs.View.{connect_view};
@@ -11,7 +10,7 @@ ghost use Rattle.signal_core.specs.Connected.{connection_of};
 ghost use Rattle.engine_world.specs.ConnectView.{connection_in};
 ghost use Rattle.engine_world.specs.Counting.{Counts, in_frame, nothing};
 ghost use Rattle.engine_world.specs.EngineView.{config_of};
-ghost use Rattle.engine_world.specs.GivenView.{Finds};
+ghost use Rattle.engine_world.specs.Able.{Able, Leads};
 ghost use Rattle.engine_world.specs.Quiet.{IsQuiet};
 ghost use Rattle.engine_world.specs.TaskView.{agenda_of};
 ghost use Rattle.engine_world.specs.View.{world_of};
@@ -28,7 +27,7 @@ use engine_world::engine::Engine;
 use frames::Frame;
 use g_values::Value;
 use signal_core::Connection;
-use ui_machine::Halt;
+use std::alloc::AllocError;
 
 // What the object that a register names is connected with.
 fn new_connection(
@@ -37,15 +36,16 @@ fn new_connection(
     frame: &Frame,
     object: Register,
     connect: &Connect,
-) -> Result<Connection, Halt>
-    ensures connection { Finds connection_of result (connection_in definition.now (world_of engine.now.world) (frame_view frame.now) object.0 (connect_view connect.now)) }
+) -> Result<Connection, AllocError>
+    requires able { Able (connection_in definition.now (world_of engine.now.world) (frame_view frame.now) object.0 (connect_view connect.now)) }
+    ensures connection { IfOk result (λ c. connection_in definition.now (world_of engine.now.world) (frame_view frame.now) object.0 (connect_view connect.now) ≡ Ok (connection_of c)) }
     ensures by_code { IfOk result (λ c. c.by_code ≡ true) }
 {
-    let object = object_in(engine, frame, object)?;
-    let signal = signal_in(engine, definition, object, connect.signal.as_str())?;
+    let object = object_in(engine, frame, object);
+    let signal = signal_in(engine, definition, object, connect.signal.as_str());
     let detail = detail_in(engine, definition, object, signal, as_text(&connect.detail))?;
-    let program = program_named(definition, connect.program.as_str())?;
-    let data = data_in(engine, frame, connect.with)?;
+    let program = program_named(definition, connect.program.as_str());
+    let data = data_in(engine, frame, connect.with);
     Ok(Connection {
         object,
         signal,
@@ -67,9 +67,11 @@ pub(crate) fn connect_from_program(
     to: Register,
     object: Register,
     connect: &Connect,
-) -> Result<(), Halt>
+) -> Result<(), AllocError>
+    requires able { Able (left engine.now.counted (in_front (agenda_of definition.now engine.now)
+        (connecting definition.now (world_of engine.now.world) (agenda_of definition.now engine.now) (frame_view frame) to.0 object.0 (connect_view connect.now)))) }
     requires counted { Counts definition.now (λ o. in_frame o (frame_view frame)) engine.now }
-    ensures step { Goes result
+    ensures step { Leads result
         (left engine.old.counted (in_front (agenda_of definition.now engine.old)
         (connecting definition.now (world_of engine.old.world) (agenda_of definition.now engine.old) (frame_view frame) to.0 object.0 (connect_view connect.now))))
         (config_of definition.now engine.new) }

@@ -1,15 +1,14 @@
 //! `emit`: a program emits a signal (GObject manual, Signals: `g_signal_emit`).
 
-ghost use Rattle.std.specs.Prelude.{OnOk, OnErr};
+ghost use Rattle.std.specs.Prelude.{◌≡◌, IfOk, Ok, OnOk, OnErr};
 ghost use Rattle.ui_machine.specs.Instructions.{in_front};
-ghost use Rattle.ui_machine.specs.Instructions.Signals.{emitting, signal_in, signal_to_emit};
-ghost use Rattle.ui_machine.specs.Outcome.{Goes};
+ghost use Rattle.ui_machine.specs.Instructions.Signals.{emitting, signal_in};
 ghost use Rattle.ui_machine.specs.Steps.{left};
 ghost use Rattle.frames.specs.FrameView.{frame_view};
 ghost use Rattle.engine_world.specs.Counting.{Counts, in_frame, nothing};
 ghost use Rattle.engine_world.specs.EngineView.{config_of};
 ghost use Rattle.engine_instructions.specs.EmitView.{emission_by_code, emit_of};
-ghost use Rattle.engine_world.specs.GivenView.{Finds};
+ghost use Rattle.engine_world.specs.Able.{Able, Leads};
 ghost use Rattle.engine_world.specs.Quiet.{IsQuiet};
 ghost use Rattle.engine_world.specs.TaskView.{agenda_of, new_of};
 ghost use Rattle.engine_world.specs.View.{world_of};
@@ -22,8 +21,10 @@ use engine_world::engine::Engine;
 use engine_world::program_frames::push_frame;
 use engine_world::references::push_task;
 use engine_world::task::{NewEmission, Task};
+use engine_world::unstuck::rule_out_stuck;
 use frames::{Frame, values_at};
-use ui_machine::{Arm, Halt, ObjectId, SignalId};
+use std::alloc::AllocError;
+use ui_machine::{ObjectId, SignalId};
 
 /// What `emit` says beside the object.
 #[derive(Clone, Copy, Debug)]
@@ -41,30 +42,17 @@ pub(crate) fn signal_in(
     definition: &Definition,
     object: ObjectId,
     name: &str,
-) -> Result<SignalId, Halt>
-    ensures { Finds (λ n. n) result (signal_in definition.now (world_of engine.now.world) object.0 name.now) }
+) -> SignalId
+    requires able { Able (signal_in definition.now (world_of engine.now.world) object.0 name.now) }
+    ensures { signal_in definition.now (world_of engine.now.world) object.0 name.now ≡ Ok result }
 {
-    let class = engine.world.table.class_of(object)?;
-    match definition.signal_number(class, name) {
-        Some(number) => Ok(number),
-        None => Err(Halt::Stuck(Arm::Code)),
-    }
-}
-
-// The signal that a program emits, which is not `notify`.
-fn signal_to_emit(
-    engine: &Engine,
-    definition: &Definition,
-    object: ObjectId,
-    name: &str,
-) -> Result<SignalId, Halt>
-    ensures { Finds (λ n. n) result (signal_to_emit definition.now (world_of engine.now.world) object.0 name.now) }
-{
-    let signal = signal_in(engine, definition, object, name)?;
-    if signal == 0 {
-        return Err(Halt::Stuck(Arm::Code));
-    }
-    Ok(signal)
+    let Ok(class) = engine.world.table.class_of(object) else {
+        unreachable!()
+    };
+    let Some(number) = definition.signal_number(class, name) else {
+        unreachable!()
+    };
+    number
 }
 
 // The emission that a program is to begin.
@@ -74,13 +62,15 @@ fn new_emission(
     frame: &Frame,
     object: Register,
     emit: Emit<'_>,
-) -> Result<NewEmission, Halt>
-    ensures { Finds (λ e. new_of e) result (emission_by_code definition.now (world_of engine.now.world) (frame_view frame.now) object.0 (emit_of emit.entry)) }
+) -> Result<NewEmission, AllocError>
+    requires able { Able (emission_by_code definition.now (world_of engine.now.world) (frame_view frame.now) object.0 (emit_of emit)) }
+    ensures { IfOk result (λ e. emission_by_code definition.now (world_of engine.now.world) (frame_view frame.now) object.0 (emit_of emit.entry) ≡ Ok (new_of e)) }
 {
-    let object = object_in(engine, frame, object)?;
-    let signal = signal_to_emit(engine, definition, object, emit.signal)?;
+    let object = object_in(engine, frame, object);
+    let signal = signal_in(engine, definition, object, emit.signal);
     let detail = detail_in(engine, definition, object, signal, emit.detail)?;
-    let args = values_at(engine.alloc, frame.registers.as_slice(), emit.args)?;
+    let registers = frame.registers.as_slice();
+    let args = rule_out_stuck(values_at(engine.alloc, registers, emit.args))?;
     Ok(NewEmission {
         object,
         signal,
@@ -97,9 +87,10 @@ pub(crate) fn emit_from_program(
     mut frame: Frame,
     object: Register,
     emit: Emit<'_>,
-) -> Result<(), Halt>
+) -> Result<(), AllocError>
+    requires able { Able (left engine.now.counted (in_front (agenda_of definition.now engine.now) (emitting definition.now (world_of engine.now.world) (frame_view frame) object.0 (emit_of emit)))) }
     requires counted { Counts definition.now (λ o. in_frame o (frame_view frame)) engine.now }
-    ensures step { Goes result
+    ensures step { Leads result
         (left engine.old.counted (in_front (agenda_of definition.now engine.old) (emitting definition.now (world_of engine.old.world) (frame_view frame) object.0 (emit_of emit.entry))))
         (config_of definition.now engine.new) }
     ensures quiet { OnErr result (IsQuiet (world_of engine.old.world) (world_of engine.new.world)) }

@@ -3,7 +3,6 @@
 ghost use Rattle.std.specs.Prelude.{◌≡◌, Some, IfSome, OnOk, OnErr};
 ghost use Rattle.ui_machine.specs.Definition.Lookups.{program_at};
 ghost use Rattle.ui_machine.specs.Instructions.{instruction_step};
-ghost use Rattle.ui_machine.specs.Outcome.{Goes};
 ghost use Rattle.ui_machine.specs.Steps.{left};
 ghost use Rattle.g_values.specs.View.{IsKnown};
 ghost use Rattle.frames.specs.FrameView.{frame_view};
@@ -14,7 +13,7 @@ ghost use Rattle.engine_world.specs.View.{world_of};
 ghost use Rattle.engine_world.specs.TaskView.{agenda_of};
 ghost use Rattle.engine_world.specs.Counting.{Counts, in_frame, nothing};
 ghost use Rattle.engine_world.specs.EngineView.{config_of};
-ghost use Rattle.engine_world.specs.Standing.{GoesWithoutGone};
+ghost use Rattle.engine_world.specs.Able.{Able, Leads, LeadsWithoutGone};
 ghost use Rattle.engine_instructions.specs.ClosedPeers.{LeavesClosed};
 
 use crate::calls::call_from_program;
@@ -40,25 +39,26 @@ use definitions::Definition;
 use engine_world::arguments::as_text;
 use engine_world::engine::Engine;
 use frames::Frame;
-use ui_machine::Halt;
+use std::alloc::AllocError;
 
 /// Does what an instruction says, which is counted already. The number of a peer that it closes is left in the engine. Handlers that it disconnects have no more turns in the emissions that go on.
 ///
 /// # Errors
 ///
-/// `Halt::OutOfMemory` if memory is refused, and `Halt::Stuck` where the machine is stuck here.
+/// `AllocError` if no memory is found.
 pub fn execute(
     engine: &mut Engine,
     definition: &Definition,
     program: &Program,
     frame: Frame,
     instruction: &Instruction,
-) -> Result<(), Halt>
+) -> Result<(), AllocError>
+    requires able { Able (left engine.now.counted (instruction_step definition.now (world_of engine.now.world) (agenda_of definition.now engine.now) (frame_view frame) (instruction_view instruction.now))) }
     requires program { program_at definition.now (frame_view frame).program ≡ Some (program_view program.now) }
     requires known { HasKnownKinds definition.now.types instruction.now }
     requires result { IfSome program.now.result (IsKnown definition.now.types) }
     requires counted { Counts definition.now (λ o. in_frame o (frame_view frame)) engine.now }
-    ensures step { GoesWithoutGone result
+    ensures step { LeadsWithoutGone result
         (left engine.old.counted (instruction_step definition.now (world_of engine.old.world) (agenda_of definition.now engine.old) (frame_view frame) (instruction_view instruction.now)))
         (config_of definition.now engine.new) }
     ensures quiet { OnErr result (IsQuiet (world_of engine.old.world) (world_of engine.new.world)) }
@@ -89,11 +89,12 @@ fn execute_control(
     program: &Program,
     frame: Frame,
     instruction: &ControlInstruction,
-) -> Result<(), Halt>
+) -> Result<(), AllocError>
+    requires able { Able (left engine.now.counted (instruction_step definition.now (world_of engine.now.world) (agenda_of definition.now engine.now) (frame_view frame) (control_view instruction.now))) }
     requires program { program_at definition.now (frame_view frame).program ≡ Some (program_view program.now) }
     requires result { IfSome program.now.result (IsKnown definition.now.types) }
     requires counted { Counts definition.now (λ o. in_frame o (frame_view frame)) engine.now }
-    ensures step { Goes result
+    ensures step { Leads result
         (left engine.old.counted (instruction_step definition.now (world_of engine.old.world) (agenda_of definition.now engine.old) (frame_view frame) (control_view instruction.now)))
         (config_of definition.now engine.new) }
     ensures quiet { OnErr result (IsQuiet (world_of engine.old.world) (world_of engine.new.world)) }
@@ -123,9 +124,10 @@ fn execute_on_properties(
     definition: &Definition,
     frame: Frame,
     instruction: &PropertyInstruction,
-) -> Result<(), Halt>
+) -> Result<(), AllocError>
+    requires able { Able (left engine.now.counted (instruction_step definition.now (world_of engine.now.world) (agenda_of definition.now engine.now) (frame_view frame) (property_instruction_view instruction.now))) }
     requires counted { Counts definition.now (λ o. in_frame o (frame_view frame)) engine.now }
-    ensures step { Goes result
+    ensures step { Leads result
         (left engine.old.counted (instruction_step definition.now (world_of engine.old.world) (agenda_of definition.now engine.old) (frame_view frame) (property_instruction_view instruction.now)))
         (config_of definition.now engine.new) }
     ensures quiet { OnErr result (IsQuiet (world_of engine.old.world) (world_of engine.new.world)) }
@@ -156,9 +158,10 @@ fn execute_on_objects(
     definition: &Definition,
     frame: Frame,
     instruction: &ObjectInstruction,
-) -> Result<(), Halt>
+) -> Result<(), AllocError>
+    requires able { Able (left engine.now.counted (instruction_step definition.now (world_of engine.now.world) (agenda_of definition.now engine.now) (frame_view frame) (object_instruction_view instruction.now))) }
     requires counted { Counts definition.now (λ o. in_frame o (frame_view frame)) engine.now }
-    ensures step { GoesWithoutGone result
+    ensures step { LeadsWithoutGone result
         (left engine.old.counted (instruction_step definition.now (world_of engine.old.world) (agenda_of definition.now engine.old) (frame_view frame) (object_instruction_view instruction.now)))
         (config_of definition.now engine.new) }
     ensures quiet { OnErr result (IsQuiet (world_of engine.old.world) (world_of engine.new.world)) }
@@ -185,9 +188,10 @@ fn execute_on_signals(
     definition: &Definition,
     frame: Frame,
     instruction: &SignalInstruction,
-) -> Result<(), Halt>
+) -> Result<(), AllocError>
+    requires able { Able (left engine.now.counted (instruction_step definition.now (world_of engine.now.world) (agenda_of definition.now engine.now) (frame_view frame) (signal_instruction_view instruction.now))) }
     requires counted { Counts definition.now (λ o. in_frame o (frame_view frame)) engine.now }
-    ensures step { GoesWithoutGone result
+    ensures step { LeadsWithoutGone result
         (left engine.old.counted (instruction_step definition.now (world_of engine.old.world) (agenda_of definition.now engine.old) (frame_view frame) (signal_instruction_view instruction.now)))
         (config_of definition.now engine.new) }
     ensures quiet { OnErr result (IsQuiet (world_of engine.old.world) (world_of engine.new.world)) }
@@ -233,9 +237,10 @@ fn execute_on_sources(
     definition: &Definition,
     frame: Frame,
     instruction: &SourceInstruction,
-) -> Result<(), Halt>
+) -> Result<(), AllocError>
+    requires able { Able (left engine.now.counted (instruction_step definition.now (world_of engine.now.world) (agenda_of definition.now engine.now) (frame_view frame) (source_instruction_view instruction.now))) }
     requires counted { Counts definition.now (λ o. in_frame o (frame_view frame)) engine.now }
-    ensures step { Goes result
+    ensures step { Leads result
         (left engine.old.counted (instruction_step definition.now (world_of engine.old.world) (agenda_of definition.now engine.old) (frame_view frame) (source_instruction_view instruction.now)))
         (config_of definition.now engine.new) }
     ensures quiet { OnErr result (IsQuiet (world_of engine.old.world) (world_of engine.new.world)) }

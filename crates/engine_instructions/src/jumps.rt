@@ -4,12 +4,12 @@ ghost use Rattle.std.specs.Prelude.{◌≡◌, None, Some, OnOk, OnErr};
 ghost use Rattle.ui_machine.specs.Definition.Lookups.{program_at};
 ghost use Rattle.ui_machine.specs.Instructions.{in_front};
 ghost use Rattle.ui_machine.specs.Instructions.Jumps.{branching, branching_null, jumping};
-ghost use Rattle.ui_machine.specs.Outcome.{Goes};
 ghost use Rattle.ui_machine.specs.Seq.{read};
 ghost use Rattle.ui_machine.specs.Steps.{left};
 ghost use Rattle.bytecode.specs.Computing.{of_one, registers_of};
 ghost use Rattle.frames.specs.FrameView.{frame_view};
 ghost use Rattle.bytecode.specs.View.{program_view};
+ghost use Rattle.engine_world.specs.Able.{Able, Leads};
 ghost use Rattle.engine_world.specs.Quiet.{IsQuiet};
 ghost use Rattle.engine_world.specs.View.{world_of};
 ghost use Rattle.engine_world.specs.TaskView.{agenda_of};
@@ -23,7 +23,7 @@ use engine_world::engine::Engine;
 use engine_world::program_frames::push_frame;
 use frames::{Frame, truth_at, value_at};
 use g_values::Value;
-use ui_machine::{Arm, Halt};
+use std::alloc::AllocError;
 
 // Whether the text or the object in a register is null, if it has one.
 fn null_at(registers: &[Option<Value>], at: Register) -> Option<bool>
@@ -43,10 +43,11 @@ pub(crate) fn jump(
     program: &Program,
     mut frame: Frame,
     to: BlockNumber,
-) -> Result<(), Halt>
+) -> Result<(), AllocError>
+    requires able { Able (left engine.now.counted (in_front (agenda_of definition.now engine.now) (jumping definition.now (world_of engine.now.world) (frame_view frame) to.0))) }
     requires program { program_at definition.now (frame_view frame).program ≡ Some (program_view program.now) }
     requires counted { Counts definition.now (λ o. in_frame o (frame_view frame)) engine.now }
-    ensures step { Goes result
+    ensures step { Leads result
         (left engine.old.counted (in_front (agenda_of definition.now engine.old) (jumping definition.now (world_of engine.old.world) (frame_view frame) to.0)))
         (config_of definition.now engine.new) }
     ensures quiet { OnErr result (IsQuiet (world_of engine.old.world) (world_of engine.new.world)) }
@@ -54,7 +55,9 @@ pub(crate) fn jump(
 {
     // For the proof: the clauses speak of the definition.
     let _ = definition;
-    frame.jump(program, to)?;
+    let Ok(()) = frame.jump(program, to) else {
+        unreachable!()
+    };
     push_frame(engine, frame)?;
     Ok(())
 }
@@ -68,17 +71,18 @@ pub(crate) fn branch(
     on: Register,
     then_to: BlockNumber,
     else_to: BlockNumber,
-) -> Result<(), Halt>
+) -> Result<(), AllocError>
+    requires able { Able (left engine.now.counted (in_front (agenda_of definition.now engine.now) (branching definition.now (world_of engine.now.world) (frame_view frame) on.0 then_to.0 else_to.0))) }
     requires program { program_at definition.now (frame_view frame).program ≡ Some (program_view program.now) }
     requires counted { Counts definition.now (λ o. in_frame o (frame_view frame)) engine.now }
-    ensures step { Goes result
+    ensures step { Leads result
         (left engine.old.counted (in_front (agenda_of definition.now engine.old) (branching definition.now (world_of engine.old.world) (frame_view frame) on.0 then_to.0 else_to.0)))
         (config_of definition.now engine.new) }
     ensures quiet { OnErr result (IsQuiet (world_of engine.old.world) (world_of engine.new.world)) }
     ensures counted { OnOk result (Counts definition.now nothing engine.new) }
 {
     let Some(truth) = truth_at(frame.registers.as_slice(), on) else {
-        return Err(Halt::Stuck(Arm::Register));
+        unreachable!()
     };
     if truth {
         return jump(engine, definition, program, frame, then_to);
@@ -95,17 +99,18 @@ pub(crate) fn branch_null(
     on: Register,
     then_to: BlockNumber,
     else_to: BlockNumber,
-) -> Result<(), Halt>
+) -> Result<(), AllocError>
+    requires able { Able (left engine.now.counted (in_front (agenda_of definition.now engine.now) (branching_null definition.now (world_of engine.now.world) (frame_view frame) on.0 then_to.0 else_to.0))) }
     requires program { program_at definition.now (frame_view frame).program ≡ Some (program_view program.now) }
     requires counted { Counts definition.now (λ o. in_frame o (frame_view frame)) engine.now }
-    ensures step { Goes result
+    ensures step { Leads result
         (left engine.old.counted (in_front (agenda_of definition.now engine.old) (branching_null definition.now (world_of engine.old.world) (frame_view frame) on.0 then_to.0 else_to.0)))
         (config_of definition.now engine.new) }
     ensures quiet { OnErr result (IsQuiet (world_of engine.old.world) (world_of engine.new.world)) }
     ensures counted { OnOk result (Counts definition.now nothing engine.new) }
 {
     let Some(is_null) = null_at(frame.registers.as_slice(), on) else {
-        return Err(Halt::Stuck(Arm::Register));
+        unreachable!()
     };
     if is_null {
         return jump(engine, definition, program, frame, then_to);

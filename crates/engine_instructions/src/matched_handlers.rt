@@ -1,20 +1,19 @@
 //! Instructions on handlers (GObject manual, Signals: `g_signal_connect_data`, `g_signal_handlers_disconnect_matched`,
 //! `g_signal_handlers_block_matched`).
 
-ghost use Rattle.std.specs.Prelude.{◌≡◌, map, OnOk, OnErr};
+ghost use Rattle.std.specs.Prelude.{◌≡◌, Ok, map, OnOk, OnErr};
 ghost use Rattle.ui_machine.specs.Instructions.{in_front};
 ghost use Rattle.ui_machine.specs.Instructions.Signals.{blocking, disconnecting, unblocking};
-ghost use Rattle.ui_machine.specs.Outcome.{Goes};
 ghost use Rattle.ui_machine.specs.Rules.Connections.{blocked, disconnected, unblocked, with_handlers_on};
 ghost use Rattle.ui_machine.specs.Steps.{left};
 ghost use Rattle.frames.specs.FrameView.{frame_view};
 ghost use Rattle.machine_laws.specs.GoneLaws.{pruned};
 ghost use Rattle.engine_world.specs.Counting.{Counts, KeepsCounts, in_frame, nothing};
 ghost use Rattle.engine_world.specs.EngineView.{config_of};
-ghost use Rattle.engine_world.specs.GivenView.{Finds};
 ghost use Rattle.engine_instructions.specs.HandlersView.{matched_in, matched_of};
+ghost use Rattle.engine_world.specs.Able.{Able, Leads, LeadsWithoutGone};
 ghost use Rattle.engine_world.specs.Quiet.{IsQuiet};
-ghost use Rattle.engine_world.specs.Standing.{GoesWithoutGone, gone_handlers};
+ghost use Rattle.engine_world.specs.Standing.{gone_handlers};
 ghost use Rattle.engine_world.specs.TaskView.{agenda_of};
 ghost use Rattle.engine_world.specs.View.{world_of};
 
@@ -24,7 +23,8 @@ use definitions::Definition;
 use engine_world::engine::Engine;
 use engine_world::program_frames::push_frame;
 use frames::Frame;
-use ui_machine::{Halt, ObjectId, ProgramId};
+use std::alloc::AllocError;
+use ui_machine::{ObjectId, ProgramId};
 
 /// The handlers of a program on an object.
 #[derive(Clone, Copy, Debug)]
@@ -40,12 +40,13 @@ fn matched_in(
     frame: &Frame,
     object: Register,
     program: &str,
-) -> Result<Matched, Halt>
-    ensures { Finds matched_of result (matched_in definition.now (world_of engine.now.world) (frame_view frame.now) object.0 program.now) }
+) -> Matched
+    requires able { Able (matched_in definition.now (world_of engine.now.world) (frame_view frame.now) object.0 program.now) }
+    ensures { matched_in definition.now (world_of engine.now.world) (frame_view frame.now) object.0 program.now ≡ Ok (matched_of result) }
 {
-    let object = object_in(engine, frame, object)?;
-    let program = program_named(definition, program)?;
-    Ok(Matched { object, program })
+    let object = object_in(engine, frame, object);
+    let program = program_named(definition, program);
+    Matched { object, program }
 }
 
 // Disconnects them. They have no more turns in the emissions that go on.
@@ -101,15 +102,16 @@ pub(crate) fn disconnect_matched(
     frame: Frame,
     object: Register,
     program: &str,
-) -> Result<(), Halt>
+) -> Result<(), AllocError>
+    requires able { Able (left engine.now.counted (in_front (agenda_of definition.now engine.now) (disconnecting definition.now (world_of engine.now.world) (frame_view frame) object.0 program.now))) }
     requires counted { Counts definition.now (λ o. in_frame o (frame_view frame)) engine.now }
-    ensures step { GoesWithoutGone result
+    ensures step { LeadsWithoutGone result
         (left engine.old.counted (in_front (agenda_of definition.now engine.old) (disconnecting definition.now (world_of engine.old.world) (frame_view frame) object.0 program.now)))
         (config_of definition.now engine.new) }
     ensures quiet { OnErr result (IsQuiet (world_of engine.old.world) (world_of engine.new.world)) }
     ensures counted { OnOk result (Counts definition.now nothing engine.new) }
 {
-    let matched = matched_in(engine, definition, &frame, object, program)?;
+    let matched = matched_in(engine, definition, &frame, object, program);
     disconnect(engine, definition, matched);
     push_frame(engine, frame)?;
     Ok(())
@@ -122,15 +124,16 @@ pub(crate) fn block_matched(
     frame: Frame,
     object: Register,
     program: &str,
-) -> Result<(), Halt>
+) -> Result<(), AllocError>
+    requires able { Able (left engine.now.counted (in_front (agenda_of definition.now engine.now) (blocking definition.now (world_of engine.now.world) (frame_view frame) object.0 program.now))) }
     requires counted { Counts definition.now (λ o. in_frame o (frame_view frame)) engine.now }
-    ensures step { Goes result
+    ensures step { Leads result
         (left engine.old.counted (in_front (agenda_of definition.now engine.old) (blocking definition.now (world_of engine.old.world) (frame_view frame) object.0 program.now)))
         (config_of definition.now engine.new) }
     ensures quiet { OnErr result (IsQuiet (world_of engine.old.world) (world_of engine.new.world)) }
     ensures counted { OnOk result (Counts definition.now nothing engine.new) }
 {
-    let matched = matched_in(engine, definition, &frame, object, program)?;
+    let matched = matched_in(engine, definition, &frame, object, program);
     block(engine, definition, matched);
     push_frame(engine, frame)?;
     Ok(())
@@ -143,15 +146,16 @@ pub(crate) fn unblock_matched(
     frame: Frame,
     object: Register,
     program: &str,
-) -> Result<(), Halt>
+) -> Result<(), AllocError>
+    requires able { Able (left engine.now.counted (in_front (agenda_of definition.now engine.now) (unblocking definition.now (world_of engine.now.world) (frame_view frame) object.0 program.now))) }
     requires counted { Counts definition.now (λ o. in_frame o (frame_view frame)) engine.now }
-    ensures step { Goes result
+    ensures step { Leads result
         (left engine.old.counted (in_front (agenda_of definition.now engine.old) (unblocking definition.now (world_of engine.old.world) (frame_view frame) object.0 program.now)))
         (config_of definition.now engine.new) }
     ensures quiet { OnErr result (IsQuiet (world_of engine.old.world) (world_of engine.new.world)) }
     ensures counted { OnOk result (Counts definition.now nothing engine.new) }
 {
-    let matched = matched_in(engine, definition, &frame, object, program)?;
+    let matched = matched_in(engine, definition, &frame, object, program);
     unblock(engine, definition, matched);
     push_frame(engine, frame)?;
     Ok(())

@@ -3,7 +3,7 @@
 ghost use Rattle.std.specs.Prelude.{◌≡◌, ◌<◌, ◌-◌, ◌&&◌, List, Some, min, length, slice_get, IfSome, OnOk, OnErr, option_map};
 ghost use Rattle.ui_machine.specs.Instructions.{in_front};
 ghost use Rattle.ui_machine.specs.Instructions.Objects.{creating};
-ghost use Rattle.ui_machine.specs.Outcome.{Goes, known};
+ghost use Rattle.ui_machine.specs.Outcome.{known};
 ghost use Rattle.ui_machine.specs.declared.arm.Arm.TheVariants as arms;
 ghost use Rattle.ui_machine.specs.Rules.Build.{is_making, of_items, to_make};
 ghost use Rattle.ui_machine.specs.State.Handlers.{Handler};
@@ -15,6 +15,7 @@ ghost use Rattle.definitions.specs.EntryView.{entry_view};
 ghost use Rattle.engine_instructions.specs.CreateView.{created, has_room, prototype_named, prototype_of};
 ghost use Rattle.engine_world.specs.EngineView.{config_of};
 ghost use Rattle.engine_world.specs.PeerPlaces.{is_there};
+ghost use Rattle.engine_world.specs.Able.{Able, Leads};
 ghost use Rattle.engine_world.specs.Quiet.{IsQuiet};
 ghost use Rattle.engine_world.specs.TaskView.{agenda_of, task_of};
 ghost use Rattle.engine_world.specs.View.{world_of};
@@ -29,7 +30,8 @@ use engine_world::objects::{begin_construction, make};
 use engine_world::places::entry_at;
 use engine_world::task::Task;
 use frames::Frame;
-use ui_machine::{Arm, Halt, Place};
+use std::alloc::AllocError;
+use ui_machine::Place;
 
 // A prototype, lent, and its place.
 #[derive(Clone, Copy)]
@@ -115,10 +117,11 @@ fn create_at(
     to: Register,
     place: Place,
     peer: Option<usize>,
-) -> Result<(), Halt>
+) -> Result<(), AllocError>
+    requires able { Able (left engine.now.counted (in_front (agenda_of definition.now engine.now) (created definition.now (world_of engine.now.world) (frame_view frame) to.0 place.0 peer))) }
     requires peer { IfSome peer (λ number. number < length engine.now.world.seats) }
     requires counted { Counts definition.now (λ o. in_frame o (frame_view frame)) engine.now }
-    ensures step { Goes result
+    ensures step { Leads result
         (left engine.old.counted (in_front (agenda_of definition.now engine.old) (created definition.now (world_of engine.old.world) (frame_view frame) to.0 place.0 peer)))
         (config_of definition.now engine.new) }
     ensures quiet { OnErr result (IsQuiet (world_of engine.old.world) (world_of engine.new.world)) }
@@ -144,9 +147,11 @@ pub(crate) fn create(
     frame: Frame,
     to: Register,
     id: &str,
-) -> Result<(), Halt>
+) -> Result<(), AllocError>
+    requires able { Able (left engine.now.counted (in_front (agenda_of definition.now engine.now)
+        (creating definition.now (world_of engine.now.world) (agenda_of definition.now engine.now) (frame_view frame) to.0 id.now))) }
     requires counted { Counts definition.now (λ o. in_frame o (frame_view frame)) engine.now }
-    ensures step { Goes result
+    ensures step { Leads result
         (left engine.old.counted (in_front (agenda_of definition.now engine.old)
         (creating definition.now (world_of engine.old.world) (agenda_of definition.now engine.old) (frame_view frame) to.0 id.now)))
         (config_of definition.now engine.new) }
@@ -156,7 +161,7 @@ pub(crate) fn create(
     // For the proof: what is known of a definition's places.
     let _types = definition.types();
     let Some(prototype) = prototype_named(definition, id) else {
-        return Err(Halt::Stuck(Arm::Code));
+        unreachable!()
     };
     let peer = new_peer(engine, definition, prototype.place, &prototype.entry);
     if !may_create(engine, definition, peer) {

@@ -4,7 +4,6 @@ ghost use Rattle.std.specs.Prelude.{◌≡◌, map, IsSome, OnOk, OnErr};
 ghost use Rattle.ui_machine.specs.Instructions.{in_front};
 ghost use Rattle.ui_machine.specs.Instructions.Objects.{adopting, disposing, freezing, look_up_object, orphaning, sinking, thaw_notify};
 ghost use Rattle.ui_machine.specs.Instructions.Registers.{operand_in};
-ghost use Rattle.ui_machine.specs.Outcome.{Goes};
 ghost use Rattle.ui_machine.specs.Rules.Children.{orphaned};
 ghost use Rattle.ui_machine.specs.Rules.Disposal.{disposed};
 ghost use Rattle.ui_machine.specs.Rules.Sets.{is_disposed};
@@ -14,13 +13,14 @@ ghost use Rattle.frames.specs.FrameView.{frame_view};
 ghost use Rattle.instance_tables.specs.Family.{parent_in};
 ghost use Rattle.instance_tables.specs.Weak.{Knows};
 ghost use Rattle.machine_laws.specs.GoneLaws.{pruned};
+ghost use Rattle.engine_world.specs.Able.{Able, Leads, LeadsWithoutGone};
 ghost use Rattle.engine_world.specs.Quiet.{IsQuiet};
 ghost use Rattle.engine_world.specs.View.{world_of};
 ghost use Rattle.engine_world.specs.TaskView.{agenda_of};
 ghost use Rattle.engine_world.specs.ClosingView.{closed_with, or_number};
 ghost use Rattle.engine_world.specs.Counting.{Counts, KeepsCounts, in_frame, nothing};
 ghost use Rattle.engine_world.specs.EngineView.{config_of};
-ghost use Rattle.engine_world.specs.Standing.{GoesWithoutGone, gone_handlers};
+ghost use Rattle.engine_world.specs.Standing.{gone_handlers};
 ghost use Rattle.engine_instructions.specs.ClosedPeers.{closed_in};
 
 use crate::operands::object_in;
@@ -32,14 +32,13 @@ use engine_world::closings::{closing_with, dispose_line, say_and_close};
 use engine_world::engine::Engine;
 use engine_world::given::object_or_null;
 use engine_world::lines::Line;
-use engine_world::places::entry_at;
 use engine_world::program_frames::push_frame;
 use engine_world::references::push_task;
 use engine_world::task::{Slots, Task};
 use frames::Frame;
 use g_values::Value;
 use std::alloc::AllocError;
-use ui_machine::{Arm, Halt, ObjectId};
+use ui_machine::ObjectId;
 
 /// A register is written with the object that the builder has of an id, or with null where it has none.
 pub(crate) fn look_up_object(
@@ -48,23 +47,18 @@ pub(crate) fn look_up_object(
     frame: Frame,
     to: Register,
     id: &str,
-) -> Result<(), Halt>
+) -> Result<(), AllocError>
+    requires able { Able (left engine.now.counted (in_front (agenda_of definition.now engine.now) (look_up_object definition.now (world_of engine.now.world) (frame_view frame) to.0 id.now))) }
     requires counted { Counts definition.now (λ o. in_frame o (frame_view frame)) engine.now }
-    ensures step { Goes result
+    ensures step { Leads result
         (left engine.old.counted (in_front (agenda_of definition.now engine.old) (look_up_object definition.now (world_of engine.old.world) (frame_view frame) to.0 id.now)))
         (config_of definition.now engine.new) }
     ensures quiet { OnErr result (IsQuiet (world_of engine.old.world) (world_of engine.new.world)) }
     ensures counted { OnOk result (Counts definition.now nothing engine.new) }
 {
     let Some(place) = definition.place(id) else {
-        return Err(Halt::Stuck(Arm::Code));
+        unreachable!()
     };
-    let Some(entry) = entry_at(definition, place) else {
-        return Err(Halt::Stuck(Arm::Code));
-    };
-    if entry.is_prototype {
-        return Err(Halt::Stuck(Arm::Code));
-    }
     let object = object_or_null(engine.world.built(place));
     write_register(engine, definition, frame, to, Some(object))
 }
@@ -75,9 +69,10 @@ pub(crate) fn sink(
     definition: &Definition,
     frame: Frame,
     object: Register,
-) -> Result<(), Halt>
+) -> Result<(), AllocError>
+    requires able { Able (left engine.now.counted (in_front (agenda_of definition.now engine.now) (sinking (world_of engine.now.world) (frame_view frame) object.0))) }
     requires counted { Counts definition.now (λ o. in_frame o (frame_view frame)) engine.now }
-    ensures step { Goes result
+    ensures step { Leads result
         (left engine.old.counted (in_front (agenda_of definition.now engine.old) (sinking (world_of engine.old.world) (frame_view frame) object.0)))
         (config_of definition.now engine.new) }
     ensures quiet { OnErr result (IsQuiet (world_of engine.old.world) (world_of engine.new.world)) }
@@ -85,7 +80,7 @@ pub(crate) fn sink(
 {
     // For the proof: the clauses speak of the definition.
     let _ = definition;
-    let object = object_in(engine, &frame, object)?;
+    let object = object_in(engine, &frame, object);
     engine.world.table.sink(object);
     push_frame(engine, frame)?;
     Ok(())
@@ -97,9 +92,10 @@ pub(crate) fn freeze_notify(
     definition: &Definition,
     frame: Frame,
     object: Register,
-) -> Result<(), Halt>
+) -> Result<(), AllocError>
+    requires able { Able (left engine.now.counted (in_front (agenda_of definition.now engine.now) (freezing (world_of engine.now.world) (frame_view frame) object.0))) }
     requires counted { Counts definition.now (λ o. in_frame o (frame_view frame)) engine.now }
-    ensures step { Goes result
+    ensures step { Leads result
         (left engine.old.counted (in_front (agenda_of definition.now engine.old) (freezing (world_of engine.old.world) (frame_view frame) object.0)))
         (config_of definition.now engine.new) }
     ensures quiet { OnErr result (IsQuiet (world_of engine.old.world) (world_of engine.new.world)) }
@@ -107,8 +103,10 @@ pub(crate) fn freeze_notify(
 {
     // For the proof: the clauses speak of the definition.
     let _ = definition;
-    let object = object_in(engine, &frame, object)?;
-    engine.world.table.freeze(object)?;
+    let object = object_in(engine, &frame, object);
+    let Ok(()) = engine.world.table.freeze(object) else {
+        unreachable!()
+    };
     push_frame(engine, frame)?;
     Ok(())
 }
@@ -119,9 +117,10 @@ pub(crate) fn thaw_notify(
     definition: &Definition,
     frame: Frame,
     object: Register,
-) -> Result<(), Halt>
+) -> Result<(), AllocError>
+    requires able { Able (left engine.now.counted (in_front (agenda_of definition.now engine.now) (thaw_notify (world_of engine.now.world) (frame_view frame) object.0))) }
     requires counted { Counts definition.now (λ o. in_frame o (frame_view frame)) engine.now }
-    ensures step { Goes result
+    ensures step { Leads result
         (left engine.old.counted (in_front (agenda_of definition.now engine.old) (thaw_notify (world_of engine.old.world) (frame_view frame) object.0)))
         (config_of definition.now engine.new) }
     ensures quiet { OnErr result (IsQuiet (world_of engine.old.world) (world_of engine.new.world)) }
@@ -129,8 +128,10 @@ pub(crate) fn thaw_notify(
 {
     // For the proof: the clauses speak of the definition.
     let _ = definition;
-    let object = object_in(engine, &frame, object)?;
-    let slots = engine.world.table.thaw(object)?;
+    let object = object_in(engine, &frame, object);
+    let Ok(slots) = engine.world.table.thaw(object) else {
+        unreachable!()
+    };
     push_frame(engine, frame)?;
     push_task(
         engine,
@@ -165,15 +166,16 @@ pub(crate) fn orphan(
     definition: &Definition,
     frame: Frame,
     object: Register,
-) -> Result<(), Halt>
+) -> Result<(), AllocError>
+    requires able { Able (left engine.now.counted (in_front (agenda_of definition.now engine.now) (orphaning definition.now (world_of engine.now.world) (frame_view frame) object.0))) }
     requires counted { Counts definition.now (λ o. in_frame o (frame_view frame)) engine.now }
-    ensures step { Goes result
+    ensures step { Leads result
         (left engine.old.counted (in_front (agenda_of definition.now engine.old) (orphaning definition.now (world_of engine.old.world) (frame_view frame) object.0)))
         (config_of definition.now engine.new) }
     ensures quiet { OnErr result (IsQuiet (world_of engine.old.world) (world_of engine.new.world)) }
     ensures counted { OnOk result (Counts definition.now nothing engine.new) }
 {
-    let object = object_in(engine, &frame, object)?;
+    let object = object_in(engine, &frame, object);
     push_frame(engine, frame)?;
     leave(engine, definition, object)?;
     Ok(())
@@ -187,16 +189,17 @@ pub(crate) fn adopt_from_program(
     to: Register,
     parent: Register,
     child: Register,
-) -> Result<(), Halt>
+) -> Result<(), AllocError>
+    requires able { Able (left engine.now.counted (in_front (agenda_of definition.now engine.now) (adopting definition.now (world_of engine.now.world) (frame_view frame) to.0 parent.0 child.0))) }
     requires counted { Counts definition.now (λ o. in_frame o (frame_view frame)) engine.now }
-    ensures step { Goes result
+    ensures step { Leads result
         (left engine.old.counted (in_front (agenda_of definition.now engine.old) (adopting definition.now (world_of engine.old.world) (frame_view frame) to.0 parent.0 child.0)))
         (config_of definition.now engine.new) }
     ensures quiet { OnErr result (IsQuiet (world_of engine.old.world) (world_of engine.new.world)) }
     ensures counted { OnOk result (Counts definition.now nothing engine.new) }
 {
-    let parent = object_in(engine, &frame, parent)?;
-    let child = object_in(engine, &frame, child)?;
+    let parent = object_in(engine, &frame, parent);
+    let child = object_in(engine, &frame, child);
     let is_free = engine.world.table.refusal(parent, child).is_none();
     write_register(engine, definition, frame, to, Some(Value::Bool(is_free)))?;
     join_objects(engine, definition, parent, child)
@@ -204,10 +207,11 @@ pub(crate) fn adopt_from_program(
 
 // An object that was not disposed is: it lets go what it holds, and all forget it. Its peer is closed, if it has one that is open. Its
 // handlers go, and have no more turns in the emissions that go on, and its bindings end.
-fn dispose(engine: &mut Engine, definition: &Definition, object: ObjectId) -> Result<(), Halt>
+fn dispose(engine: &mut Engine, definition: &Definition, object: ObjectId) -> Result<(), AllocError>
+    requires able { Able (disposed definition.now (world_of engine.now.world) object.0) }
     requires live { IsSome (living engine.now.world.table.objects object.0) }
     requires knows { Knows definition.now engine.now.world.weak }
-    ensures step { Goes result (disposed definition.now (world_of engine.old.world) object.0) (world_of engine.new.world) }
+    ensures step { Leads result (disposed definition.now (world_of engine.old.world) object.0) (world_of engine.new.world) }
     ensures agenda { OnOk result (agenda_of definition.now engine.new ≡ map (pruned (gone_handlers (world_of engine.new.world))) (agenda_of definition.now engine.old)) }
     ensures quiet { OnErr result (IsQuiet (world_of engine.old.world) (world_of engine.new.world)) }
     ensures same { OnOk result (engine.new.counted ≡ engine.old.counted) }
@@ -232,9 +236,10 @@ pub(crate) fn run_dispose(
     definition: &Definition,
     frame: Frame,
     object: Register,
-) -> Result<(), Halt>
+) -> Result<(), AllocError>
+    requires able { Able (left engine.now.counted (in_front (agenda_of definition.now engine.now) (disposing definition.now (world_of engine.now.world) (frame_view frame) object.0))) }
     requires counted { Counts definition.now (λ o. in_frame o (frame_view frame)) engine.now }
-    ensures step { GoesWithoutGone result
+    ensures step { LeadsWithoutGone result
         (left engine.old.counted (in_front (agenda_of definition.now engine.old) (disposing definition.now (world_of engine.old.world) (frame_view frame) object.0)))
         (config_of definition.now engine.new) }
     ensures quiet { OnErr result (IsQuiet (world_of engine.old.world) (world_of engine.new.world)) }
@@ -242,7 +247,7 @@ pub(crate) fn run_dispose(
         ≡ or_number (closed_in (world_of engine.old.world) (operand_in (world_of engine.old.world) (frame_view frame) object.0)) engine.old.closing) }
     ensures counted { OnOk result (Counts definition.now nothing engine.new) }
 {
-    let object = object_in(engine, &frame, object)?;
+    let object = object_in(engine, &frame, object);
     push_frame(engine, frame)?;
     if engine.world.table.is_disposed(object) {
         return Ok(());

@@ -1,19 +1,17 @@
 //! Instructions on properties: `get`, `set` and `notify`.
 
-ghost use Rattle.std.specs.Prelude.{OnOk, OnErr};
+ghost use Rattle.std.specs.Prelude.{◌≡◌, IfOk, Ok, OnOk, OnErr};
 ghost use Rattle.ui_machine.specs.Instructions.{in_front};
 ghost use Rattle.ui_machine.specs.Instructions.Properties.{set_property, get_property, slot_at, notify_from_program};
 ghost use Rattle.ui_machine.specs.Instructions.Registers.{value_in};
-ghost use Rattle.ui_machine.specs.Outcome.{Goes};
 ghost use Rattle.ui_machine.specs.Rules.Sets.{raising};
 ghost use Rattle.ui_machine.specs.Steps.{left, uncounted};
 ghost use Rattle.g_values.specs.View.{value_view};
 ghost use Rattle.frames.specs.FrameView.{frame_view};
-ghost use Rattle.instance_tables.specs.Store.{Shows};
+ghost use Rattle.engine_world.specs.Able.{Able, Leads};
 ghost use Rattle.engine_world.specs.Quiet.{IsQuiet};
 ghost use Rattle.engine_world.specs.View.{world_of};
-ghost use Rattle.engine_world.specs.GivenView.{Finds};
-ghost use Rattle.engine_instructions.specs.PropertyView.{settable_slot, readable_value};
+ghost use Rattle.engine_instructions.specs.PropertyView.{readable_value};
 ghost use Rattle.engine_world.specs.TaskView.{agenda_of};
 ghost use Rattle.engine_world.specs.Counting.{Counts, KeepsCounts, in_frame, nothing};
 ghost use Rattle.engine_world.specs.EngineView.{config_of};
@@ -27,18 +25,21 @@ use engine_world::program_frames::push_frame;
 use engine_world::properties::spec_of;
 use engine_world::references::push_task;
 use engine_world::task::Task;
+use engine_world::unstuck::rule_out_stuck;
 use frames::{Frame, value_at};
 use g_values::Value;
-use ui_machine::{Arm, Halt, ObjectId, Slot};
+use std::alloc::AllocError;
+use ui_machine::{ObjectId, Slot};
 
 /// The value of a register that is set.
-pub(crate) fn value_in(frame: &Frame, from: Register) -> Result<Value, Halt>
-    ensures { Finds value_view result (value_in (frame_view frame.now) from.0) }
+pub(crate) fn value_in(frame: &Frame, from: Register) -> Result<Value, AllocError>
+    requires able { Able (value_in (frame_view frame.now) from.0) }
+    ensures { IfOk result (λ value. value_in (frame_view frame.now) from.0 ≡ Ok (value_view value)) }
 {
     let Some(value) = value_at(frame.registers.as_slice(), from) else {
-        return Err(Halt::Stuck(Arm::Register));
+        unreachable!()
     };
-    Ok(value.copied()?)
+    value.copied()
 }
 
 // The slot of an object's property by its name.
@@ -47,14 +48,17 @@ fn slot_at(
     definition: &Definition,
     object: ObjectId,
     property: &str,
-) -> Result<Slot, Arm>
-    ensures { Shows (λ slot. slot) result (slot_at definition.now (world_of engine.now.world) object.0 property.now) }
+) -> Slot
+    requires able { Able (slot_at definition.now (world_of engine.now.world) object.0 property.now) }
+    ensures { slot_at definition.now (world_of engine.now.world) object.0 property.now ≡ Ok result }
 {
-    let class = engine.world.table.class_of(object)?;
-    let Some(slot) = definition.slot(class, property) else {
-        return Err(Arm::Code);
+    let Ok(class) = engine.world.table.class_of(object) else {
+        unreachable!()
     };
-    Ok(slot)
+    let Some(slot) = definition.slot(class, property) else {
+        unreachable!()
+    };
+    slot
 }
 
 // The value of an object's property, which may be read.
@@ -63,36 +67,15 @@ fn readable_value(
     definition: &Definition,
     object: ObjectId,
     property: &str,
-) -> Result<Value, Halt>
-    ensures { Finds value_view result (readable_value definition.now (world_of engine.now.world) object.0 property.now) }
+) -> Result<Value, AllocError>
+    requires able { Able (readable_value definition.now (world_of engine.now.world) object.0 property.now) }
+    ensures { IfOk result (λ value. readable_value definition.now (world_of engine.now.world) object.0 property.now ≡ Ok (value_view value)) }
 {
-    let slot = slot_at(engine, definition, object, property)?;
-    let spec = spec_of(engine, definition, object, slot)?;
-    let value = engine.world.table.read(object, slot)?;
-    if !spec.is_readable() {
-        return Err(Halt::Stuck(Arm::Flags));
-    }
-    Ok(value.copied()?)
-}
-
-// The slot of an object's property, which may be set.
-fn settable_slot(
-    engine: &Engine,
-    definition: &Definition,
-    object: ObjectId,
-    property: &str,
-) -> Result<Slot, Arm>
-    ensures { Shows (λ slot. slot) result (settable_slot definition.now (world_of engine.now.world) object.0 property.now) }
-{
-    let slot = slot_at(engine, definition, object, property)?;
-    let spec = spec_of(engine, definition, object, slot)?;
-    if !spec.is_writable() {
-        return Err(Arm::Flags);
-    }
-    if spec.is_construct_only() {
-        return Err(Arm::ConstructOnly);
-    }
-    Ok(slot)
+    let slot = slot_at(engine, definition, object, property);
+    let Ok(value) = engine.world.table.read(object, slot) else {
+        unreachable!()
+    };
+    value.copied()
 }
 
 /// A register is written with the value of an object's property.
@@ -103,15 +86,16 @@ pub(crate) fn get_property(
     to: Register,
     object: Register,
     property: &str,
-) -> Result<(), Halt>
+) -> Result<(), AllocError>
+    requires able { Able (left engine.now.counted (in_front (agenda_of definition.now engine.now) (get_property definition.now (world_of engine.now.world) (frame_view frame) to.0 object.0 property.now))) }
     requires counted { Counts definition.now (λ o. in_frame o (frame_view frame)) engine.now }
-    ensures step { Goes result
+    ensures step { Leads result
         (left engine.old.counted (in_front (agenda_of definition.now engine.old) (get_property definition.now (world_of engine.old.world) (frame_view frame) to.0 object.0 property.now)))
         (config_of definition.now engine.new) }
     ensures quiet { OnErr result (IsQuiet (world_of engine.old.world) (world_of engine.new.world)) }
     ensures counted { OnOk result (Counts definition.now nothing engine.new) }
 {
-    let object = object_in(engine, &frame, object)?;
+    let object = object_in(engine, &frame, object);
     let value = readable_value(engine, definition, object, property)?;
     write_register(engine, definition, frame, to, Some(value))
 }
@@ -124,16 +108,17 @@ pub(crate) fn set_property(
     object: Register,
     property: &str,
     from: Register,
-) -> Result<(), Halt>
+) -> Result<(), AllocError>
+    requires able { Able (left engine.now.counted (in_front (agenda_of definition.now engine.now) (set_property definition.now (world_of engine.now.world) (frame_view frame) object.0 property.now from.0))) }
     requires counted { Counts definition.now (λ o. in_frame o (frame_view frame)) engine.now }
-    ensures step { Goes result
+    ensures step { Leads result
         (left engine.old.counted (in_front (agenda_of definition.now engine.old) (set_property definition.now (world_of engine.old.world) (frame_view frame) object.0 property.now from.0)))
         (config_of definition.now engine.new) }
     ensures quiet { OnErr result (IsQuiet (world_of engine.old.world) (world_of engine.new.world)) }
     ensures counted { OnOk result (Counts definition.now nothing engine.new) }
 {
-    let object = object_in(engine, &frame, object)?;
-    let slot = settable_slot(engine, definition, object, property)?;
+    let object = object_in(engine, &frame, object);
+    let slot = slot_at(engine, definition, object, property);
     let value = value_in(&frame, from)?;
     push_frame(engine, frame)?;
     push_task(
@@ -154,8 +139,9 @@ fn raise(
     definition: &Definition,
     object: ObjectId,
     slot: Slot,
-) -> Result<(), Halt>
-    ensures step { Goes result
+) -> Result<(), AllocError>
+    requires able { Able (uncounted (agenda_of definition.now engine.now) engine.now.counted (raising (world_of engine.now.world) object.0 slot)) }
+    ensures step { Leads result
         (uncounted (agenda_of definition.now engine.old) engine.old.counted (raising (world_of engine.old.world) object.0 slot))
         (config_of definition.now engine.new) }
     ensures quiet { OnErr result (IsQuiet (world_of engine.old.world) (world_of engine.new.world)) }
@@ -163,9 +149,8 @@ fn raise(
 {
     // For the proof: the clauses speak of the definition.
     let _ = definition;
-    if engine.world.table.add(object, slot)? {
+    if rule_out_stuck(engine.world.table.add(object, slot))? {
         push_task(engine, Task::Notifying { object, slot })?;
-        return Ok(());
     }
     Ok(())
 }
@@ -177,17 +162,18 @@ pub(crate) fn notify_from_program(
     frame: Frame,
     object: Register,
     property: &str,
-) -> Result<(), Halt>
+) -> Result<(), AllocError>
+    requires able { Able (left engine.now.counted (in_front (agenda_of definition.now engine.now) (notify_from_program definition.now (world_of engine.now.world) (frame_view frame) object.0 property.now))) }
     requires counted { Counts definition.now (λ o. in_frame o (frame_view frame)) engine.now }
-    ensures step { Goes result
+    ensures step { Leads result
         (left engine.old.counted (in_front (agenda_of definition.now engine.old) (notify_from_program definition.now (world_of engine.old.world) (frame_view frame) object.0 property.now)))
         (config_of definition.now engine.new) }
     ensures quiet { OnErr result (IsQuiet (world_of engine.old.world) (world_of engine.new.world)) }
     ensures counted { OnOk result (Counts definition.now nothing engine.new) }
 {
-    let object = object_in(engine, &frame, object)?;
-    let slot = slot_at(engine, definition, object, property)?;
-    let spec = spec_of(engine, definition, object, slot)?;
+    let object = object_in(engine, &frame, object);
+    let slot = slot_at(engine, definition, object, property);
+    let spec = spec_of(engine, definition, object, slot);
     push_frame(engine, frame)?;
     if !spec.is_readable() {
         return Ok(());

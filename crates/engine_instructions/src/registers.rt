@@ -3,13 +3,13 @@
 ghost use Rattle.std.specs.Prelude.{Some, option_map, OnOk, OnErr};
 ghost use Rattle.ui_machine.specs.Instructions.{in_front, instruction_step};
 ghost use Rattle.ui_machine.specs.Instructions.Registers.{written_to};
-ghost use Rattle.ui_machine.specs.Outcome.{Goes};
 ghost use Rattle.ui_machine.specs.Output.Lines as lines;
 ghost use Rattle.ui_machine.specs.State.Config.{said};
 ghost use Rattle.ui_machine.specs.Steps.{left};
 ghost use Rattle.g_values.specs.View.{value_view};
 ghost use Rattle.bytecode.specs.Computing.{HasKnownKind, instruction_of};
 ghost use Rattle.frames.specs.FrameView.{frame_view};
+ghost use Rattle.engine_world.specs.Able.{Able, Leads};
 ghost use Rattle.engine_world.specs.Quiet.{IsQuiet};
 ghost use Rattle.engine_world.specs.View.{world_of};
 ghost use Rattle.engine_world.specs.TaskView.{agenda_of};
@@ -21,9 +21,10 @@ use definitions::Definition;
 use engine_world::children::say_limit;
 use engine_world::engine::Engine;
 use engine_world::program_frames::{push_frame, put};
+use engine_world::unstuck::rule_out_stuck;
 use frames::{Frame, compute};
 use g_values::Value;
-use ui_machine::Halt;
+use std::alloc::AllocError;
 
 /// A register is written, or unset, and the program goes on.
 #[inline(always)]
@@ -33,9 +34,10 @@ pub(crate) fn write_register(
     mut frame: Frame,
     to: Register,
     value: Option<Value>,
-) -> Result<(), Halt>
+) -> Result<(), AllocError>
+    requires able { Able (left engine.now.counted (in_front (agenda_of definition.now engine.now) (written_to (world_of engine.now.world) to.0 (option_map value_view value) (frame_view frame)))) }
     requires counted { Counts definition.now (λ o. in_frame o (frame_view frame)) engine.now }
-    ensures step { Goes result
+    ensures step { Leads result
         (left engine.old.counted (in_front (agenda_of definition.now engine.old) (written_to (world_of engine.old.world) to.0 (option_map value_view value) (frame_view frame))))
         (config_of definition.now engine.new) }
     ensures quiet { OnErr result (IsQuiet (world_of engine.old.world) (world_of engine.new.world)) }
@@ -56,9 +58,11 @@ pub(crate) fn write_null_and_say_limit(
     to: Register,
     value: Value,
     word: &str,
-) -> Result<(), Halt>
+) -> Result<(), AllocError>
+    requires able { Able (left engine.now.counted (in_front (agenda_of definition.now engine.now)
+        (written_to (said definition.now (world_of engine.now.world) (lines.limit word.now)) to.0 (Some (value_view value)) (frame_view frame)))) }
     requires counted { Counts definition.now (λ o. in_frame o (frame_view frame)) engine.now }
-    ensures step { Goes result
+    ensures step { Leads result
         (left engine.old.counted (in_front (agenda_of definition.now engine.old)
         (written_to (said definition.now (world_of engine.old.world) (lines.limit word.now)) to.0 (Some (value_view value)) (frame_view frame))))
         (config_of definition.now engine.new) }
@@ -78,17 +82,19 @@ pub(crate) fn compute_register(
     frame: Frame,
     to: Register,
     computation: &Computation,
-) -> Result<(), Halt>
+) -> Result<(), AllocError>
+    requires able { Able (left engine.now.counted (instruction_step definition.now (world_of engine.now.world) (agenda_of definition.now engine.now) (frame_view frame) (instruction_of computation.now to.0))) }
     requires known { HasKnownKind definition.now.types computation.now }
     requires counted { Counts definition.now (λ o. in_frame o (frame_view frame)) engine.now }
-    ensures step { Goes result
+    ensures step { Leads result
         (left engine.old.counted (instruction_step definition.now (world_of engine.old.world) (agenda_of definition.now engine.old) (frame_view frame) (instruction_of computation.now to.0)))
         (config_of definition.now engine.new) }
     ensures quiet { OnErr result (IsQuiet (world_of engine.old.world) (world_of engine.new.world)) }
     ensures counted { OnOk result (Counts definition.now nothing engine.new) }
 {
     let types = definition.types();
-    let computed = compute(engine.alloc, types, frame.registers.as_slice(), computation)?;
+    let registers = frame.registers.as_slice();
+    let computed = rule_out_stuck(compute(engine.alloc, types, registers, computation))?;
     match computed {
         Computed::Value(value) => write_register(engine, definition, frame, to, Some(value)),
         Computed::Unset => write_register(engine, definition, frame, to, None),

@@ -5,9 +5,9 @@ ghost use Rattle.ui_machine.specs.Instructions.{in_front};
 ghost use Rattle.ui_machine.specs.Instructions.Sources.{attaching, removing, with_source};
 ghost use Rattle.ui_machine.specs.State.Config.{World};
 ghost use Rattle.instance_tables.specs.Store.{id_of};
+ghost use Rattle.engine_world.specs.Able.{Able, Leads};
 ghost use Rattle.engine_world.specs.Quiet.{IsQuiet};
 ghost use Rattle.engine_world.specs.SourceView.{with_new_source};
-ghost use Rattle.ui_machine.specs.Outcome.{Goes};
 ghost use Rattle.ui_machine.specs.Steps.{left};
 ghost use Rattle.frames.specs.FrameView.{frame_view};
 ghost use Rattle.engine_world.specs.View.{world_of};
@@ -25,7 +25,8 @@ use engine_world::program_frames::push_frame;
 use engine_world::sources::{NewSource, attach_source, remove_sources};
 use frames::Frame;
 use g_values::Value;
-use ui_machine::{Halt, ObjectId, ProgramId};
+use std::alloc::AllocError;
+use ui_machine::{ObjectId, ProgramId};
 
 /// What `idle` and `timeout` say beside the register that they write. An idle has no interval.
 #[derive(Clone, Copy, Debug)]
@@ -60,16 +61,17 @@ pub(crate) fn attach_from_program(
     frame: Frame,
     to: Register,
     attach: Attach<'_>,
-) -> Result<(), Halt>
+) -> Result<(), AllocError>
+    requires able { Able (left engine.now.counted (in_front (agenda_of definition.now engine.now) (attaching definition.now (world_of engine.now.world) (frame_view frame) to.0 (attach_of attach)))) }
     requires counted { Counts definition.now (λ o. in_frame o (frame_view frame)) engine.now }
-    ensures step { Goes result
+    ensures step { Leads result
         (left engine.old.counted (in_front (agenda_of definition.now engine.old) (attaching definition.now (world_of engine.old.world) (frame_view frame) to.0 (attach_of attach.entry))))
         (config_of definition.now engine.new) }
     ensures quiet { OnErr result (IsQuiet (world_of engine.old.world) (world_of engine.new.world)) }
     ensures counted { OnOk result (Counts definition.now nothing engine.new) }
 {
-    let program = program_named(definition, attach.program)?;
-    let arg = data_in(engine, &frame, attach.with)?;
+    let program = program_named(definition, attach.program);
+    let arg = data_in(engine, &frame, attach.with);
     let source = attach.source(program, arg);
     if attach_source(engine, source)? {
         return write_register(engine, definition, frame, to, Some(Value::Bool(true)));
@@ -90,15 +92,16 @@ pub(crate) fn remove_from_program(
     definition: &Definition,
     frame: Frame,
     program: &str,
-) -> Result<(), Halt>
+) -> Result<(), AllocError>
+    requires able { Able (left engine.now.counted (in_front (agenda_of definition.now engine.now) (removing definition.now (world_of engine.now.world) (frame_view frame) program.now))) }
     requires counted { Counts definition.now (λ o. in_frame o (frame_view frame)) engine.now }
-    ensures step { Goes result
+    ensures step { Leads result
         (left engine.old.counted (in_front (agenda_of definition.now engine.old) (removing definition.now (world_of engine.old.world) (frame_view frame) program.now)))
         (config_of definition.now engine.new) }
     ensures quiet { OnErr result (IsQuiet (world_of engine.old.world) (world_of engine.new.world)) }
     ensures counted { OnOk result (Counts definition.now nothing engine.new) }
 {
-    let number = program_named(definition, program)?;
+    let number = program_named(definition, program);
     remove_sources(engine, number);
     push_frame(engine, frame)?;
     Ok(())

@@ -25,7 +25,6 @@ use engine_world::references::let_go_any;
 use engine_world::task::{DueCall, Task};
 use native_peers::{Peer, PeerPool};
 use std::alloc::AllocError;
-use ui_machine::Halt;
 
 // Asks the open peer of a due call, and gives the program what it answers. Where no memory is found the peer has replied, and no line reports
 // it.
@@ -51,11 +50,8 @@ fn ask_for(
     ensures same { SameRelations (relations (λ p. (⟦<dyn Peer as Peer>⟧ p.peer.vtable).moves p.peer.value) (entries pool.old)) (relations (λ p. (⟦<dyn Peer as Peer>⟧ p.peer.vtable).moves p.peer.value) (entries pool.new)) }
 {
     let value = ask(pool, &call);
-    match answer(engine, definition, call, value) {
-        Ok(()) => Ok(()),
-        Err(Halt::OutOfMemory) => Err(AllocError),
-        Err(Halt::Stuck(_)) => unreachable!(),
-    }
+    answer(engine, definition, call, value)?;
+    Ok(())
 }
 
 // Whether the next step asks a peer.

@@ -10,7 +10,7 @@ ghost use Rattle.engine_world.specs.View.{world_of};
 ghost use Rattle.engine_world.specs.TaskView.{agenda_of};
 ghost use Rattle.engine_world.specs.Counting.{Counts, in_frame, nothing};
 ghost use Rattle.engine_world.specs.EngineView.{config_of};
-ghost use Rattle.engine_world.specs.Standing.{GoesWithoutGone};
+ghost use Rattle.engine_world.specs.Able.{Able, LeadsWithoutGone};
 ghost use Rattle.engine_pools.specs.TaskClosings.{ProgramLeaves};
 
 use definitions::Definition;
@@ -18,28 +18,33 @@ use engine_instructions::execution::execute;
 use engine_world::counted_steps::count;
 use engine_world::engine::Engine;
 use frames::Frame;
-use ui_machine::{Arm, Halt};
+use std::alloc::AllocError;
 
-/// A program takes its next instruction. It is a counted step.
+/// A program takes its next instruction. It is a counted step. The machine is not stuck there.
+///
+/// # Errors
+///
+/// `AllocError` if no memory is found.
 pub(crate) fn run_program(
     engine: &mut Engine,
     definition: &Definition,
     mut frame: Frame,
-) -> Result<(), Halt>
+) -> Result<(), AllocError>
+    requires able { Able (counted_left engine.now.counted (running definition.now (world_of engine.now.world) (agenda_of definition.now engine.now) (frame_view frame))) }
     requires counted { Counts definition.now (λ o. in_frame o (frame_view frame)) engine.now }
-    ensures step { GoesWithoutGone result
+    ensures step { LeadsWithoutGone result
         (counted_left engine.old.counted (running definition.now (world_of engine.old.world) (agenda_of definition.now engine.old) (frame_view frame)))
         (config_of definition.now engine.new) }
     ensures quiet { OnErr result (IsQuiet (world_of engine.old.world) (world_of engine.new.world)) }
     ensures closing { OnOk result (ProgramLeaves (world_of engine.old.world) (frame_view frame) (program_at definition.now (frame_view frame).program) engine.old.closing engine.new.closing) }
     ensures counted { OnOk result (Counts definition.now nothing engine.new) }
 {
-    count(engine)?;
+    count(engine);
     let Some(program) = definition.program(frame.program) else {
-        return Err(Halt::Stuck(Arm::Code));
+        unreachable!();
     };
     let Some(instruction) = frame.take(program) else {
-        return Err(Halt::Stuck(Arm::Code));
+        unreachable!();
     };
     execute(engine, definition, program, frame, instruction)
 }

@@ -17,7 +17,6 @@ use engine_tasks::finalisation::finalise;
 use engine_world::engine::{Engine, StepKind};
 use engine_world::references::let_go_any;
 use std::alloc::AllocError;
-use ui_machine::Halt;
 
 // What has floated longest, if something floats, floats no longer, where nothing else is left to do.
 fn sink_first_floating(engine: &mut Engine, definition: &Definition) -> StepKind
@@ -55,11 +54,7 @@ fn first_task(engine: &mut Engine, definition: &Definition) -> Result<StepKind, 
         return Ok(sink_first_floating(engine, definition));
     };
     let held = task.object();
-    let made = match act(engine, definition, task) {
-        Ok(made) => made,
-        Err(Halt::OutOfMemory) => return Err(AllocError),
-        Err(Halt::Stuck(_)) => unreachable!(),
-    };
+    let made = act(engine, definition, task)?;
     let_go_any(&mut engine.world.table, held);
     Ok(made)
 }
@@ -85,9 +80,6 @@ pub(crate) fn step_quietly(
     let Some(object) = engine.world.table.next_unheld() else {
         return first_task(engine, definition);
     };
-    match finalise(engine, definition, object) {
-        Ok(()) => Ok(StepKind::Counted),
-        Err(Halt::OutOfMemory) => Err(AllocError),
-        Err(Halt::Stuck(_)) => unreachable!(),
-    }
+    finalise(engine, definition, object)?;
+    Ok(StepKind::Counted)
 }

@@ -9,7 +9,8 @@ ghost use Rattle.engine_world.specs.View.{world_of};
 ghost use Rattle.engine_world.specs.TaskView.{task_in, agenda_of};
 ghost use Rattle.engine_world.specs.Counting.{Counts, in_subject};
 ghost use Rattle.engine_world.specs.EngineView.{config_of, IsOfKind};
-ghost use Rattle.engine_world.specs.Standing.{GoesWithoutGone, past_turns};
+ghost use Rattle.engine_world.specs.Able.{Able, LeadsWithoutGone};
+ghost use Rattle.engine_world.specs.Standing.{past_turns};
 ghost use Rattle.engine_pools.specs.TaskClosings.{TaskLeaves};
 
 use crate::program_steps::run_program;
@@ -27,18 +28,25 @@ use engine_tasks::sources::run_source;
 use engine_tasks::transfers::{transfer, unset};
 use engine_world::engine::{Engine, StepKind};
 use engine_world::task::Task;
-use ui_machine::{Arm, Halt};
+use std::alloc::AllocError;
 
 /// Does what a task says, and answers whether that was counted. An emission passes over handlers that are blocked, and bindings that set or
-/// have ended. A call is of a peer that has not been asked: one that is open leaves it stuck, as it does the machine without a reply.
+/// have ended. The machine is not stuck there: a call is of a peer that is closed.
+///
+/// # Errors
+///
+/// `AllocError` if no memory is found.
 pub(crate) fn act(
     engine: &mut Engine,
     definition: &Definition,
     task: Task,
-) -> Result<StepKind, Halt>
+) -> Result<StepKind, AllocError>
+    requires able { Able
+        (act definition.now (world_of engine.now.world) None
+        (past_turns (world_of engine.now.world) (task_in definition.now engine.now task) ∷ agenda_of definition.now engine.now) engine.now.counted) }
     requires begun { TakesKnownHandlers engine.now.world.handlers.last task }
     requires counted { Counts definition.now (λ o. in_task o (task_in definition.now engine.now task)) engine.now }
-    ensures step { GoesWithoutGone result
+    ensures step { LeadsWithoutGone result
         (act definition.now (world_of engine.old.world) None
         (past_turns (world_of engine.old.world) (task_in definition.now engine.old task) ∷ agenda_of definition.now engine.old) engine.old.counted)
         (config_of definition.now engine.new) }
@@ -113,7 +121,7 @@ pub(crate) fn act(
             connect_from_build(engine, definition, place, number)?;
             return Ok(StepKind::Uncounted);
         }
-        Task::Answering { .. } => return Err(Halt::Stuck(Arm::Code)),
+        Task::Answering { .. } => unreachable!(),
         Task::Calling(call) => {
             pass_over(engine, definition, call)?;
             return Ok(StepKind::Uncounted);

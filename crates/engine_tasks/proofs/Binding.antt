@@ -1,6 +1,5 @@
 -- How the bindings of the definition are made.
-use Rattle.std.proofs.Common.{◌≡◌, ◌∙◌, refl, ap, ℕ, zero, suc, ◌<◌, ◌≤◌, ◌++◌, ◌||◌, true, false, cond, List, [], ◌∷◌, drop, length, Option, None, Some, slice_get, Ok, Err, arith}
-use Rattle.ui_machine.specs.declared.arm.Arm.{Arm}
+use Rattle.std.proofs.Common.{◌≡◌, ◌∙◌, refl, ap, ℕ, zero, suc, ◌<◌, ◌++◌, ◌||◌, true, false, cond, List, [], ◌∷◌, drop, length, Option, None, Some, slice_get, Ok, Err, arith}
 use Rattle.ui_machine.specs.declared.arm.Arm.TheVariants as arms
 use Rattle.ui_machine.specs.Definition.{Definition}
 use Rattle.ui_machine.specs.Definition.Places.{Bind}
@@ -28,26 +27,16 @@ next_of n zero (b ∷ bs) within = by bs
     by (x ∷ xs) = refl
 next_of n (suc i) (b ∷ bs) within = next_of n i bs (omega arith)
 
-none_of : (n i : ℕ) (bs : List Bind) → length bs ≤ i → numbered binds n (drop i bs) ≡ []
-none_of n zero [] past = refl
-none_of n (suc i) [] past = refl
-none_of n zero (b ∷ bs) past = absurd (omega arith)
-none_of n (suc i) (b ∷ bs) past = none_of n i bs (omega arith)
-
 module _ (d : Definition) (number : ℕ) where
   -- a binding that is there is the next one
   pub next_there : number < length d.bindings → binds_from d number ≡ binds number ∷ binds_from d (suc number)
   next_there within = ap (λ (items : List Item). items ++ connected_items 0 d.places) (next_of number number d.bindings within)
 
-  -- behind the last one the signals come
-  pub none_there : length d.bindings ≤ number → binds_from d number ≡ connected_items 0 d.places
-  none_there past = ap (λ (items : List Item). items ++ connected_items 0 d.places) (none_of number number d.bindings past)
-
 -- ** a binding
 
 module _ (d : Definition) (w : World) (number : ℕ) (items : List Item) where
   -- between two objects
-  abbrev between : Bind → Ends → Answer Started
+  abbrev pub between : Bind → Ends → Answer Started
   between b ends =
       cond (is_disposed (living w.objects ends.source) || is_disposed (living w.objects ends.target))
       (starts w (Building items ∷ []))
@@ -74,25 +63,18 @@ module _ (d : Definition) (w : World) (number : ℕ) (items : List Item) where
       by None = refl
       by (Some b) = sources b (held_object w b.source)
 
-  pub none_bound : slice_get d.bindings number ≡ None → building_binding d w number items ≡ Err arms.Code
-  none_bound none = by_ends ∙ ap (λ (found : Option Bind). known arms.Code found >>= λ b. ends_at w b >>= between b) none
-
   module _ (b : Bind) (found : slice_get d.bindings number ≡ Some b) where
-    at_ends : (held : Answer Ends) → ends_at w b ≡ held → building_binding d w number items ≡ (held >>= between b)
-    at_ends held is =
-        by_ends ∙ ap (λ (found : Option Bind). known arms.Code found >>= λ b. ends_at w b >>= between b) found ∙ ap (λ (a : Answer Ends). a >>= between b) is
-
-    pub not_held : (arm : Arm) → ends_at w b ≡ Err arm → building_binding d w number items ≡ Err arm
-    not_held arm is = at_ends (Err arm) is
+    pub by_found : building_binding d w number items ≡ (ends_at w b >>= between b)
+    by_found = by_ends ∙ ap (λ (found : Option Bind). known arms.Code found >>= λ b. ends_at w b >>= between b) found
 
     module _ (ends : Ends) (is : ends_at w b ≡ Ok ends) where
       pub too_late : (is_disposed (living w.objects ends.source) || is_disposed (living w.objects ends.target)) ≡ true → building_binding d w number items ≡ starts w (Building items ∷ [])
       too_late late =
-          at_ends (Ok ends) is
+          by_found ∙ ap (λ (a : Answer Ends). a >>= between b) is
           ∙ ap (λ x. cond x (starts w (Building items ∷ [])) (starts (with_binding w (new_binding number b ends.source ends.target)) (first_transfer number b ++ Building items ∷ []))) late
 
       pub bound : (is_disposed (living w.objects ends.source) || is_disposed (living w.objects ends.target)) ≡ false
           → building_binding d w number items ≡ starts (with_binding w (new_binding number b ends.source ends.target)) (first_transfer number b ++ Building items ∷ [])
       bound early =
-          at_ends (Ok ends) is
+          by_found ∙ ap (λ (a : Answer Ends). a >>= between b) is
           ∙ ap (λ x. cond x (starts w (Building items ∷ [])) (starts (with_binding w (new_binding number b ends.source ends.target)) (first_transfer number b ++ Building items ∷ []))) early

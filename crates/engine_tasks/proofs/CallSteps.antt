@@ -1,14 +1,12 @@
 -- What a due call comes to: what is asked, and what the answer leads to.
 use Rattle.std.proofs.Common.{◌≡◌, ◌∙◌, refl, sym, ap, ℕ, zero, suc, Bool, true, false, cond, List, [], ◌∷◌, map, Option, None, Some, Ok, Err, slice_get, option_and_then}
 use Rattle.ui_machine.specs.declared.arm.Arm.TheVariants as arms
-use Rattle.ui_machine.specs.declared.arm.Halt.{Halt}
-use Rattle.ui_machine.specs.declared.arm.Halt.TheVariants as halts
 use Rattle.ui_machine.specs.Definition.{Definition}
 use Rattle.ui_machine.specs.Definition.Signals.{Method}
 use Rattle.ui_machine.specs.Definition.Values.{Value}
 use Rattle.ui_machine.specs.Instructions.Peers.{call_line, called, calling_on, left_with, replied, uncalled, with_method}
 use Rattle.ui_machine.specs.Rules.Transform.{zero_value}
-use Rattle.ui_machine.specs.Outcome.{Answer, Stops, known, ◌>>=◌}
+use Rattle.ui_machine.specs.Outcome.{Answer, known, ◌>>=◌}
 use Rattle.ui_machine.specs.Output.Lines as lines
 use Rattle.ui_machine.specs.Output.Text.{text_of_line}
 use Rattle.ui_machine.specs.Rules.Accumulation.{or_zero, received}
@@ -24,8 +22,9 @@ use Rattle.engine_world.specs.declared.task.DueCall.{DueCall}
 use Rattle.engine_world.specs.declared.task.Task as code
 use Rattle.engine_world.specs.declared.task.Task.TheVariants as tasks
 use Rattle.engine_world.specs.View.{with_line}
-use Rattle.engine_world.proofs.Emits.{stops_on}
 use Rattle.engine_world.proofs.MakingSteps.{read_there}
+use Rattle.engine_world.proofs.Ableness.{able_as, first, in_left, no_arm}
+use Rattle.engine_world.specs.Able.{Able}
 use Rattle.engine_tasks.specs.CallView.{Conclusion, Named, answered, line_of, method_called, reply_of, unanswered}
 
 -- ** what a call names
@@ -141,20 +140,28 @@ module _ (d : Definition) (w : World) (call : Call) (rest : List Task) where
   pub asks : (answer : Option Value) → is_asked w call.peer ≡ true → calling_on d w call rest (Some (reply_of w call answer)) ≡ (answered d w call answer >>= goes_on_so)
   asks answer so = ap (λ b. cond b (replied d w call rest (Some (reply_of w call answer))) (uncalled d w call rest)) so ∙ by_answer answer
 
-  pub asks_none : is_asked w call.peer ≡ true → calling_on d w call rest None ≡ Err arms.Call
+  asks_none : is_asked w call.peer ≡ true → calling_on d w call rest None ≡ Err arms.Call
   asks_none so = ap (λ b. cond b (replied d w call rest None) (uncalled d w call rest)) so
+
+  -- without a reply no call is asked
+  pub not_asked : Able (calling_on d w call rest None) → is_asked w call.peer ≡ false
+  not_asked able = by (is_asked w call.peer) refl
+    where
+      by : (b : Bool) → is_asked w call.peer ≡ b → is_asked w call.peer ≡ false
+      by true so = absurd (no_arm (calling_on d w call rest None) arms.Call able (asks_none so))
+      by false so = so
 
   -- where the peer is closed
   pub is_closed : (reply : Option Reply) → is_asked w call.peer ≡ false → calling_on d w call rest reply ≡ (unanswered d w call >>= goes_on_so)
   is_closed reply so = ap (λ b. cond b (replied d w call rest reply) (uncalled d w call rest)) so ∙ by_close
 
--- what stops the conclusion stops the call
-pub call_stops : (d : Definition) (w : World) (call : Call) (rest : List Task) (n : ℕ) (halt : Halt) (a : Answer Left) (c : Answer Conclusion)
-    → a ≡ (c >>= λ (k : Conclusion). left_with (with_line k.line w) rest call.to k.value) → Stops halt c → Stops halt (left n a)
-unfolding left
-call_stops d w call rest n halts.OutOfMemory a c is s = tt
-call_stops d w call rest n (halts.Stuck arm) a c is s =
-    ap (λ (x : Answer Left). x >>= λ l. Ok (record { world = l.world; agenda = l.agenda; counted = n })) (is ∙ ap (λ (k : Answer Conclusion). k >>= λ (k : Conclusion). left_with (with_line k.line w) rest call.to k.value) s)
+  -- where no arm stops the call, none stops what it comes to, nor what follows
+  module _ (n : ℕ) (a : Answer Left) (k : Answer Conclusion) (is : a ≡ (k >>= goes_on_so)) (able : Able (left n a)) where
+    pub able_to_conclude : Able k
+    able_to_conclude = first k goes_on_so (able_as is (in_left n a able))
+
+    pub able_to_go_on : (c : Conclusion) → k ≡ Ok c → Able (left n (goes_on_so c))
+    able_to_go_on c at = able_as (ap (left n) (is ∙ ap (λ x. x >>= goes_on_so) at)) able
 
 -- the program that called is given the value
 module _ (n : ℕ) (w : World) (rest : List Task) (to : ℕ) (v : Value) where
@@ -164,8 +171,6 @@ module _ (n : ℕ) (w : World) (rest : List Task) (to : ℕ) (v : Value) where
       ap (λ (x : Answer (List Task)). (x >>= λ agenda. Ok (record { world = w; agenda = agenda })) >>= λ (l : Left). Ok (record { world = l.world; agenda = l.agenda; counted = n })) is
       ∙ rw (world, count) refl
 
-  pub concludes_not : (halt : Halt) → Stops halt (received rest to (Some v)) → Stops halt (left n (left_with w rest to v))
-  unfolding left left_with
-  concludes_not halt s =
-      stops_on halt (received rest to (Some v) >>= λ agenda. Ok (record { world = w; agenda = agenda })) (λ (l : Left). Ok (record { world = l.world; agenda = l.agenda; counted = n }))
-      (stops_on halt (received rest to (Some v)) (λ agenda. Ok (record { world = w; agenda = agenda })) s)
+  pub able_to_receive : Able (left n (left_with w rest to v)) → Able (received rest to (Some v))
+  unfolding left_with
+  able_to_receive able = first (received rest to (Some v)) (λ agenda. Ok (record { world = w; agenda = agenda })) (in_left n _ able)

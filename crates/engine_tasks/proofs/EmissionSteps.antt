@@ -1,11 +1,9 @@
 -- What an emission does next: a transfer, a program, or its end.
-use Rattle.std.proofs.Common.{◌≡◌, ◌∙◌, refl, sym, ap, subst, ℕ, ◌++◌, Bool, true, false, List, [], ◌∷◌, Option, None, Some, option_map, Result}
-use Rattle.ui_machine.specs.declared.arm.Halt.{Halt}
+use Rattle.std.proofs.Common.{◌≡◌, ◌∙◌, refl, sym, ap, ℕ, ◌++◌, Bool, true, false, List, [], ◌∷◌, Option, None, Some, option_map}
 use Rattle.ui_machine.specs.Definition.{Definition}
-use Rattle.ui_machine.specs.Outcome.{Goes}
 use Rattle.ui_machine.specs.Rules.Accumulation.{ending}
 use Rattle.ui_machine.specs.Rules.Programs.{beginning_program}
-use Rattle.ui_machine.specs.State.Config.{Config, World}
+use Rattle.ui_machine.specs.State.Config.{World}
 use Rattle.ui_machine.specs.State.Handlers.{Handler}
 use Rattle.ui_machine.specs.State.Tasks.{Emission, Emitting, PlanEntry, Task}
 use Rattle.ui_machine.specs.Steps.{act, left, uncounted}
@@ -18,7 +16,6 @@ use Rattle.signal_core.specs.declared.stage.Stage.{Stage}
 use Rattle.signal_core.specs.declared.stage.Stage.TheVariants as stages
 use Rattle.signal_core.specs.declared.turn.Turn.{Turn}
 use Rattle.signal_core.specs.declared.turn.Turn.TheVariants as turns
-use Rattle.engine_world.specs.KnownHandlers.{EndsWithoutTransfers}
 use Rattle.engine_world.specs.Standing.{entries_due}
 use Rattle.engine_world.specs.TaskView.{emission_of, entries_to_come}
 use Rattle.engine_world.specs.TransferView.{due_later, due_now, entries_due_of}
@@ -31,13 +28,6 @@ use Rattle.engine_tasks.proofs.EmissionTurns.{IsNext, bindings_first, due_left, 
 use Rattle.engine_tasks.proofs.TurnTaking.{takes_turn, turn_runs}
 
 -- ** transfers
-
--- no transfer is due at the end, also where one was taken
-pub ends_still : (w : Walk) (old new : Transfers) (v : World) (t : DueTransfer) → from_ready v.bindings (due_now old) ≡ t ∷ due_now new → EndsWithoutTransfers w old → EndsWithoutTransfers w new
-ends_still w old new v t takes ends over =
-    let none : from_ready v.bindings (due_now old) ≡ [] = ap (λ (l : List DueTransfer). from_ready v.bindings l) (ends over) in
-    let never : ◌≡◌ {A = List DueTransfer} [] (t ∷ due_now new) = sym none ∙ takes in
-    absurd (cc never)
 
 module _ (v : World) (w : Walk) (old new : Transfers) (later : due_later new ≡ due_later old) where
   abbrev of : List PlanEntry
@@ -63,30 +53,29 @@ module _ (v : World) (w : Walk) (old new : Transfers) (later : due_later new ≡
         ∙ ap (λ (l : List DueTransfer). entries (entries_due_of l) (to_come u v.handlers)) later
 
     -- nothing is left at all: the emission ends
-    pub ends_with : {X : Type 0} (d : Definition) (rest : List Task) (n : ℕ) (last : ℕ) (rises : Numbered 0 v.handlers last) → (args : List Value) (by_event : Bool) (u : Walk)
+    pub ends_with : (d : Definition) (rest : List Task) (n : ℕ) (last : ℕ) (rises : Numbered 0 v.handlers last) → (args : List Value) (by_event : Bool) (u : Walk)
         → u ≡ record w { stage = stage_after (next_step w v.handlers) } → free_first (to_come w v.handlers) ≡ None
-        → (result : Result X Halt) (c : Config) → Goes result (left n (ending d v (emission_of u args by_event) rest)) c
-        → Goes result (act d v None (Emitting (emission_of w args by_event) (entries_due v (entries_to_come w v.handlers old)) ∷ rest) n) c
-    ends_with d rest n last rises args by_event u moved stops result c goes =
-        ends_on d v rest n w u args by_event (stage_after (next_step w v.handlers)) moved _ (none_due ∙ ends_so v last rises w of stops) result c goes
+        → act d v None (Emitting (emission_of w args by_event) (entries_due v (entries_to_come w v.handlers old)) ∷ rest) n ≡ left n (ending d v (emission_of u args by_event) rest)
+    ends_with d rest n last rises args by_event u moved stops =
+        ends_on d v rest n w u args by_event (stage_after (next_step w v.handlers)) moved _ (none_due ∙ ends_so v last rises w of stops)
 
     -- a program's turn
-    pub turns_with : {X : Type 0} (d : Definition) (rest : List Task) (n : ℕ) (last : ℕ) (rises : Numbered 0 v.handlers last) → (args : List Value) (by_event : Bool) (u : Walk)
-        → u ≡ record w { stage = stage_after (next_step w v.handlers) } → (t : Due) → IsNext v last rises w t → is_transfers t.step.turn ≡ false
-        → (result : Result X Halt) (c : Config)
-        → Goes result (uncounted (Emitting (emission_of u args by_event) (entries_to_come u v.handlers new) ∷ rest) n (beginning_program d v (program_of_turn t.step.turn) (given_by (emission_of u args by_event) t.step.turn))) c
-        → Goes result (act d v None (Emitting (emission_of w args by_event) (entries_due v (entries_to_come w v.handlers old)) ∷ rest) n) c
-    turns_with d rest n last rises args by_event u moved t next plain result c goes =
-        takes_turn d v rest n last rises w args by_event of result c t next plain _ none_due
-        u (moved ∙ ap (λ (o : Option Due). record w { stage = stage_after (option_map (λ (x : Due). x.step) o) }) next) (entries_to_come u v.handlers new) (left_behind u) goes
+    pub turns_with : (d : Definition) (rest : List Task) (n : ℕ) (last : ℕ) (rises : Numbered 0 v.handlers last) → (args : List Value) (by_event : Bool) (u : Walk)
+        → u ≡ record w { stage = stage_after (next_step w v.handlers) } → (t : Due) → IsNext v last rises w t → is_transfers t.step.turn ≡ false → (turn : Turn) → t.step.turn ≡ turn
+        → act d v None (Emitting (emission_of w args by_event) (entries_due v (entries_to_come w v.handlers old)) ∷ rest) n
+        ≡ uncounted (Emitting (emission_of u args by_event) (entries_to_come u v.handlers new) ∷ rest) n (beginning_program d v (program_of_turn turn) (given_by (emission_of u args by_event) turn))
+    turns_with d rest n last rises args by_event u moved t next plain turn is =
+        takes_turn d v rest n last rises w args by_event of t next plain _ none_due
+        u (moved ∙ ap (λ (o : Option Due). record w { stage = stage_after (option_map (λ (x : Due). x.step) o) }) next) (entries_to_come u v.handlers new) (left_behind u)
+        ∙ ap (λ (x : Turn). uncounted (Emitting (emission_of u args by_event) (entries_to_come u v.handlers new) ∷ rest) n (beginning_program d v (program_of_turn x) (given_by (emission_of u args by_event) x))) is
 
     -- the bindings' turn
-    pub bindings_with : {X : Type 0} (d : Definition) (rest : List Task) (n : ℕ) (last : ℕ) (rises : Numbered 0 v.handlers last) → (args : List Value) (by_event : Bool) (u : Walk)
+    pub bindings_with : (d : Definition) (rest : List Task) (n : ℕ) (last : ℕ) (rises : Numbered 0 v.handlers last) → (args : List Value) (by_event : Bool) (u : Walk)
         → u ≡ record w { stage = stage_after (next_step w v.handlers) } → (t : Due) → IsNext v last rises w t → is_transfers t.step.turn ≡ true
-        → (result : Result X Halt) (c : Config) (begun : Transfers) → begun ≡ at.Due (due_later new)
-        → Goes result (act d v None (Emitting (emission_of u args by_event) (entries_due v (entries_to_come u v.handlers begun)) ∷ rest) n) c
-        → Goes result (act d v None (Emitting (emission_of w args by_event) (entries_due v (entries_to_come w v.handlers old)) ∷ rest) n) c
-    bindings_with d rest n last rises args by_event u moved t next so result c begun behind goes =
+        → (begun : Transfers) → begun ≡ at.Due (due_later new)
+        → act d v None (Emitting (emission_of w args by_event) (entries_due v (entries_to_come w v.handlers old)) ∷ rest) n
+        ≡ act d v None (Emitting (emission_of u args by_event) (entries_due v (entries_to_come u v.handlers begun)) ∷ rest) n
+    bindings_with d rest n last rises args by_event u moved t next so begun behind =
         let first = bindings_first v last rises w of t next so in
         let at_step : u ≡ record w { stage = t.step.then_at } = moved ∙ ap (λ (o : Option Due). record w { stage = stage_after (option_map (λ (x : Due). x.step) o) }) next in
         let own : emission_of u args by_event ≡ record (emission_of w args by_event) { cleanup = is_over (record w { stage = t.step.then_at }).stage } =
@@ -96,9 +85,9 @@ module _ (v : World) (w : Walk) (old new : Transfers) (later : due_later new ≡
         ∙ ap (λ (l : List DueTransfer). entries_due v (entries_due_of l ++ entries [] (to_come u v.handlers))) later
         ∙ ap (λ (x : Walk). entries_due v (of ++ entries [] (to_come x v.handlers))) at_step
         ∙ sym first.1 ∙ sym none_due in
-        subst (λ (es : List PlanEntry). Goes result (act d v None (Emitting (emission_of w args by_event) es ∷ rest) n) c) all
-        (subst (λ (e : Emission). Goes result (act d v None (Emitting e (entries_due v (entries_to_come u v.handlers begun)) ∷ rest) n) c)
-        (own ∙ ap (λ (b : Bool). record (emission_of w args by_event) { cleanup = b }) (ap (λ (stage : Stage). is_over stage) first.0 ∙ sym (not_over v last rises w t next))) goes)
+        ap (λ (es : List PlanEntry). act d v None (Emitting (emission_of w args by_event) es ∷ rest) n) (sym all)
+        ∙ ap (λ (e : Emission). act d v None (Emitting e (entries_due v (entries_to_come u v.handlers begun)) ∷ rest) n)
+        (sym (own ∙ ap (λ (b : Bool). record (emission_of w args by_event) { cleanup = b }) (ap (λ (stage : Stage). is_over stage) first.0 ∙ sym (not_over v last rises w t next))))
 
     pub at_before : (last : ℕ) (rises : Numbered 0 v.handlers last) → (u : Walk) → u ≡ record w { stage = stage_after (next_step w v.handlers) } → (t : Due) → IsNext v last rises w t
         → is_transfers t.step.turn ≡ true → u.stage ≡ stages.Before 0

@@ -1,11 +1,11 @@
 -- How emissions begin and end, by the class of the object that emits.
-use Rattle.std.proofs.Common.{◌≡◌, ℕ, Bool, true, false, List, [], ◌∷◌, Option, Some, None, option_map, Result, Ok, Err, refl, sym, ap, subst, ◌∙◌}
+use Rattle.std.proofs.Common.{◌≡◌, ℕ, Bool, true, false, List, [], ◌∷◌, Option, Some, None, option_map, Ok, Err, refl, sym, ap, ◌∙◌}
 use Rattle.ui_machine.specs.declared.arm.Arm.{Arm}
 use Rattle.ui_machine.specs.declared.arm.Arm.TheVariants as arms
 use Rattle.ui_machine.specs.Definition.{Definition}
 use Rattle.ui_machine.specs.Definition.Signals.{Signal}
 use Rattle.ui_machine.specs.Definition.Values.{Value}
-use Rattle.ui_machine.specs.Outcome.{Answer, Goes, Stops, known, only_if, ◌>>=◌}
+use Rattle.ui_machine.specs.Outcome.{Answer, known, only_if, ◌>>=◌}
 use Rattle.ui_machine.specs.Output.Lines as lines
 use Rattle.ui_machine.specs.Rules.Accumulation.{ending, passed_down, result_of, resulting, told}
 use Rattle.ui_machine.specs.Definition.Lookups.{spec_of}
@@ -15,7 +15,7 @@ use Rattle.ui_machine.specs.State.Bindings.{transfers}
 use Rattle.bindings.specs.declared.due.DueTransfer.{DueTransfer}
 use Rattle.ui_machine.specs.Rules.Programs.{all_fit}
 use Rattle.ui_machine.specs.Rules.Transform.{kind_fits}
-use Rattle.ui_machine.specs.State.Config.{Config, Left, Started, World, leaves, said, starts}
+use Rattle.ui_machine.specs.State.Config.{Started, World, leaves, said, starts}
 use Rattle.ui_machine.specs.State.Objects.{Object, asked, class_in, living}
 use Rattle.ui_machine.specs.State.Tasks.{Emission, Emitting, PlanEntry, Task}
 use Rattle.definition_format.specs.Meaning.{planned}
@@ -31,8 +31,8 @@ use Rattle.engine_world.specs.declared.task.NewEmission.{NewEmission}
 use Rattle.engine_world.proofs.Notified.{begun}
 use Rattle.engine_tasks.proofs.EmissionTurns.{entries_planned}
 use Rattle.g_values.specs.declared.value.Value as code
-use Rattle.ui_machine.specs.declared.arm.Halt.{Halt}
-use Rattle.ui_machine.specs.declared.arm.Halt.TheVariants as halts
+use Rattle.engine_world.specs.Able.{Able}
+use Rattle.engine_world.proofs.Ableness.{able_as, first, tested}
 use Rattle.ui_machine.specs.Steps.{act, left}
 
 -- ** the beginning
@@ -62,11 +62,13 @@ module _ (d : Definition) (w : World) (e : Emission) where
     unfolding begin_on signal_at
     begin_unknown none = begin_by (Ok class) of ∙ ap (λ (s : Option Signal). known arms.Code s >>= begin class) none
 
-    pub begin_misfit : (s : Signal) → signal_of d class e.signal ≡ Some s → all_fit (kind_fits (class_in w.objects) d.types) e.args s.params ≡ false → beginning_emission d w e ≡ Err arms.Argument
+    -- where no arm stops it, its arguments fit
+    pub begin_fit : (s : Signal) → signal_of d class e.signal ≡ Some s → Able (beginning_emission d w e) → all_fit (kind_fits (class_in w.objects) d.types) e.args s.params ≡ true
     unfolding begin_on signal_at begin
-    begin_misfit s some misfit =
-        begin_by (Ok class) of ∙ ap (λ (s : Option Signal). known arms.Code s >>= begin class) some
-        ∙ ap (λ (b : Bool). only_if b arms.Argument (starts (said d w (lines.emit e.object s.name e.detail e.args)) (Emitting e (emission_plan d w s class e) ∷ []))) misfit
+    begin_fit s some able =
+        tested (all_fit (kind_fits (class_in w.objects) d.types) e.args s.params) arms.Argument
+        (starts (said d w (lines.emit e.object s.name e.detail e.args)) (Emitting e (emission_plan d w s class e) ∷ []))
+        (able_as (begin_by (Ok class) of ∙ ap (λ (s : Option Signal). known arms.Code s >>= begin class) some) able)
 
     pub begin_known : (s : Signal) → signal_of d class e.signal ≡ Some s → all_fit (kind_fits (class_in w.objects) d.types) e.args s.params ≡ true
         → beginning_emission d w e ≡ starts (said d w (lines.emit e.object s.name e.detail e.args)) (Emitting e (emission_plan d w s class e) ∷ [])
@@ -124,12 +126,9 @@ module _ (d : Definition) (w : World) (e : Emission) (rest : List Task) where
         → ending d w e rest ≡ leaves (told d w e.by_event v) agenda
     end_known s some v is agenda passes = ends_known s some v is ∙ ap (λ (a : Answer (List Task)). a >>= λ agenda. leaves (told d w e.by_event v) agenda) passes
 
-    pub end_stops : (s : Signal) → signal_of d class e.signal ≡ Some s → (v : Option Value) → v ≡ result_of d s.result e.value → (halt : Halt) → Stops halt (passed_down rest v)
-        → (n : ℕ) → Stops halt (left n (ending d w e rest))
-    unfolding left
-    end_stops s some v is halts.OutOfMemory stops n = tt
-    end_stops s some v is (halts.Stuck arm) stops n =
-        ap (left n) (ends_known s some v is ∙ ap (λ (a : Answer (List Task)). a >>= λ agenda. leaves (told d w e.by_event v) agenda) stops)
+    -- where no arm stops it, none stops that its result is passed down
+    pub able_to_pass : (s : Signal) → signal_of d class e.signal ≡ Some s → (v : Option Value) → v ≡ result_of d s.result e.value → Able (ending d w e rest) → Able (passed_down rest v)
+    able_to_pass s some v is able = first (passed_down rest v) (λ agenda. leaves (told d w e.by_event v) agenda) (able_as (ends_known s some v is) able)
 
 -- how far it has come makes no difference to its end
 pub end_alike : (d : Definition) (w : World) (e : Emission) (b : Bool) (rest : List Task) → ending d w (record e { cleanup = b }) rest ≡ ending d w e rest
@@ -165,10 +164,8 @@ beginning_starts d w rises e class of s declared fit walk is =
     ∙ ap (λ (v : Walk). starts (said d w line) (Emitting (emission_of v e.args.items e.by_event) (entries_to_come v w.handlers (at.Due [])) ∷ [])) (sym is)
 
 -- an emission without a turn ends, wherever it is
-pub ends_on : {X : Type 0} (d : Definition) (v : World) (rest : List Task) (n : ℕ) (w u : Walk) (args : List code.Value) (by_event : Bool) (stage : Stage) → u ≡ record w { stage = stage }
-    → (all : List PlanEntry) → all ≡ [] → (result : Result X Halt) (new : Config) → Goes result (left n (ending d v (emission_of u args by_event) rest)) new
-    → Goes result (act d v None (Emitting (emission_of w args by_event) all ∷ rest) n) new
-ends_on d v rest n w u args by_event stage is all none result new goes =
-    subst (λ (es : List PlanEntry). Goes result (act d v None (Emitting (emission_of w args by_event) es ∷ rest) n) new) (sym none)
-    (subst (λ (a : Answer Left). Goes result (left n a) new)
-    (ap (λ (x : Walk). ending d v (emission_of x args by_event) rest) is ∙ end_alike d v (emission_of w args by_event) (is_over stage) rest) goes)
+pub ends_on : (d : Definition) (v : World) (rest : List Task) (n : ℕ) (w u : Walk) (args : List code.Value) (by_event : Bool) (stage : Stage) → u ≡ record w { stage = stage }
+    → (all : List PlanEntry) → all ≡ [] → act d v None (Emitting (emission_of w args by_event) all ∷ rest) n ≡ left n (ending d v (emission_of u args by_event) rest)
+ends_on d v rest n w u args by_event stage is all none =
+    ap (λ (es : List PlanEntry). act d v None (Emitting (emission_of w args by_event) es ∷ rest) n) none
+    ∙ sym (ap (left n) (ap (λ (x : Walk). ending d v (emission_of x args by_event) rest) is ∙ end_alike d v (emission_of w args by_event) (is_over stage) rest))

@@ -8,3 +8,4 @@ mod Binding
 mod Carrying
 mod Sourcing
 mod CallSteps
+mod Settable

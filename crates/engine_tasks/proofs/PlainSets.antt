@@ -25,6 +25,8 @@ use Rattle.g_values.specs.View.{kind_view, value_view, value_kind}
 use Rattle.param_specs.specs.declared.spec.Spec as specs
 use Rattle.param_specs.specs.View.{spec_view}
 use Rattle.param_specs.specs.Validation.{IsWithin, Takes}
+use Rattle.engine_world.specs.Able.{Able}
+use Rattle.engine_world.proofs.Ableness.{able_as, tested}
 use Rattle.definition_format.specs.Meaning.{IsPlainKind, IsPlain}
 
 -- ** a value of a plain kind
@@ -60,6 +62,10 @@ takes_whole types w (kinds.object u) s n p h = cc
 fits_first : (a b : Bool) → (a && b) ≡ true → a ≡ true
 fits_first true b h = refl
 fits_first false b h = cc
+
+fits_both : (a b : Bool) → (a && b) ≡ true → (a ≡ true) × (b ≡ true)
+fits_both true b h = (refl, h)
+fits_both false b h = cc h
 
 -- the default of an enum's property is of the enum
 default_kind : (types : List GType) (t : ℕ) (v : coded.Value) → kind_fits (λ id. None) types (value_view v) (kinds.enum t) ≡ true
@@ -143,13 +149,11 @@ module _ (d : Definition) (w : World) (id slot : ℕ) (v : Value) where
     unfolding setting
     by_spec = ap (λ (a : Answer Spec). a >>= λ s. only_if (has_kind v s.kind && lives w.objects v) arms.Value (settled d w id slot s v (clamp (class_in w.objects) d.types s v))) is
 
-    pub other_kind_set : has_kind v s.kind ≡ false → setting d w id slot v ≡ Err arms.Value
-    other_kind_set h = by_spec ∙ ap (λ b. only_if (b && lives w.objects v) arms.Value (settled d w id slot s v (clamp (class_in w.objects) d.types s v))) h
-
-    pub dead_set : has_kind v s.kind ≡ true → lives w.objects v ≡ false → setting d w id slot v ≡ Err arms.Value
-    dead_set kind dead =
-        by_spec ∙ ap (λ b. only_if (b && lives w.objects v) arms.Value (settled d w id slot s v (clamp (class_in w.objects) d.types s v))) kind
-        ∙ ap (λ b. only_if b arms.Value (settled d w id slot s v (clamp (class_in w.objects) d.types s v))) dead
+    -- where no arm stops it, the value is of the kind, and an object that it names lives
+    pub set_fits : Able (setting d w id slot v) → (has_kind v s.kind ≡ true) × (lives w.objects v ≡ true)
+    set_fits able =
+        fits_both (has_kind v s.kind) (lives w.objects v)
+        (tested (has_kind v s.kind && lives w.objects v) arms.Value (settled d w id slot s v (clamp (class_in w.objects) d.types s v)) (able_as by_spec able))
 
     module _ (plain : IsPlain d.types s) (kind : has_kind v s.kind ≡ true) (alive : lives w.objects v ≡ true) where
       by_value : setting d w id slot v ≡ settled d w id slot s v (clamp (class_in w.objects) d.types s v)
@@ -168,25 +172,35 @@ module _ (d : Definition) (w : World) (id slot : ℕ) (v : Value) where
           ∙ ap (written d w id slot s) (sym valid)
 
       -- as code finds it, with a flag for what was changed
-      pub refused_by_flag : (refuses is_changed : Bool) (same_v : Value) → refuses ≡ true → refuses ≡ (is_changed && not (is_lax s))
+      refused_by_flag : (refuses is_changed : Bool) (same_v : Value) → refuses ≡ true → refuses ≡ (is_changed && not (is_lax s))
           → is_changed ≡ not (same_value (clamp (class_in w.objects) d.types s v) v) → same_v ≡ v
           → setting d w id slot v ≡ starts (said d w (lines.refused id s.name same_v)) []
       refused_by_flag refuses is_changed same_v is e f same =
           refused_set (flag_off (same_value (clamp (class_in w.objects) d.types s v) v || is_lax s) (sym (refuses_is refuses is_changed (same_value (clamp (class_in w.objects) d.types s v) v) (is_lax s) e f) ∙ is))
           ∙ ap (λ x. starts (said d w (lines.refused id s.name x)) []) (sym same)
 
-      pub written_by_flag : (refuses is_changed : Bool) (x : Value) → refuses ≡ false → refuses ≡ (is_changed && not (is_lax s))
+      written_by_flag : (refuses is_changed : Bool) (x : Value) → refuses ≡ false → refuses ≡ (is_changed && not (is_lax s))
           → is_changed ≡ not (same_value (clamp (class_in w.objects) d.types s v) v)
           → x ≡ without_disposed w.objects s (clamp (class_in w.objects) d.types s v) → setting d w id slot v ≡ written d w id slot s x
       written_by_flag refuses is_changed x is e f valid =
           written_set x valid (flag_on (same_value (clamp (class_in w.objects) d.types s v) v || is_lax s) (sym (refuses_is refuses is_changed (same_value (clamp (class_in w.objects) d.types s v) v) (is_lax s) e f) ∙ is))
 
--- ** the value by its object
+-- ** a set that no arm stops, as code finds its value
 
-pub only_ok : (b : Bool) (v x : Value) → only_if b arms.Value (Ok v) ≡ Ok x → (b ≡ true) × (x ≡ v)
-only_ok true v x h = (refl, cc)
-only_ok false v x h = cc
+module _ (d : Definition) (w : World) (id slot : ℕ) (s : specs.Spec) (is : spec_at d w.objects id slot ≡ Ok (spec_view s)) (plain : IsPlain d.types (spec_view s)) (x : coded.Value)
+    (able : Able (setting d w id slot (value_view x))) where
+  fits : (has_kind (value_view x) (kind_view s.kind) ≡ true) × (lives w.objects (value_view x) ≡ true)
+  fits = set_fits d w id slot (value_view x) (spec_view s) is able
 
-pub only_err : (b : Bool) (v : Value) (arm : Arm) → only_if b arms.Value (Ok v) ≡ Err arm → (b ≡ false) × (arm ≡ arms.Value)
-only_err true v arm h = cc
-only_err false v arm h = (refl, cc)
+  pub taken_so : Takes d.types s x
+  taken_so = takes d.types s x plain fits.0
+
+  pub refused_so : (is_changed : Bool) (same_v : Value) → true ≡ (is_changed && not (is_lax (spec_view s)))
+      → is_changed ≡ not (same_value (clamp (class_in w.objects) d.types (spec_view s) (value_view x)) (value_view x)) → same_v ≡ value_view x
+      → setting d w id slot (value_view x) ≡ starts (said d w (lines.refused id (spec_view s).name same_v)) []
+  refused_so is_changed same_v e f same = refused_by_flag d w id slot (value_view x) (spec_view s) is plain fits.0 fits.1 true is_changed same_v refl e f same
+
+  pub written_so : (is_changed : Bool) (y : Value) → false ≡ (is_changed && not (is_lax (spec_view s)))
+      → is_changed ≡ not (same_value (clamp (class_in w.objects) d.types (spec_view s) (value_view x)) (value_view x))
+      → y ≡ without_disposed w.objects (spec_view s) (clamp (class_in w.objects) d.types (spec_view s) (value_view x)) → setting d w id slot (value_view x) ≡ written d w id slot (spec_view s) y
+  written_so is_changed y e f valid = written_by_flag d w id slot (value_view x) (spec_view s) is plain fits.0 fits.1 false is_changed y refl e f valid

@@ -1,8 +1,5 @@
 -- How programs begin, by what fits their parameters.
-use Rattle.std.proofs.Common.{◌≡◌, ◌∙◌, refl, ap, ℕ, Bool, true, false, List, [], ◌∷◌, ◌++◌, append_assoc, Option, None, Some, Ok, Err}
-use Rattle.std.specs.List.{All, AllByRecursion}
-use Rattle.std.proofs.lemmas.List.Elements.{All-head, All-tail}
-use Rattle.ui_machine.specs.declared.arm.Arm.{Arm}
+use Rattle.std.proofs.Common.{◌≡◌, ◌∙◌, refl, ap, ℕ, Bool, true, List, [], ◌∷◌, ◌++◌, append_assoc, Option, None, Some, Ok, Err}
 use Rattle.ui_machine.specs.declared.arm.Arm.TheVariants as arms
 use Rattle.ui_machine.specs.Definition.{Definition}
 use Rattle.ui_machine.specs.Definition.Lookups.{program_at}
@@ -10,34 +7,12 @@ use Rattle.ui_machine.specs.Definition.Programs.{Program}
 use Rattle.ui_machine.specs.Definition.Values.{Value}
 use Rattle.ui_machine.specs.Outcome.{Answer, known, only_if, ◌>>=◌}
 use Rattle.ui_machine.specs.Output.Lines as lines
-use Rattle.ui_machine.specs.Rules.Programs.{all_fit, beginning_program, first_frame, fits_register, place_in, program_before}
+use Rattle.ui_machine.specs.Rules.Programs.{all_fit, beginning_program, first_frame, fits_register, program_before}
 use Rattle.ui_machine.specs.State.Config.{Started, World, said, starts}
-use Rattle.ui_machine.specs.State.Objects.{Object, Objects, asked, living}
 use Rattle.ui_machine.specs.State.Tasks.{Running, Task}
 use Rattle.ui_machine.specs.Steps.{uncounted}
-
--- ** what fits
-
-pub place_shown : (os : Objects) (id place : ℕ) → asked os id (λ o. Ok o.place) ≡ Ok place → place_in os id ≡ Some place
-unfolding asked
-place_shown os id place = by (living os id) refl
-  where
-    by : (o : Option Object) → living os id ≡ o → (known arms.Operand o >>= λ x. Ok x.place) ≡ Ok place → place_in os id ≡ Some place
-    by None is h = cc h
-    by (Some x) is h = let e : x.place ≡ place = cc h in rw is (ap Some e)
-
-pub place_absent : (os : Objects) (id : ℕ) (arm : Arm) → asked os id (λ o. Ok o.place) ≡ Err arm → place_in os id ≡ None
-unfolding asked
-place_absent os id arm = by (living os id) refl
-  where
-    by : (o : Option Object) → living os id ≡ o → (known arms.Operand o >>= λ x. Ok x.place) ≡ Err arm → place_in os id ≡ None
-    by None is h = rw is refl
-    by (Some x) is h = cc h
-
--- what is so of all is so of one after the other
-pub one_by_one : {A : Type 0} (P : A → Type 0) (xs : List A) → All P xs → AllByRecursion P xs
-one_by_one P [] h = tt
-one_by_one P (x ∷ xs) h = (All-head P x xs h, one_by_one P xs (All-tail P x xs h))
+use Rattle.engine_world.specs.Able.{Able}
+use Rattle.engine_world.proofs.Ableness.{able_as, tested}
 
 -- ** how one begins
 
@@ -50,11 +25,12 @@ module _ (d : Definition) (w : World) (number : ℕ) (args : List Value) where
   begins_unknown none = ap (λ (o : Option Program). known arms.Code o >>= begun) none
 
   module _ (p : Program) (is : program_at d number ≡ Some p) where
-    pub begins_misfit : all_fit (fits_register d w.objects) args p.params ≡ false → beginning_program d w number args ≡ Err arms.Parameters
+    -- where no arm stops it, its arguments fit
+    pub begins_fit : Able (beginning_program d w number args) → all_fit (fits_register d w.objects) args p.params ≡ true
     unfolding beginning_program
-    begins_misfit misfit =
-        ap (λ (o : Option Program). known arms.Code o >>= begun) is
-        ∙ ap (λ (b : Bool). only_if b arms.Parameters (starts (said d w (lines.run p.name)) (Running (first_frame number p args) ∷ []))) misfit
+    begins_fit able =
+        tested (all_fit (fits_register d w.objects) args p.params) arms.Parameters (starts (said d w (lines.run p.name)) (Running (first_frame number p args) ∷ []))
+        (able_as (ap (λ (o : Option Program). known arms.Code o >>= begun) is) able)
 
     pub begins_program : all_fit (fits_register d w.objects) args p.params ≡ true
         → beginning_program d w number args ≡ starts (said d w (lines.run p.name)) (Running (first_frame number p args) ∷ [])

@@ -1,5 +1,5 @@
 -- What the program of a turn is given, and how it begins in front of the rest of its emission.
-use Rattle.std.proofs.Common.{◌≡◌, ◌∙◌, refl, sym, ap, subst, append_assoc, ℕ, suc, ◌+◌, ◌<◌, ◌≤◌, ◌++◌, ◌||◌, Bool, true, false, cond, not, List, [], ◌∷◌, length, map, drop, get_or, Option, None, Some, Ok, Result, arith, add-one}
+use Rattle.std.proofs.Common.{◌≡◌, ◌∙◌, refl, sym, ap, append_assoc, ℕ, suc, ◌+◌, ◌<◌, ◌≤◌, ◌++◌, ◌||◌, Bool, true, false, cond, not, List, [], ◌∷◌, length, map, drop, get_or, Option, None, Some, Ok, arith, add-one}
 use Rattle.std.proofs.Math.Seq.{drop-cons}
 use Rattle.std.proofs.lemmas.List.{append-nil, length-drop, map-append, nil_from_length}
 use Rattle.ui_machine.specs.Definition.{Definition}
@@ -11,8 +11,7 @@ use Rattle.ui_machine.specs.State.Handlers.{Handler}
 use Rattle.ui_machine.specs.Rules.Transfers.{transfer_for}
 use Rattle.ui_machine.specs.State.Bindings.{Binding, binding_of}
 use Rattle.ui_machine.specs.State.Tasks.{Emission, Emitting, PlanEntry, Task, Transferring}
-use Rattle.ui_machine.specs.declared.arm.Halt.{Halt}
-use Rattle.ui_machine.specs.Outcome.{Answer, Goes}
+use Rattle.ui_machine.specs.Outcome.{Answer}
 use Rattle.ui_machine.specs.Steps.{act, uncounted}
 use Rattle.g_values.specs.View.{value_view}
 use Rattle.g_values.specs.declared.value.Value.{Value}
@@ -118,20 +117,17 @@ module _ (d : Definition) (v : World) (rest : List Task) (n : ℕ) (w : Walk) (a
 -- the next turn, where no transfer is due
 module _ (d : Definition) (v : World) (rest : List Task) (n : ℕ) (last : ℕ) (rises : Numbered 0 v.handlers last) (w : Walk) (args : List Value) (by_event : Bool) (of : List PlanEntry) where
   -- a program's turn begins its program
-  pub takes_turn : {X : Type 0} (result : Result X Halt) (c : Config) (t : Due) → IsNext v last rises w t → is_transfers t.step.turn ≡ false
+  pub takes_turn : (t : Due) → IsNext v last rises w t → is_transfers t.step.turn ≡ false
       → (all : List PlanEntry) → all ≡ entries_due v (entries of (to_come w v.handlers))
       → (u : Walk) → u ≡ record w { stage = t.step.then_at } → (left : List PlanEntry) → left ≡ entries of (to_come u v.handlers)
-      → Goes result (uncounted (Emitting (emission_of u args by_event) left ∷ rest) n (beginning_program d v (program_of_turn t.step.turn) (given_by (emission_of u args by_event) t.step.turn))) c
-      → Goes result (act d v None (Emitting (emission_of w args by_event) all ∷ rest) n) c
-  takes_turn {X} result c t next plain all is u moved left behind goes =
+      → act d v None (Emitting (emission_of w args by_event) all ∷ rest) n
+      ≡ uncounted (Emitting (emission_of u args by_event) left ∷ rest) n (beginning_program d v (program_of_turn t.step.turn) (given_by (emission_of u args by_event) t.step.turn))
+  takes_turn t next plain all is u moved left behind =
       let first = program_first v last rises w of t next plain in
-      let here : act d v None (Emitting (emission_of w args by_event) all ∷ rest) n
-      ≡ uncounted (Emitting (emission_of u args by_event) left ∷ rest) n (beginning_program d v (program_of_turn t.step.turn) (given_by (emission_of u args by_event) t.step.turn)) =
       ap (λ (es : List PlanEntry). act d v None (Emitting (emission_of w args by_event) es ∷ rest) n) (is ∙ first.1)
       ∙ takes_entry d v rest n w args by_event (not_over v last rises w t next) t.step.then_at t.step.turn first.0 first.2 first.3 (entries of (to_come (record w { stage = t.step.then_at }) v.handlers))
       ∙ ap (λ (x : Walk). uncounted (Emitting (emission_of x args by_event) (entries of (to_come x v.handlers)) ∷ rest) n (beginning_program d v (program_of_turn t.step.turn) (given_by (emission_of x args by_event) t.step.turn))) (sym moved)
-      ∙ ap (λ (es : List PlanEntry). uncounted (Emitting (emission_of u args by_event) es ∷ rest) n (beginning_program d v (program_of_turn t.step.turn) (given_by (emission_of u args by_event) t.step.turn))) (sym behind) in
-      subst (λ (a : Answer Config). Goes result a c) (sym here) goes
+      ∙ ap (λ (es : List PlanEntry). uncounted (Emitting (emission_of u args by_event) es ∷ rest) n (beginning_program d v (program_of_turn t.step.turn) (given_by (emission_of u args by_event) t.step.turn))) (sym behind)
 
   pub turn_runs : (t : Due) → IsNext v last rises w t → is_transfers t.step.turn ≡ false → RunsProgram t.step.turn
   turn_runs t next plain = let first = program_first v last rises w of t next plain in runs_program v.handlers t.step.turn t.step.then_at first.0 first.2

@@ -1,17 +1,16 @@
 //! The bindings of the definition: they are made once all objects are there (GTK manual, GtkBuilder: the attribute `bind-source`).
 
-ghost use Rattle.std.specs.Prelude.{◌≡◌, ◌||◌, ◌++◌, ℕ, false, option_map, string_bytes, IfOk, OnOk, OnErr};
+ghost use Rattle.std.specs.Prelude.{◌≡◌, ◌||◌, ◌++◌, ℕ, Ok, false, option_map, string_bytes, IfOk, OnOk, OnErr};
 ghost use Rattle.ui_machine.specs.Definition as machine;
-ghost use Rattle.ui_machine.specs.Outcome.{Goes};
 ghost use Rattle.ui_machine.specs.Rules.Build.{building, first_transfer, new_binding, with_binding};
 ghost use Rattle.ui_machine.specs.Rules.Sets.{is_disposed};
 ghost use Rattle.ui_machine.specs.State.Objects.{living};
 ghost use Rattle.ui_machine.specs.Steps.{uncounted};
 ghost use Rattle.bindings.specs.Made.{binding_of};
 ghost use Rattle.definition_format.specs.Meaning.{bind_view};
-ghost use Rattle.instance_tables.specs.Store.{Shows};
 ghost use Rattle.engine_world.specs.Counting.{Connects, KeepsCounts};
 ghost use Rattle.engine_world.specs.EngineView.{config_of};
+ghost use Rattle.engine_world.specs.Able.{Able, Leads};
 ghost use Rattle.engine_world.specs.Quiet.{IsQuiet};
 ghost use Rattle.engine_world.specs.TaskView.{agenda_of, binds_from};
 ghost use Rattle.engine_world.specs.View.{world_of};
@@ -29,7 +28,7 @@ use engine_world::references::push_task;
 use engine_world::task::Task;
 use instance_tables::Table;
 use std::alloc::{AllocError, Global};
-use ui_machine::{Arm, Halt, ObjectId};
+use ui_machine::ObjectId;
 
 /// The objects that a binding is between.
 #[derive(Clone, Copy, Debug)]
@@ -39,12 +38,13 @@ struct Ends {
 }
 
 // The objects that the builder has for a binding of the definition.
-fn ends_of(engine: &Engine, bind: &Bind) -> Result<Ends, Arm>
-    ensures { Shows ends_of result (ends_at (world_of engine.now.world) (bind_view bind.now)) }
+fn ends_of(engine: &Engine, bind: &Bind) -> Ends
+    requires able { Able (ends_at (world_of engine.now.world) (bind_view bind.now)) }
+    ensures { ends_at (world_of engine.now.world) (bind_view bind.now) ≡ Ok (ends_of result) }
 {
-    let source = held_object(engine, bind.source)?;
-    let target = held_object(engine, bind.target)?;
-    Ok(Ends { source, target })
+    let source = held_object(engine, bind.source);
+    let target = held_object(engine, bind.target);
+    Ends { source, target }
 }
 
 // Whether one of them is disposed.
@@ -127,15 +127,16 @@ fn bind(
 ///
 /// # Errors
 ///
-/// `Halt::OutOfMemory` if memory is refused, and `Halt::Stuck` where the machine is stuck here.
+/// `AllocError` if no memory is found.
 #[tactic(auto, unfolding(ui_machine::specs::Rules::Build::building_binding))]
 pub fn bind_from_build(
     engine: &mut Engine,
     definition: &Definition,
     number: usize,
-) -> Result<(), Halt>
+) -> Result<(), AllocError>
+    requires able { Able (uncounted (agenda_of definition.now engine.now) engine.now.counted (building definition.now (world_of engine.now.world) (binds_from definition.now number))) }
     requires connects { Connects definition.now engine.now }
-    ensures step { Goes result
+    ensures step { Leads result
         (uncounted (agenda_of definition.now engine.old) engine.old.counted (building definition.now (world_of engine.old.world) (binds_from definition.now number)))
         (config_of definition.now engine.new) }
     ensures quiet { OnErr result (IsQuiet (world_of engine.old.world) (world_of engine.new.world)) }
@@ -145,9 +146,9 @@ pub fn bind_from_build(
         return connect_from_build(engine, definition, FIRST_PLACE, 0);
     }
     let Some(meant) = definition.binding(number) else {
-        return Err(Halt::Stuck(Arm::Code));
+        unreachable!()
     };
-    let ends = ends_of(engine, meant)?;
+    let ends = ends_of(engine, meant);
     let is_late = is_any_disposed(&engine.world.table, ends);
     push_task(engine, Task::Binding { number: number + 1 })?;
     if is_late {

@@ -1,7 +1,6 @@
 //! The build: how objects are made one after the other, and how their construction goes on and ends.
 
 ghost use Rattle.std.specs.Prelude.{◌≡◌, ◌<◌, List, true, ℕ, Some, [], ◌∷◌, IfSome, OnOk, OnErr, length};
-ghost use Rattle.ui_machine.specs.Outcome.{Goes};
 ghost use Rattle.ui_machine.specs.Definition.Values as machine_values;
 ghost use Rattle.ui_machine.specs.Rules.Programs.{program_before};
 ghost use Rattle.ui_machine.specs.Definition as definition;
@@ -13,6 +12,7 @@ ghost use Rattle.ui_machine.specs.Steps.{uncounted};
 ghost use Rattle.ui_machine.specs.Rules.Build.{building};
 ghost use Rattle.g_values.specs.View.{value_view};
 ghost use Rattle.definition_format.specs.Meaning.{object_count};
+ghost use Rattle.engine_world.specs.Able.{Able, Leads};
 ghost use Rattle.engine_world.specs.Quiet.{IsQuiet};
 ghost use Rattle.engine_world.specs.View.{world_of};
 ghost use Rattle.engine_world.specs.TaskView.{task_of, agenda_of, build_from, build_behind};
@@ -28,16 +28,21 @@ use engine_world::given::object_value;
 use engine_world::object_peers::own_peer;
 use engine_world::objects::{begin_construction, make};
 use engine_world::places::{entry_at, is_object, next_place};
-use engine_world::properties::spec_of;
 use engine_world::references::{hold_any, push_task};
 use engine_world::task::{ConstructStep, ConstructSteps, ForwardReferences, Slots, Task};
 use g_values::Value;
-use ui_machine::{Arm, Halt, ObjectId, Place, ProgramId, Slot};
+use std::alloc::AllocError;
+use ui_machine::{ObjectId, Place, ProgramId, Slot};
 
 // The builder holds an object that it has made, which no longer floats.
 #[tactic(auto, unfolding(ui_machine::specs::Rules::Construction::constructed))]
-fn hold_made(engine: &mut Engine, definition: &Definition, object: ObjectId) -> Result<(), Halt>
-    ensures step { Goes result
+fn hold_made(
+    engine: &mut Engine,
+    definition: &Definition,
+    object: ObjectId,
+) -> Result<(), AllocError>
+    requires able { Able (uncounted (agenda_of definition.now engine.now) engine.now.counted (constructed (world_of engine.now.world) object.0 true)) }
+    ensures step { Leads result
         (uncounted (agenda_of definition.now engine.old) engine.old.counted (constructed (world_of engine.old.world) object.0 true))
         (config_of definition.now engine.new) }
     ensures quiet { OnErr result (IsQuiet (world_of engine.old.world) (world_of engine.new.world)) }
@@ -45,10 +50,9 @@ fn hold_made(engine: &mut Engine, definition: &Definition, object: ObjectId) -> 
 {
     // For the proof: the clauses speak of the definition.
     let _ = definition;
-    let place = engine.world.table.place_of(object)?;
-    if !engine.world.held(place).is_unbuilt() {
-        return Err(Halt::Stuck(Arm::Code));
-    }
+    let Ok(place) = engine.world.table.place_of(object) else {
+        unreachable!()
+    };
     set_builder_entry(
         &mut engine.world.builder,
         place,
@@ -66,8 +70,9 @@ fn end_construction(
     definition: &Definition,
     object: ObjectId,
     held: bool,
-) -> Result<(), Halt>
-    ensures step { Goes result
+) -> Result<(), AllocError>
+    requires able { Able (uncounted (agenda_of definition.now engine.now) engine.now.counted (constructed (world_of engine.now.world) object.0 held)) }
+    ensures step { Leads result
         (uncounted (agenda_of definition.now engine.old) engine.old.counted (constructed (world_of engine.old.world) object.0 held))
         (config_of definition.now engine.new) }
     ensures quiet { OnErr result (IsQuiet (world_of engine.old.world) (world_of engine.new.world)) }
@@ -87,8 +92,9 @@ fn thaw_constructed(
     object: ObjectId,
     steps: ConstructSteps,
     held: bool,
-) -> Result<(), Halt>
-    ensures step { Goes result
+) -> Result<(), AllocError>
+    requires able { Able (uncounted (agenda_of definition.now engine.now) engine.now.counted (thawing_made (world_of engine.now.world) object.0 steps held)) }
+    ensures step { Leads result
         (uncounted (agenda_of definition.now engine.old) engine.old.counted (thawing_made (world_of engine.old.world) object.0 steps held))
         (config_of definition.now engine.new) }
     ensures quiet { OnErr result (IsQuiet (world_of engine.old.world) (world_of engine.new.world)) }
@@ -96,7 +102,9 @@ fn thaw_constructed(
 {
     // For the proof: the clauses speak of the definition.
     let _ = definition;
-    let slots = engine.world.table.thaw(object)?;
+    let Ok(slots) = engine.world.table.thaw(object) else {
+        unreachable!()
+    };
     push_task(
         engine,
         Task::Constructing {
@@ -125,17 +133,16 @@ fn apply_construct_property(
     value: Value,
     steps: ConstructSteps,
     held: bool,
-) -> Result<(), Halt>
-    ensures step { Goes result
+) -> Result<(), AllocError>
+    requires able { Able (uncounted (agenda_of definition.now engine.now) engine.now.counted (apply_construct_property definition.now (world_of engine.now.world) object.0 slot (value_view value) (Constructing object.0 steps held ∷ []))) }
+    ensures step { Leads result
         (uncounted (agenda_of definition.now engine.old) engine.old.counted (apply_construct_property definition.now (world_of engine.old.world) object.0 slot (value_view value) (Constructing object.0 steps held ∷ [])))
         (config_of definition.now engine.new) }
     ensures quiet { OnErr result (IsQuiet (world_of engine.old.world) (world_of engine.new.world)) }
     ensures counted { OnOk result (KeepsCounts definition.now engine.old engine.new) }
 {
-    let spec = spec_of(engine, definition, object, slot)?;
-    if !spec.is_writable() {
-        return Err(Halt::Stuck(Arm::Flags));
-    }
+    // For the proof: the clauses speak of the definition.
+    let _ = definition;
     push_task(
         engine,
         Task::Constructing {
@@ -163,8 +170,9 @@ fn run_constructed(
     program: ProgramId,
     steps: ConstructSteps,
     held: bool,
-) -> Result<(), Halt>
-    ensures step { Goes result
+) -> Result<(), AllocError>
+    requires able { Able (uncounted (agenda_of definition.now engine.now) engine.now.counted (program_before definition.now (world_of engine.now.world) program (machine_values.object (Some object.0) ∷ []) (Constructing object.0 steps held ∷ []))) }
+    ensures step { Leads result
         (uncounted (agenda_of definition.now engine.old) engine.old.counted (program_before definition.now (world_of engine.old.world) program (machine_values.object (Some object.0) ∷ []) (Constructing object.0 steps held ∷ [])))
         (config_of definition.now engine.new) }
     ensures quiet { OnErr result (IsQuiet (world_of engine.old.world) (world_of engine.new.world)) }
@@ -187,15 +195,16 @@ fn run_constructed(
 ///
 /// # Errors
 ///
-/// `Halt::OutOfMemory` if memory is refused, and `Halt::Stuck` where the machine is stuck here.
+/// `AllocError` if no memory is found.
 pub fn construct(
     engine: &mut Engine,
     definition: &Definition,
     object: ObjectId,
     mut steps: ConstructSteps,
     held: bool,
-) -> Result<(), Halt>
-    ensures step { Goes result
+) -> Result<(), AllocError>
+    requires able { Able (uncounted (agenda_of definition.now engine.now) engine.now.counted (constructing definition.now (world_of engine.now.world) object.0 steps held)) }
+    ensures step { Leads result
         (uncounted (agenda_of definition.now engine.old) engine.old.counted (constructing definition.now (world_of engine.old.world) object.0 steps held))
         (config_of definition.now engine.new) }
     ensures quiet { OnErr result (IsQuiet (world_of engine.old.world) (world_of engine.new.world)) }
@@ -226,9 +235,10 @@ fn make_from_build(
     definition: &Definition,
     place: Place,
     peer: Option<usize>,
-) -> Result<(), Halt>
+) -> Result<(), AllocError>
+    requires able { Able (uncounted (agenda_of definition.now engine.now) engine.now.counted (making definition.now (world_of engine.now.world) place.0 peer true)) }
     requires peer { IfSome peer (λ number. number < length engine.now.world.seats) }
-    ensures step { Goes result
+    ensures step { Leads result
         (uncounted (agenda_of definition.now engine.old) engine.old.counted (making definition.now (world_of engine.old.world) place.0 peer true))
         (config_of definition.now engine.new) }
     ensures quiet { OnErr result (IsQuiet (world_of engine.old.world) (world_of engine.new.world)) }
@@ -243,16 +253,17 @@ fn make_from_build(
 ///
 /// # Errors
 ///
-/// `Halt::OutOfMemory` if memory is refused, and `Halt::Stuck` where the machine is stuck here.
+/// `AllocError` if no memory is found.
 #[tactic(auto, unfolding(ui_machine::specs::Rules::Build::building_object))]
 pub fn build(
     engine: &mut Engine,
     definition: &Definition,
     place: Place,
     forwards: ForwardReferences,
-) -> Result<(), Halt>
+) -> Result<(), AllocError>
+    requires able { Able (uncounted (agenda_of definition.now engine.now) engine.now.counted (building definition.now (world_of engine.now.world) (build_from definition.now place.0 forwards))) }
     requires connects { Connects definition.now engine.now }
-    ensures step { Goes result
+    ensures step { Leads result
         (uncounted (agenda_of definition.now engine.old) engine.old.counted (building definition.now (world_of engine.old.world) (build_from definition.now place.0 forwards)))
         (config_of definition.now engine.new) }
     ensures quiet { OnErr result (IsQuiet (world_of engine.old.world) (world_of engine.new.world)) }
@@ -263,7 +274,7 @@ pub fn build(
     if !is_object(definition, place) {
         return set_forward_reference(engine, definition, place, forwards);
     }
-    let peer = own_peer(engine, definition, place)?;
+    let peer = own_peer(engine, definition, place);
     push_task(engine, behind(definition, place, forwards))?;
     make_from_build(engine, definition, place, peer)
 }

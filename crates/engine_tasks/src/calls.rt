@@ -1,11 +1,11 @@
 //! Calls of peers: what is asked of one that is open, and what comes of its answer. A peer that is closed is not called.
 
-ghost use Rattle.std.specs.Prelude.{◌≡◌, List, None, Option, Some, IfSome, OnErr, OnOk, false, option_map, string_bytes};
+ghost use Rattle.std.specs.Prelude.{◌≡◌, List, None, Ok, Option, Some, IfOk, IfSome, OnErr, OnOk, false, option_map, string_bytes};
 ghost use Rattle.ui_machine.specs.Definition as machine;
 ghost use Rattle.ui_machine.specs.Definition.Types.{GType};
 ghost use Rattle.ui_machine.specs.Instructions.Peers.{calling_on, left_with};
 ghost use Rattle.ui_machine.specs.declared.arm.Arm.TheVariants as arms;
-ghost use Rattle.ui_machine.specs.Outcome.{Goes, known};
+ghost use Rattle.ui_machine.specs.Outcome.{known};
 ghost use Rattle.ui_machine.specs.State.Config.{is_asked};
 ghost use Rattle.ui_machine.specs.State.Peers.{Reply};
 ghost use Rattle.ui_machine.specs.State.References.{in_task, same};
@@ -14,7 +14,7 @@ ghost use Rattle.ui_machine.specs.Steps.{asked_first, left};
 ghost use Rattle.g_values.specs.View.{value_view};
 ghost use Rattle.engine_world.specs.Counting.{Counts};
 ghost use Rattle.engine_world.specs.EngineView.{config_of};
-ghost use Rattle.engine_world.specs.GivenView.{Finds};
+ghost use Rattle.engine_world.specs.Able.{Able, Leads};
 ghost use Rattle.engine_world.specs.Quiet.{IsQuiet};
 ghost use Rattle.engine_world.specs.SeatView.{HasKnownKinds};
 ghost use Rattle.engine_world.specs.TaskView.{agenda_of, call_of};
@@ -27,9 +27,10 @@ use engine_world::lines::Line;
 use engine_world::program_frames::pass_answer;
 use engine_world::references::let_go_values;
 use engine_world::task::{DueCall, Task};
+use engine_world::unstuck::rule_out_stuck;
 use g_values::{Value, zero_of};
 use peer_shapes::MethodRef;
-use ui_machine::{Arm, Halt};
+use std::alloc::AllocError;
 
 /// What is asked of an open peer: a method of its shape, by number, with arguments.
 #[derive(Clone, Copy)]
@@ -107,11 +108,12 @@ fn answered<'a>(
     definition: &Definition,
     call: &'a DueCall,
     answer: Option<Value>,
-) -> Result<Conclusion, Halt>
-    ensures { Finds conclusion_view result (answered definition.now (world_of engine.now.world) (call_of call.now) (option_map value_view answer)) }
+) -> Result<Conclusion, AllocError>
+    requires able { Able (answered definition.now (world_of engine.now.world) (call_of call.now) (option_map value_view answer)) }
+    ensures { IfOk result (λ c. answered definition.now (world_of engine.now.world) (call_of call.now) (option_map value_view answer) ≡ Ok (conclusion_view c)) }
 {
     let Some(called) = method_called(engine, call) else {
-        return Err(Halt::Stuck(Arm::Call));
+        unreachable!()
     };
     let types = definition.types();
     match answer {
@@ -143,11 +145,12 @@ fn unanswered<'a>(
     engine: &'a Engine,
     definition: &Definition,
     call: &'a DueCall,
-) -> Result<Conclusion, Halt>
-    ensures { Finds conclusion_view result (unanswered definition.now (world_of engine.now.world) (call_of call.now)) }
+) -> Result<Conclusion, AllocError>
+    requires able { Able (unanswered definition.now (world_of engine.now.world) (call_of call.now)) }
+    ensures { IfOk result (λ c. unanswered definition.now (world_of engine.now.world) (call_of call.now) ≡ Ok (conclusion_view c)) }
 {
     let Some(called) = method_called(engine, call) else {
-        return Err(Halt::Stuck(Arm::Call));
+        unreachable!()
     };
     let types = definition.types();
     let told = Line::Closed {
@@ -166,9 +169,10 @@ fn conclude(
     definition: &Definition,
     call: DueCall,
     conclusion: Conclusion,
-) -> Result<(), Halt>
+) -> Result<(), AllocError>
+    requires able { Able (left engine.now.counted (left_with (with_line (string_bytes conclusion.line) (world_of engine.now.world)) (agenda_of definition.now engine.now) call.to.0 (value_view conclusion.value))) }
     requires counted { Counts definition.now (λ o. in_task o (Calling (call_of call))) engine.now }
-    ensures step { Goes result
+    ensures step { Leads result
         (left engine.old.counted (left_with (with_line (string_bytes conclusion.line) (world_of engine.old.world)) (agenda_of definition.now engine.old) call.to.0 (value_view conclusion.value)))
         (config_of definition.now engine.new) }
     ensures quiet { OnErr result (IsQuiet (world_of engine.old.world) (world_of engine.new.world)) }
@@ -186,15 +190,17 @@ fn conclude(
 ///
 /// # Errors
 ///
-/// `Halt::OutOfMemory` if memory is refused, and `Halt::Stuck` where the machine is stuck here.
+/// `AllocError` if no memory is found.
 pub fn answer(
     engine: &mut Engine,
     definition: &Definition,
     call: DueCall,
     answer: Option<Value>,
-) -> Result<(), Halt>
+) -> Result<(), AllocError>
+    requires able { Able (left engine.now.counted (calling_on definition.now (world_of engine.now.world) (call_of call) (agenda_of definition.now engine.now)
+        (Some (reply_of (world_of engine.now.world) (call_of call) (option_map value_view answer))))) }
     requires counted { Counts definition.now (λ o. in_task o (Calling (call_of call))) engine.now }
-    ensures step { Goes result
+    ensures step { Leads result
         (left engine.old.counted (calling_on definition.now (world_of engine.old.world) (call_of call) (agenda_of definition.now engine.old)
         (Some (reply_of (world_of engine.old.world) (call_of call) (option_map value_view answer)))))
         (config_of definition.now engine.new) }
@@ -212,21 +218,23 @@ pub fn answer(
 ///
 /// # Errors
 ///
-/// `Halt::OutOfMemory` if memory is refused, and `Halt::Stuck` where the machine is stuck here.
-pub fn pass_over(engine: &mut Engine, definition: &Definition, call: DueCall) -> Result<(), Halt>
+/// `AllocError` if no memory is found.
+pub fn pass_over(
+    engine: &mut Engine,
+    definition: &Definition,
+    call: DueCall,
+) -> Result<(), AllocError>
+    requires able { Able (left engine.now.counted (calling_on definition.now (world_of engine.now.world) (call_of call) (agenda_of definition.now engine.now) None)) }
     requires counted { Counts definition.now (λ o. in_task o (Calling (call_of call))) engine.now }
-    ensures step { Goes result
+    ensures step { Leads result
         (left engine.old.counted (calling_on definition.now (world_of engine.old.world) (call_of call) (agenda_of definition.now engine.old) None))
         (config_of definition.now engine.new) }
-    ensures closed { is_asked (world_of engine.old.world) call.peer ≡ false → (reply : Option Reply) → Goes result
+    ensures closed { is_asked (world_of engine.old.world) call.peer ≡ false → (reply : Option Reply) → Leads result
         (left engine.old.counted (calling_on definition.now (world_of engine.old.world) (call_of call) (agenda_of definition.now engine.old) reply))
         (config_of definition.now engine.new) }
     ensures quiet { OnErr result (IsQuiet (world_of engine.old.world) (world_of engine.new.world)) }
     ensures counted { OnOk result (Counts definition.now (λ o. same o call.object.0) engine.new) }
 {
-    if is_asked(engine, call.peer) {
-        return Err(Halt::Stuck(Arm::Call));
-    }
     let conclusion = unanswered(engine, definition, &call)?;
     conclude(engine, definition, call, conclusion)
 }

@@ -1,10 +1,9 @@
 //! Children: an object that the build has made becomes its parent's child.
 
-ghost use Rattle.std.specs.Prelude.{suc, OnOk, OnErr};
-ghost use Rattle.ui_machine.specs.Outcome.{Goes};
+ghost use Rattle.std.specs.Prelude.{◌≡◌, Ok, suc, OnOk, OnErr};
 ghost use Rattle.ui_machine.specs.Steps.{uncounted};
 ghost use Rattle.ui_machine.specs.Rules.Build.{building_child};
-ghost use Rattle.instance_tables.specs.Store.{Shows};
+ghost use Rattle.engine_world.specs.Able.{Able, Leads};
 ghost use Rattle.engine_world.specs.Quiet.{IsQuiet};
 ghost use Rattle.engine_world.specs.View.{world_of};
 ghost use Rattle.engine_world.specs.KinView.{kin_of, kin_at};
@@ -16,38 +15,41 @@ use definitions::Definition;
 use engine_world::children::{Kin, join};
 use engine_world::engine::Engine;
 use engine_world::given::held_object;
-use engine_world::places::{entry_at, is_object, next_place};
+use engine_world::places::{entry_at, next_place};
 use engine_world::references::push_task;
 use engine_world::task::{ForwardReferences, Task};
-use ui_machine::{Arm, Halt, Place};
+use std::alloc::AllocError;
+use ui_machine::Place;
 
 // What the builder holds of a place and of its parent's.
-fn kin_at(engine: &Engine, definition: &Definition, place: Place) -> Result<Kin, Arm>
-    ensures { Shows kin_of result (kin_at definition.now (world_of engine.now.world) place.0) }
+fn kin_at(engine: &Engine, definition: &Definition, place: Place) -> Kin
+    requires able { Able (kin_at definition.now (world_of engine.now.world) place.0) }
+    ensures { kin_at definition.now (world_of engine.now.world) place.0 ≡ Ok (kin_of result) }
 {
     let Some(entry) = entry_at(definition, place) else {
-        return Err(Arm::Code);
+        unreachable!()
     };
     let Some(above) = entry.parent else {
-        return Err(Arm::Code);
+        unreachable!()
     };
-    let parent = held_object(engine, above)?;
-    let child = held_object(engine, place)?;
-    Ok(Kin { parent, child })
+    let parent = held_object(engine, above);
+    let child = held_object(engine, place);
+    Kin { parent, child }
 }
 
 /// The object at a place becomes its parent's child, and then the build goes on behind it.
 ///
 /// # Errors
 ///
-/// `Halt::OutOfMemory` if memory is refused, and `Halt::Stuck` where the machine is stuck here.
+/// `AllocError` if no memory is found.
 pub fn adopt_from_build(
     engine: &mut Engine,
     definition: &Definition,
     place: Place,
     forwards: ForwardReferences,
-) -> Result<(), Halt>
-    ensures step { Goes result
+) -> Result<(), AllocError>
+    requires able { Able (uncounted (agenda_of definition.now engine.now) engine.now.counted (building_child definition.now (world_of engine.now.world) place.0 (build_from definition.now (suc place.0) forwards))) }
+    ensures step { Leads result
         (uncounted (agenda_of definition.now engine.old) engine.old.counted (building_child definition.now (world_of engine.old.world) place.0 (build_from definition.now (suc place.0) forwards)))
         (config_of definition.now engine.new) }
     ensures quiet { OnErr result (IsQuiet (world_of engine.old.world) (world_of engine.new.world)) }
@@ -55,10 +57,7 @@ pub fn adopt_from_build(
 {
     // For the proof: what is known of a definition's places.
     let _types = definition.types();
-    if !is_object(definition, place) {
-        return Err(Halt::Stuck(Arm::Code));
-    }
-    let kin = kin_at(engine, definition, place)?;
+    let kin = kin_at(engine, definition, place);
     push_task(
         engine,
         Task::Building {

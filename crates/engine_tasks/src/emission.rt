@@ -3,7 +3,6 @@
 ghost use Rattle.std.specs.Prelude.{◌≡◌, ◌≤◌, ◌+◌, ◌∷◌, [], ℕ, None, map, option_map, string_bytes, true, IfSome, IfOk, MatchOption, OnOk, OnErr};
 ghost use Rattle.ui_machine.specs.Definition as machine;
 ghost use Rattle.ui_machine.specs.Seq.{total};
-ghost use Rattle.ui_machine.specs.Outcome.{Goes};
 ghost use Rattle.ui_machine.specs.Output.Lines as lines;
 ghost use Rattle.ui_machine.specs.Output.Text.{text_of_line};
 ghost use Rattle.ui_machine.specs.Rules.Accumulation.{ending, result_of, told};
@@ -18,6 +17,7 @@ ghost use Rattle.signal_core.specs.Emission.{begun};
 ghost use Rattle.signal_core.specs.declared.stage.Stage.TheVariants as stages;
 ghost use Rattle.g_values.specs.View.{kind_view, value_view};
 ghost use Rattle.definition_format.specs.Meaning.{IsKnownKind};
+ghost use Rattle.engine_world.specs.Able.{Able, Leads};
 ghost use Rattle.engine_world.specs.Quiet.{IsQuiet};
 ghost use Rattle.engine_world.specs.View.{world_of, with_line};
 ghost use Rattle.engine_world.specs.KnownHandlers.{EndsWithoutTransfers};
@@ -33,7 +33,7 @@ use crate::programs::begin_program;
 use crate::turns::Invocation;
 use bindings::{Bindings, DueTransfer};
 use definitions::Definition;
-use engine_world::arguments::{all_fit, as_text};
+use engine_world::arguments::as_text;
 use engine_world::counted_steps::count;
 use engine_world::engine::Engine;
 use engine_world::lines::Line;
@@ -44,7 +44,6 @@ use g_values::{Kind, Value, zero_of};
 use signal_core::{Cursor, Emission, Turn};
 use std::alloc::{AllocError, Global};
 use type_tree::TypeTree;
-use ui_machine::{Arm, Halt};
 
 // What an emission results in: the value that it has accumulated, or else the zero value of the kind.
 fn result_of(definition: &Definition, kind: Option<Kind>, value: Option<Value>) -> Option<Value>
@@ -161,15 +160,16 @@ pub(crate) fn start_emission(
 ///
 /// # Errors
 ///
-/// `Halt::OutOfMemory` if memory is refused, and `Halt::Stuck` where the machine is stuck here.
+/// `AllocError` if no memory is found.
 #[tactic(auto, unfolding(ui_machine::specs::Rules::EmissionPlan::beginning_emission))]
 pub fn begin_emission(
     engine: &mut Engine,
     definition: &Definition,
     emission: NewEmission,
-) -> Result<(), Halt>
+) -> Result<(), AllocError>
+    requires able { Able (counted (agenda_of definition.now engine.now) engine.now.counted (beginning_emission definition.now (world_of engine.now.world) (new_of emission))) }
     requires counted { Counts definition.now (λ o. in_task o (Beginning (new_of emission))) engine.now }
-    ensures step { Goes result
+    ensures step { Leads result
         (counted (agenda_of definition.now engine.old) engine.old.counted (beginning_emission definition.now (world_of engine.old.world) (new_of emission)))
         (config_of definition.now engine.new) }
     ensures quiet { OnErr result (IsQuiet (world_of engine.old.world) (world_of engine.new.world)) }
@@ -177,16 +177,14 @@ pub fn begin_emission(
 {
     // For the proof: what is known of the numbers of handlers.
     let _last = engine.world.handlers.last();
-    count(engine)?;
+    count(engine);
     let types = definition.types();
-    let class = engine.world.table.class_of(emission.object)?;
-    let Some(declared) = definition.signal(class, emission.signal) else {
-        return Err(Halt::Stuck(Arm::Code));
+    let Ok(class) = engine.world.table.class_of(emission.object) else {
+        unreachable!()
     };
-    let args = emission.args.as_slice();
-    if !all_fit(&engine.world.table, types, args, declared.params) {
-        return Err(Halt::Stuck(Arm::Argument));
-    }
+    let Some(declared) = definition.signal(class, emission.signal) else {
+        unreachable!()
+    };
     let line = emission_line(engine.alloc, types, &emission, declared.name)?;
     let NewEmission {
         object,
@@ -196,7 +194,7 @@ pub fn begin_emission(
         by_event,
     } = emission;
     let Some(planned) = definition.emission(class, object, signal, detail) else {
-        return Err(Halt::Stuck(Arm::Code));
+        unreachable!()
     };
     let transfers = Transfers::new(engine.alloc);
     start_emission(engine, planned, args, by_event, transfers, line)?;
@@ -251,9 +249,10 @@ fn end_emission(
     cursor: Cursor,
     args: Vec<Value>,
     by_event: bool,
-) -> Result<(), Halt>
+) -> Result<(), AllocError>
+    requires able { Able (left engine.now.counted (ending definition.now (world_of engine.now.world) (emission_of cursor args.items by_event) (agenda_of definition.now engine.now))) }
     requires counted { Counts definition.now (λ o. same o cursor.object + in_emitted o (emission_of cursor args.items by_event)) engine.now }
-    ensures step { Goes result
+    ensures step { Leads result
         (left engine.old.counted (ending definition.now (world_of engine.old.world) (emission_of cursor args.items by_event) (agenda_of definition.now engine.old)))
         (config_of definition.now engine.new) }
     ensures quiet { OnErr result (IsQuiet (world_of engine.old.world) (world_of engine.new.world)) }
@@ -263,9 +262,11 @@ fn end_emission(
     let _types = definition.types();
     let object = cursor.object();
     let number = cursor.signal();
-    let class = engine.world.table.class_of(object)?;
+    let Ok(class) = engine.world.table.class_of(object) else {
+        unreachable!()
+    };
     let Some(signal) = definition.signal(class, number) else {
-        return Err(Halt::Stuck(Arm::Code));
+        unreachable!()
     };
     let held = accumulated(&cursor);
     let value = result_of(definition, signal.result, cursor.value());
@@ -285,12 +286,14 @@ fn take_turn(
     args: Vec<Value>,
     by_event: bool,
     transfers: Transfers,
-) -> Result<(), Halt>
+) -> Result<(), AllocError>
+    requires able { Able (uncounted (Emitting (emission_of cursor args.items by_event) (entries_to_come cursor engine.now.world.handlers.handlers transfers) ∷ agenda_of definition.now engine.now) engine.now.counted
+        (beginning_program definition.now (world_of engine.now.world) (program_of_turn turn) (given_by (emission_of cursor args.items by_event) turn))) }
     requires runs { RunsProgram turn }
     requires begun { cursor.greatest ≤ engine.now.world.handlers.last }
     requires ends { EndsWithoutTransfers cursor transfers }
     requires counted { Counts definition.now (λ o. same o cursor.object + in_emitted o (emission_of cursor args.items by_event)) engine.now }
-    ensures step { Goes result
+    ensures step { Leads result
         (uncounted (Emitting (emission_of cursor args.items by_event) (entries_to_come cursor engine.old.world.handlers.handlers transfers) ∷ agenda_of definition.now engine.old) engine.old.counted
         (beginning_program definition.now (world_of engine.old.world) (program_of_turn turn) (given_by (emission_of cursor args.items by_event) turn)))
         (config_of definition.now engine.new) }
@@ -312,12 +315,14 @@ fn take_transfer(
     args: Vec<Value>,
     by_event: bool,
     transfers: Transfers,
-) -> Result<(), Halt>
+) -> Result<(), AllocError>
+    requires able { Able (act definition.now (world_of engine.now.world) None
+        (Emitting (emission_of cursor args.items by_event) (entry_of due ∷ entries_to_come cursor engine.now.world.handlers.handlers transfers) ∷ agenda_of definition.now engine.now) engine.now.counted) }
     requires free { is_free (binding_of due.number engine.now.world.bindings.bindings) ≡ true }
     requires begun { cursor.greatest ≤ engine.now.world.handlers.last }
     requires ends { EndsWithoutTransfers cursor transfers }
     requires counted { Counts definition.now (λ o. same o cursor.object + in_emitted o (emission_of cursor args.items by_event)) engine.now }
-    ensures step { Goes result
+    ensures step { Leads result
         (act definition.now (world_of engine.old.world) None
         (Emitting (emission_of cursor args.items by_event) (entry_of due ∷ entries_to_come cursor engine.old.world.handlers.handlers transfers) ∷ agenda_of definition.now engine.old) engine.old.counted)
         (config_of definition.now engine.new) }
@@ -346,12 +351,14 @@ fn emit_transfers(
     args: Vec<Value>,
     by_event: bool,
     mut transfers: Transfers,
-) -> Result<(), Halt>
+) -> Result<(), AllocError>
+    requires able { Able (act definition.now (world_of engine.now.world) None
+        (Emitting (emission_of cursor args.items by_event) (entries_due (world_of engine.now.world) (entries_to_come cursor engine.now.world.handlers.handlers transfers)) ∷ agenda_of definition.now engine.now) engine.now.counted) }
     requires behind { cursor.stage ≡ stages.Before 0 }
     requires later { due_later transfers ≡ [] }
     requires begun { cursor.greatest ≤ engine.now.world.handlers.last }
     requires counted { Counts definition.now (λ o. same o cursor.object + in_emitted o (emission_of cursor args.items by_event)) engine.now }
-    ensures step { Goes result
+    ensures step { Leads result
         (act definition.now (world_of engine.old.world) None
         (Emitting (emission_of cursor args.items by_event) (entries_due (world_of engine.old.world) (entries_to_come cursor engine.old.world.handlers.handlers transfers)) ∷ agenda_of definition.now engine.old) engine.old.counted)
         (config_of definition.now engine.new) }
@@ -373,7 +380,7 @@ fn emit_transfers(
 ///
 /// # Errors
 ///
-/// `Halt::OutOfMemory` if memory is refused, and `Halt::Stuck` where the machine is stuck here.
+/// `AllocError` if no memory is found.
 pub fn emit(
     engine: &mut Engine,
     definition: &Definition,
@@ -381,11 +388,14 @@ pub fn emit(
     args: Vec<Value>,
     by_event: bool,
     mut transfers: Transfers,
-) -> Result<(), Halt>
+) -> Result<(), AllocError>
+    requires able { Able (act definition.now (world_of engine.now.world) None
+        (past_turns (world_of engine.now.world) (Emitting (emission_of cursor args.items by_event) (entries_to_come cursor engine.now.world.handlers.handlers transfers))
+        ∷ agenda_of definition.now engine.now) engine.now.counted) }
     requires begun { cursor.greatest ≤ engine.now.world.handlers.last }
     requires ends { EndsWithoutTransfers cursor transfers }
     requires counted { Counts definition.now (λ o. same o cursor.object + in_emitted o (emission_of cursor args.items by_event)) engine.now }
-    ensures step { Goes result
+    ensures step { Leads result
         (act definition.now (world_of engine.old.world) None
         (past_turns (world_of engine.old.world) (Emitting (emission_of cursor args.items by_event) (entries_to_come cursor engine.old.world.handlers.handlers transfers))
         ∷ agenda_of definition.now engine.old) engine.old.counted)

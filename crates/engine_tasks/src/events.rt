@@ -1,10 +1,10 @@
 //! What events do.
 
 ghost use Rattle.std.specs.Prelude.{map, option_map, OnOk, OnErr};
-ghost use Rattle.ui_machine.specs.Outcome.{Goes};
 ghost use Rattle.ui_machine.specs.Steps.{uncounted};
 ghost use Rattle.ui_machine.specs.Rules.Events.{request_step, set_from_event, get_from_event, emit_from_event, release_from_event};
 ghost use Rattle.definition_format.specs.Meaning.{given_view, request_of};
+ghost use Rattle.engine_world.specs.Able.{Able, Leads};
 ghost use Rattle.engine_world.specs.Quiet.{IsQuiet};
 ghost use Rattle.engine_world.specs.View.{world_of};
 ghost use Rattle.engine_world.specs.TaskView.{agenda_of};
@@ -16,13 +16,14 @@ use definitions::Definition;
 use engine_world::arguments::{as_text, detail_in, operands};
 use engine_world::builder::{BuilderEntry, set_builder_entry};
 use engine_world::engine::Engine;
-use engine_world::given::{held_object, operand, settable};
+use engine_world::given::{held_object, operand};
 use engine_world::lines::Line;
 use engine_world::places::entry_at;
 use engine_world::properties::spec_of;
 use engine_world::references::{let_go_any, push_task};
 use engine_world::task::{NewEmission, Task};
-use ui_machine::{Arm, Halt, Place, SignalId, Slot};
+use std::alloc::AllocError;
+use ui_machine::{Place, SignalId, Slot};
 
 // A set by an event.
 #[tactic(auto, unfolding(ui_machine::specs::Rules::Events::set_from_event, ui_machine::specs::Rules::Events::set_given))]
@@ -32,15 +33,16 @@ fn set_from_event(
     place: Place,
     slot: Slot,
     given: Given,
-) -> Result<(), Halt>
-    ensures step { Goes result
+) -> Result<(), AllocError>
+    requires able { Able (uncounted (agenda_of definition.now engine.now) engine.now.counted (set_from_event definition.now (world_of engine.now.world) place.0 slot (given_view given))) }
+    ensures step { Leads result
         (uncounted (agenda_of definition.now engine.old) engine.old.counted (set_from_event definition.now (world_of engine.old.world) place.0 slot (given_view given)))
         (config_of definition.now engine.new) }
     ensures quiet { OnErr result (IsQuiet (world_of engine.old.world) (world_of engine.new.world)) }
     ensures counted { OnOk result (KeepsCounts definition.now engine.old engine.new) }
 {
-    let object = settable(engine, definition, place, slot)?;
-    let value = operand(engine, given)?;
+    let object = held_object(engine, place);
+    let value = operand(engine, given);
     push_task(
         engine,
         Task::Setting {
@@ -59,19 +61,19 @@ fn get_from_event(
     definition: &Definition,
     place: Place,
     slot: Slot,
-) -> Result<(), Halt>
-    ensures step { Goes result
+) -> Result<(), AllocError>
+    requires able { Able (uncounted (agenda_of definition.now engine.now) engine.now.counted (get_from_event definition.now (world_of engine.now.world) place.0 slot)) }
+    ensures step { Leads result
         (uncounted (agenda_of definition.now engine.old) engine.old.counted (get_from_event definition.now (world_of engine.old.world) place.0 slot))
         (config_of definition.now engine.new) }
     ensures quiet { OnErr result (IsQuiet (world_of engine.old.world) (world_of engine.new.world)) }
     ensures counted { OnOk result (KeepsCounts definition.now engine.old engine.new) }
 {
-    let object = held_object(engine, place)?;
-    let spec = spec_of(engine, definition, object, slot)?;
-    let value = engine.world.table.read(object, slot)?;
-    if !spec.is_readable() {
-        return Err(Halt::Stuck(Arm::Flags));
-    }
+    let object = held_object(engine, place);
+    let spec = spec_of(engine, definition, object, slot);
+    let Ok(value) = engine.world.table.read(object, slot) else {
+        unreachable!()
+    };
     let value = value.copied()?;
     let told = Line::Get {
         object,
@@ -93,14 +95,15 @@ fn emit_from_event(
     signal: SignalId,
     args: &[Given],
     detail: Option<&str>,
-) -> Result<(), Halt>
-    ensures step { Goes result
+) -> Result<(), AllocError>
+    requires able { Able (uncounted (agenda_of definition.now engine.now) engine.now.counted (emit_from_event definition.now (world_of engine.now.world) place.0 signal (map given_view args.now) (option_map (λ text. text.now) detail))) }
+    ensures step { Leads result
         (uncounted (agenda_of definition.now engine.old) engine.old.counted (emit_from_event definition.now (world_of engine.old.world) place.0 signal (map given_view args.now) (option_map (λ text. text.now) detail.entry)))
         (config_of definition.now engine.new) }
     ensures quiet { OnErr result (IsQuiet (world_of engine.old.world) (world_of engine.new.world)) }
     ensures counted { OnOk result (KeepsCounts definition.now engine.old engine.new) }
 {
-    let object = held_object(engine, place)?;
+    let object = held_object(engine, place);
     let detail = detail_in(engine, definition, object, signal, detail)?;
     let args = operands(engine, args)?;
     push_task(
@@ -122,18 +125,19 @@ fn release_from_event(
     engine: &mut Engine,
     definition: &Definition,
     place: Place,
-) -> Result<(), Halt>
+) -> Result<(), AllocError>
+    requires able { Able (uncounted (agenda_of definition.now engine.now) engine.now.counted (release_from_event definition.now (world_of engine.now.world) place.0)) }
     requires holds { HoldsBuilt engine.now }
-    ensures step { Goes result
+    ensures step { Leads result
         (uncounted (agenda_of definition.now engine.old) engine.old.counted (release_from_event definition.now (world_of engine.old.world) place.0))
         (config_of definition.now engine.new) }
     ensures quiet { OnErr result (IsQuiet (world_of engine.old.world) (world_of engine.new.world)) }
     ensures counted { OnOk result (KeepsCounts definition.now engine.old engine.new) }
 {
     let Some(entry) = entry_at(definition, place) else {
-        return Err(Halt::Stuck(Arm::Code));
+        unreachable!()
     };
-    let object = held_object(engine, place)?;
+    let object = held_object(engine, place);
     let line = Line::Release { id: entry.id }.text(engine.alloc, definition.types())?;
     set_builder_entry(&mut engine.world.builder, place, BuilderEntry::Released)?;
     let_go_any(&mut engine.world.table, Some(object));
@@ -145,14 +149,15 @@ fn release_from_event(
 ///
 /// # Errors
 ///
-/// `Halt::OutOfMemory` if memory is refused, and `Halt::Stuck` where the machine is stuck here.
+/// `AllocError` if no memory is found.
 pub fn handle_event(
     engine: &mut Engine,
     definition: &Definition,
     request: Request,
-) -> Result<(), Halt>
+) -> Result<(), AllocError>
+    requires able { Able (uncounted (agenda_of definition.now engine.now) engine.now.counted (request_step definition.now (world_of engine.now.world) (request_of request))) }
     requires holds { HoldsBuilt engine.now }
-    ensures step { Goes result
+    ensures step { Leads result
         (uncounted (agenda_of definition.now engine.old) engine.old.counted (request_step definition.now (world_of engine.old.world) (request_of request)))
         (config_of definition.now engine.new) }
     ensures quiet { OnErr result (IsQuiet (world_of engine.old.world) (world_of engine.new.world)) }

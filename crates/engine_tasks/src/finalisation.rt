@@ -1,7 +1,6 @@
 //! Finalisation: what nothing holds is disposed and taken out before anything else is done.
 
 ghost use Rattle.std.specs.Prelude.{◌≡◌, ◌<◌, List, map, suc, IsSome, OnOk, OnErr};
-ghost use Rattle.ui_machine.specs.Outcome.{Goes};
 ghost use Rattle.ui_machine.specs.Prefix.{IsPrefix};
 ghost use Rattle.ui_machine.specs.State.Objects.{living};
 ghost use Rattle.ui_machine.specs.State.Tasks.{Task};
@@ -10,6 +9,7 @@ ghost use Rattle.instance_tables.specs.Store.{count_of};
 ghost use Rattle.instance_tables.specs.Weak.{Knows};
 ghost use Rattle.machine_laws.specs.GoneLaws.{pruned};
 ghost use Rattle.engine_world.specs.ClosingView.{closed_with, or_number};
+ghost use Rattle.engine_world.specs.Able.{Able, Leads};
 ghost use Rattle.engine_world.specs.Quiet.{IsQuiet};
 ghost use Rattle.engine_world.specs.View.{world_of};
 ghost use Rattle.engine_world.specs.TaskView.{agenda_of};
@@ -21,19 +21,25 @@ use engine_world::closings::{closing_with, dispose_line, say_and_close};
 use engine_world::counted_steps::count;
 use engine_world::engine::Engine;
 use engine_world::lines::Line;
-use ui_machine::{Halt, ObjectId};
+use std::alloc::AllocError;
+use ui_machine::ObjectId;
 
 /// An object that nothing holds is disposed, again if it was, and taken out. Its peer is closed, if it has one that is open. Its handlers go, and have no more turns in the emissions that
 /// go on, and its bindings end. It is a counted step.
 ///
 /// # Errors
 ///
-/// `Halt::OutOfMemory` if memory is refused, and `Halt::Stuck` where the machine is stuck here.
-pub fn finalise(engine: &mut Engine, definition: &Definition, object: ObjectId) -> Result<(), Halt>
+/// `AllocError` if no memory is found.
+pub fn finalise(
+    engine: &mut Engine,
+    definition: &Definition,
+    object: ObjectId,
+) -> Result<(), AllocError>
+    requires able { Able (counted (agenda_of definition.now engine.now) engine.now.counted (finalising definition.now (world_of engine.now.world) object.0)) }
     requires live { IsSome (living engine.now.world.table.objects object.0) }
     requires unheld { count_of engine.now.world.table.counts object.0 ≡ 0 }
     requires knows { Knows definition.now engine.now.world.weak }
-    ensures step { (rest : List Task) → Goes result
+    ensures step { (rest : List Task) → Leads result
         (counted rest engine.old.counted (finalising definition.now (world_of engine.old.world) object.0))
         (record { world = world_of engine.new.world; agenda = rest; counted = engine.new.counted }) }
     ensures agenda { OnOk result (agenda_of definition.now engine.new ≡ map (pruned (gone_handlers (world_of engine.new.world))) (agenda_of definition.now engine.old)) }
@@ -44,7 +50,7 @@ pub fn finalise(engine: &mut Engine, definition: &Definition, object: ObjectId) 
     ensures grows { OnOk result (IsPrefix (world_of engine.old.world).transcript (world_of engine.new.world).transcript) }
     ensures counted { OnOk result (KeepsCounts definition.now engine.old engine.new) }
 {
-    count(engine)?;
+    count(engine);
     let disposed = dispose_line(engine, definition, object)?;
     let closed = closing_with(engine, definition, object)?;
     let finalised = Line::Final { object }.text(engine.alloc, definition.types())?;

@@ -2,10 +2,10 @@
 
 ghost use Rattle.std.specs.Prelude.{◌≡◌, ◌≤◌, ◌++◌, map, OnOk, OnErr, IfOk};
 ghost use Rattle.std.specs.List.{flat_map};
-ghost use Rattle.ui_machine.specs.Outcome.{Goes};
 ghost use Rattle.ui_machine.specs.Rules.Build.{building, forward_of, forward_items};
 ghost use Rattle.ui_machine.specs.Steps.{uncounted};
 ghost use Rattle.definition_format.specs.Meaning.{given_property, object_count};
+ghost use Rattle.engine_world.specs.Able.{Able, Leads};
 ghost use Rattle.engine_world.specs.Quiet.{IsQuiet};
 ghost use Rattle.engine_world.specs.View.{world_of};
 ghost use Rattle.engine_world.specs.TaskView.{agenda_of, item_of, items_of, forwards_at, build_end};
@@ -16,12 +16,12 @@ use crate::binds::bind_from_build;
 use definition_format::{Given, GivenValue};
 use definitions::Definition;
 use engine_world::engine::Engine;
-use engine_world::given::{held_value, settable};
+use engine_world::given::{held_object, held_value};
 use engine_world::places::{entry_at, place_numbered};
 use engine_world::references::push_task;
 use engine_world::task::{ForwardReference, ForwardReferences, Task};
 use std::alloc::{AllocError, Global};
-use ui_machine::{Halt, Place};
+use ui_machine::Place;
 
 // Puts what an entry gives before these, where it is a forward reference.
 fn add_forward(
@@ -104,10 +104,11 @@ pub(crate) fn set_forward_reference(
     definition: &Definition,
     place: Place,
     mut forwards: ForwardReferences,
-) -> Result<(), Halt>
+) -> Result<(), AllocError>
+    requires able { Able (uncounted (agenda_of definition.now engine.now) engine.now.counted (building definition.now (world_of engine.now.world) (build_end definition.now forwards))) }
     requires past { object_count definition.now ≤ place.0 }
     requires connects { Connects definition.now engine.now }
-    ensures step { Goes result
+    ensures step { Leads result
         (uncounted (agenda_of definition.now engine.old) engine.old.counted (building definition.now (world_of engine.old.world) (build_end definition.now forwards)))
         (config_of definition.now engine.new) }
     ensures quiet { OnErr result (IsQuiet (world_of engine.old.world) (world_of engine.new.world)) }
@@ -118,8 +119,8 @@ pub(crate) fn set_forward_reference(
     let Some(forward) = forwards.take() else {
         return bind_from_build(engine, definition, 0);
     };
-    let object = settable(engine, definition, forward.object, forward.slot)?;
-    let value = held_value(engine, forward.to)?;
+    let object = held_object(engine, forward.object);
+    let value = held_value(engine, forward.to);
     push_task(engine, Task::Building { place, forwards })?;
     push_task(
         engine,

@@ -1,10 +1,10 @@
 //! Notifications: how one begins, and those of a thaw.
 
 ghost use Rattle.std.specs.Prelude.{OnOk, OnErr};
-ghost use Rattle.ui_machine.specs.Outcome.{Goes};
 ghost use Rattle.ui_machine.specs.Rules.EmissionPlan.{notifying};
 ghost use Rattle.ui_machine.specs.Steps.{counted, uncounted};
 ghost use Rattle.ui_machine.specs.Rules.NotifyQueue.{thawing};
+ghost use Rattle.engine_world.specs.Able.{Able, Leads};
 ghost use Rattle.engine_world.specs.Quiet.{IsQuiet};
 ghost use Rattle.engine_world.specs.View.{world_of};
 ghost use Rattle.engine_world.specs.TaskView.{agenda_of};
@@ -18,7 +18,8 @@ use engine_world::engine::Engine;
 use engine_world::lines::Line;
 use engine_world::references::push_task;
 use engine_world::task::{Slots, Task, Transfers};
-use ui_machine::{Arm, Halt, ObjectId, SignalId, Slot};
+use std::alloc::AllocError;
+use ui_machine::{ObjectId, SignalId, Slot};
 
 // The number of the signal `notify`.
 const NOTIFY: SignalId = 0;
@@ -27,15 +28,16 @@ const NOTIFY: SignalId = 0;
 ///
 /// # Errors
 ///
-/// `Halt::OutOfMemory` if memory is refused, and `Halt::Stuck` where the machine is stuck here.
+/// `AllocError` if no memory is found.
 #[tactic(auto, unfolding(ui_machine::specs::Rules::EmissionPlan::notifying))]
 pub fn notify(
     engine: &mut Engine,
     definition: &Definition,
     object: ObjectId,
     slot: Slot,
-) -> Result<(), Halt>
-    ensures step { Goes result
+) -> Result<(), AllocError>
+    requires able { Able (counted (agenda_of definition.now engine.now) engine.now.counted (notifying definition.now (world_of engine.now.world) object.0 slot)) }
+    ensures step { Leads result
         (counted (agenda_of definition.now engine.old) engine.old.counted (notifying definition.now (world_of engine.old.world) object.0 slot))
         (config_of definition.now engine.new) }
     ensures quiet { OnErr result (IsQuiet (world_of engine.old.world) (world_of engine.new.world)) }
@@ -43,14 +45,16 @@ pub fn notify(
 {
     // For the proof: what is known of the numbers of handlers.
     let _last = engine.world.handlers.last();
-    count(engine)?;
-    let class = engine.world.table.class_of(object)?;
+    count(engine);
+    let Ok(class) = engine.world.table.class_of(object) else {
+        unreachable!()
+    };
     let Some(spec) = definition.spec(class, slot) else {
-        return Err(Halt::Stuck(Arm::Code));
+        unreachable!()
     };
     let name = String::from_str(engine.alloc, spec.name.as_str())?;
     let Some(emission) = definition.emission(class, object, NOTIFY, Some(name)) else {
-        return Err(Halt::Stuck(Arm::Code));
+        unreachable!()
     };
     let told = Line::Notify {
         object,
@@ -67,14 +71,15 @@ pub fn notify(
 ///
 /// # Errors
 ///
-/// `Halt::OutOfMemory` if memory is refused, and `Halt::Stuck` where the machine is stuck here.
+/// `AllocError` if no memory is found.
 pub fn notify_thawed(
     engine: &mut Engine,
     definition: &Definition,
     object: ObjectId,
     mut slots: Slots,
-) -> Result<(), Halt>
-    ensures step { Goes result
+) -> Result<(), AllocError>
+    requires able { Able (uncounted (agenda_of definition.now engine.now) engine.now.counted (thawing (world_of engine.now.world) object.0 slots)) }
+    ensures step { Leads result
         (uncounted (agenda_of definition.now engine.old) engine.old.counted (thawing (world_of engine.old.world) object.0 slots))
         (config_of definition.now engine.new) }
     ensures quiet { OnErr result (IsQuiet (world_of engine.old.world) (world_of engine.new.world)) }

@@ -1,20 +1,19 @@
 //! Sets of properties, and the notifications that they raise.
 
-ghost use Rattle.std.specs.Prelude.{◌≡◌, ◌&&◌, not, string_bytes, OnOk, OnErr, IfOk};
-ghost use Rattle.ui_machine.specs.Outcome.{Goes, Follows, only_if};
-ghost use Rattle.ui_machine.specs.Rules.Sets.{setting, without_disposed, written, raising_if, notifies, has_kind, lives, unless_disposed};
+ghost use Rattle.std.specs.Prelude.{◌≡◌, ◌&&◌, Ok, not, string_bytes, true, OnOk, OnErr, IfOk};
+ghost use Rattle.ui_machine.specs.Outcome.{After};
+ghost use Rattle.ui_machine.specs.Rules.Sets.{setting, without_disposed, written, raising_if, notifies, lives, unless_disposed};
 ghost use Rattle.ui_machine.specs.State.Objects.{class_in, changed, with_value};
-ghost use Rattle.ui_machine.specs.declared.arm.Arm.TheVariants as arms;
 ghost use Rattle.param_specs.specs.Validation.{KnowsClass};
 ghost use Rattle.ui_machine.specs.Definition.Properties.{is_lax};
 ghost use Rattle.ui_machine.specs.State.Config.{said, with_objects};
 ghost use Rattle.ui_machine.specs.Output.Lines as lines;
 ghost use Rattle.ui_machine.specs.Steps.{uncounted};
-ghost use Rattle.g_values.specs.View.{kind_view, value_view};
+ghost use Rattle.g_values.specs.View.{value_view};
 ghost use Rattle.param_specs.specs.View.{spec_view};
+ghost use Rattle.engine_world.specs.Able.{Able, Leads};
 ghost use Rattle.engine_world.specs.Quiet.{IsQuiet};
 ghost use Rattle.engine_world.specs.View.{world_of, with_line};
-ghost use Rattle.instance_tables.specs.Store.{Shows};
 ghost use Rattle.engine_world.specs.TaskView.{agenda_of};
 ghost use Rattle.engine_world.specs.Counting.{KeepsCounts};
 ghost use Rattle.engine_world.specs.EngineView.{config_of};
@@ -25,29 +24,12 @@ use engine_world::lines::Line;
 use engine_world::properties::{living_class, spec_of};
 use engine_world::references::{can_hold_named, named, push_task};
 use engine_world::task::Task;
-use g_values::{Kind, Value, is_same};
+use engine_world::unstuck::rule_out_stuck;
+use g_values::{Value, is_same};
 use instance_tables::Table;
 use param_specs::{Spec, validate};
 use std::alloc::AllocError;
-use ui_machine::{Arm, Halt, ObjectId, Slot};
-
-// Whether a value is one of the kind, its members, range and class left aside.
-fn has_kind(value: &Value, kind: Kind) -> bool
-    ensures { result ≡ has_kind (value_view value.now) (kind_view kind) }
-{
-    match (value, kind) {
-        (Value::Bool(_), Kind::Bool) => true,
-        (Value::Int(_), Kind::Int) => true,
-        (Value::UInt(_), Kind::UInt) => true,
-        (Value::Int64(_), Kind::Int64) => true,
-        (Value::UInt64(_), Kind::UInt64) => true,
-        (Value::Text(_), Kind::Text) => true,
-        (Value::Enum(t, _), Kind::Enum(u)) => *t == u,
-        (Value::Flags(t, _), Kind::Flags(u)) => *t == u,
-        (Value::Object(_, _), Kind::Object(_)) => true,
-        _ => false,
-    }
-}
+use ui_machine::{ObjectId, Slot};
 
 // Whether a write of a property is notified.
 fn notifies(spec: &Spec, old: &Value, new: &Value) -> bool
@@ -63,18 +45,19 @@ fn refuses(spec: &Spec, is_changed: bool) -> bool
     is_changed && !spec.is_lax()
 }
 
-// A value by the class of the object that it names, which must live.
-fn with_own_class(table: &Table, value: Value) -> Result<Value, Arm>
-    ensures value { Shows value_view result (only_if (lives table.now.objects (value_view value)) arms.Value (Ok (value_view value))) }
-    ensures class { IfOk result (λ v. KnowsClass (class_in table.now.objects) v) }
+// A value by the class of the object that it names, which lives.
+fn with_own_class(table: &Table, value: Value) -> Value
+    requires lives { lives table.now.objects (value_view value) ≡ true }
+    ensures value { value_view result ≡ value_view value }
+    ensures class { KnowsClass (class_in table.now.objects) result }
 {
     let Some(id) = named(&value) else {
-        return Ok(value);
+        return value;
     };
     let Some(class) = living_class(table, id) else {
-        return Err(Arm::Value);
+        unreachable!()
     };
-    Ok(Value::Object(class, Some(id)))
+    Value::Object(class, Some(id))
 }
 
 // Null in place of a disposed object.
@@ -110,8 +93,9 @@ fn say_and_raise(
     slot: Slot,
     line: String,
     is_told: bool,
-) -> Result<(), Halt>
-    ensures step { Goes result
+) -> Result<(), AllocError>
+    requires able { Able (uncounted (agenda_of definition.now engine.now) engine.now.counted (raising_if is_told (with_line (string_bytes line) (world_of engine.now.world)) object.0 slot)) }
+    ensures step { Leads result
         (uncounted (agenda_of definition.now engine.old) engine.old.counted (raising_if is_told (with_line (string_bytes line) (world_of engine.old.world)) object.0 slot))
         (config_of definition.now engine.new) }
     ensures quiet { OnErr result (IsQuiet (world_of engine.old.world) (world_of engine.new.world)) }
@@ -123,7 +107,7 @@ fn say_and_raise(
         engine.world.say(line)?;
         return Ok(());
     }
-    if engine.world.table.add(object, slot)? {
+    if rule_out_stuck(engine.world.table.add(object, slot))? {
         push_task(engine, Task::Notifying { object, slot })?;
         engine.world.say(line)?;
         return Ok(());
@@ -139,8 +123,10 @@ fn write(
     object: ObjectId,
     slot: Slot,
     value: Value,
-) -> Result<Value, Halt>
-    ensures changes { Follows value_view result (changed (world_of engine.old.world).objects object.0 (with_value slot (value_view value))) (world_of engine.new.world).objects }
+) -> Result<Value, AllocError>
+    requires able { Able (changed (world_of engine.now.world).objects object.0 (with_value slot (value_view value))) }
+    ensures changes { IfOk result (λ was. changed (world_of engine.old.world).objects object.0 (with_value slot (value_view value))
+        ≡ Ok (record { state = (world_of engine.new.world).objects; answer = value_view was })) }
     ensures world { world_of engine.new.world ≡ with_objects (world_of engine.old.world) (world_of engine.new.world).objects }
     ensures same { (engine.new.stack ≡ engine.old.stack) × (engine.new.counted ≡ engine.old.counted) }
     ensures handlers { engine.new.world.handlers ≡ engine.old.world.handlers }
@@ -149,12 +135,12 @@ fn write(
     // For the proof: the clauses speak of the definition.
     let _ = definition;
     if !can_hold_named(&engine.world.table, &value) {
-        return Err(Halt::OutOfMemory);
+        return Err(AllocError);
     }
-    let old = engine
-        .world
-        .table
-        .write(&engine.world.weak, object, slot, value)?;
+    let world = &mut engine.world;
+    let Ok(old) = world.table.write(&world.weak, object, slot, value) else {
+        unreachable!()
+    };
     Ok(old)
 }
 
@@ -167,8 +153,9 @@ fn write_and_notify(
     slot: Slot,
     spec: &Spec,
     value: Value,
-) -> Result<(), Halt>
-    ensures step { Goes result
+) -> Result<(), AllocError>
+    requires able { Able (uncounted (agenda_of definition.now engine.now) engine.now.counted (written definition.now (world_of engine.now.world) object.0 slot (spec_view spec.now) (value_view value))) }
+    ensures step { Leads result
         (uncounted (agenda_of definition.now engine.old) engine.old.counted (written definition.now (world_of engine.old.world) object.0 slot (spec_view spec.now) (value_view value)))
         (config_of definition.now engine.new) }
     ensures quiet { OnErr result (IsQuiet (world_of engine.old.world) (world_of engine.new.world)) }
@@ -213,25 +200,23 @@ fn refuse(
 ///
 /// # Errors
 ///
-/// `Halt::OutOfMemory` if memory is refused, and `Halt::Stuck` where the machine is stuck here.
+/// `AllocError` if no memory is found.
 pub fn validate_and_set(
     engine: &mut Engine,
     definition: &Definition,
     object: ObjectId,
     slot: Slot,
     value: Value,
-) -> Result<(), Halt>
-    ensures step { Goes result
+) -> Result<(), AllocError>
+    requires able { Able (uncounted (agenda_of definition.now engine.now) engine.now.counted (setting definition.now (world_of engine.now.world) object.0 slot (value_view value))) }
+    ensures step { Leads result
         (uncounted (agenda_of definition.now engine.old) engine.old.counted (setting definition.now (world_of engine.old.world) object.0 slot (value_view value)))
         (config_of definition.now engine.new) }
     ensures quiet { OnErr result (IsQuiet (world_of engine.old.world) (world_of engine.new.world)) }
     ensures counted { OnOk result (KeepsCounts definition.now engine.old engine.new) }
 {
-    let spec = spec_of(engine, definition, object, slot)?;
-    if !has_kind(&value, spec.kind) {
-        return Err(Halt::Stuck(Arm::Value));
-    }
-    let known = with_own_class(&engine.world.table, value)?;
+    let spec = spec_of(engine, definition, object, slot);
+    let known = with_own_class(&engine.world.table, value);
     let original = known.copied()?;
     let (valid, is_changed) = validate(definition.types(), spec, known);
     if refuses(spec, is_changed) {

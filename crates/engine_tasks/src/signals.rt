@@ -1,17 +1,16 @@
 //! The signals of the definition's objects: they are connected once all objects are made (GTK manual, GtkBuilder: the element `signal`).
 
-ghost use Rattle.std.specs.Prelude.{◌≡◌, ◌∷◌, [], suc, ◌<◌, IfSome, MatchOption, OnOk, OnErr};
-ghost use Rattle.ui_machine.specs.Outcome.{Goes};
+ghost use Rattle.std.specs.Prelude.{◌≡◌, ◌∷◌, [], Ok, suc, ◌<◌, IfOk, IfSome, MatchOption, OnOk, OnErr};
 ghost use Rattle.ui_machine.specs.Rules.Build.{building, held_data};
 ghost use Rattle.ui_machine.specs.State.Tasks.{connects};
 ghost use Rattle.ui_machine.specs.Steps.{uncounted};
 ghost use Rattle.definition_format.specs.Meaning.{place_number};
-ghost use Rattle.instance_tables.specs.Store.{Shows, id_of};
+ghost use Rattle.instance_tables.specs.Store.{id_of};
 ghost use Rattle.signal_core.specs.Connected.{connection_of};
 ghost use Rattle.engine_world.specs.ConnectView.{attached_at};
 ghost use Rattle.engine_world.specs.Counting.{Connects, KeepsCounts};
 ghost use Rattle.engine_world.specs.EngineView.{config_of};
-ghost use Rattle.engine_world.specs.GivenView.{Finds};
+ghost use Rattle.engine_world.specs.Able.{Able, Leads};
 ghost use Rattle.engine_world.specs.Quiet.{IsQuiet};
 ghost use Rattle.engine_world.specs.TaskView.{agenda_of, connects_from};
 ghost use Rattle.engine_world.specs.View.{world_of};
@@ -25,7 +24,8 @@ use engine_world::places::{entry_at, place_numbered};
 use engine_world::references::push_task;
 use engine_world::task::Task;
 use signal_core::Connection;
-use ui_machine::{Arm, Halt, ObjectId, Place};
+use std::alloc::AllocError;
+use ui_machine::{ObjectId, Place};
 
 /// A signal of an object of the definition: the object's place, and the signal's number there.
 #[derive(Clone, Copy, Debug)]
@@ -57,38 +57,35 @@ fn next_signal(definition: &Definition, place: Place, number: usize) -> Option<P
 
 // The object that is the data of a signal, if it has some.
 #[tactic(auto, unfolding(ui_machine::specs::Rules::Build::held_data))]
-fn data_of(engine: &Engine, with: Option<Place>) -> Result<Option<ObjectId>, Arm>
-    ensures { Shows id_of result (held_data (world_of engine.now.world) (place_number with)) }
+fn data_of(engine: &Engine, with: Option<Place>) -> Option<ObjectId>
+    requires able { Able (held_data (world_of engine.now.world) (place_number with)) }
+    ensures { held_data (world_of engine.now.world) (place_number with) ≡ Ok (id_of result) }
 {
-    let Some(place) = with else {
-        return Ok(None);
-    };
-    let object = held_object(engine, place)?;
-    Ok(Some(object))
+    Some(held_object(engine, with?))
 }
 
 // What a signal of the definition is connected with.
-fn attached(engine: &Engine, definition: &Definition, at: Position) -> Result<Connection, Halt>
-    ensures { Finds connection_of result (attached_at definition.now (world_of engine.now.world) at.place.0 at.number) }
+fn attached(
+    engine: &Engine,
+    definition: &Definition,
+    at: Position,
+) -> Result<Connection, AllocError>
+    requires able { Able (attached_at definition.now (world_of engine.now.world) at.place.0 at.number) }
+    ensures { IfOk result (λ c. attached_at definition.now (world_of engine.now.world) at.place.0 at.number ≡ Ok (connection_of c)) }
 {
     let Some(entry) = entry_at(definition, at.place) else {
-        return Err(Halt::Stuck(Arm::Code));
+        unreachable!()
     };
     let Some(attached) = entry.signals.get(at.number) else {
-        return Err(Halt::Stuck(Arm::Code));
+        unreachable!()
     };
-    let object = held_object(engine, at.place)?;
-    let data = data_of(engine, attached.with)?;
+    let object = held_object(engine, at.place);
+    let data = data_of(engine, attached.with);
     let Some(signal) = definition.signal_number(entry.class, attached.signal.as_str()) else {
-        return Err(Halt::Stuck(Arm::Code));
+        unreachable!()
     };
-    let detail = detail_for(
-        engine,
-        definition,
-        entry.class,
-        signal,
-        as_text(&attached.detail),
-    )?;
+    let detail = as_text(&attached.detail);
+    let detail = detail_for(engine, definition, entry.class, signal, detail)?;
     Ok(Connection {
         object,
         signal,
@@ -105,15 +102,16 @@ fn attached(engine: &Engine, definition: &Definition, at: Position) -> Result<Co
 ///
 /// # Errors
 ///
-/// `Halt::OutOfMemory` if memory is refused, and `Halt::Stuck` where the machine is stuck here.
+/// `AllocError` if no memory is found.
 pub fn connect_from_build(
     engine: &mut Engine,
     definition: &Definition,
     place: Place,
     number: usize,
-) -> Result<(), Halt>
+) -> Result<(), AllocError>
+    requires able { Able (uncounted (agenda_of definition.now engine.now) engine.now.counted (building definition.now (world_of engine.now.world) (connects_from definition.now place.0 number))) }
     requires connects { Connects definition.now engine.now }
-    ensures step { Goes result
+    ensures step { Leads result
         (uncounted (agenda_of definition.now engine.old) engine.old.counted (building definition.now (world_of engine.old.world) (connects_from definition.now place.0 number)))
         (config_of definition.now engine.new) }
     ensures quiet { OnErr result (IsQuiet (world_of engine.old.world) (world_of engine.new.world)) }

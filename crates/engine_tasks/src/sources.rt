@@ -1,11 +1,11 @@
 //! Sources: how a due one runs (GLib manual, The Main Event Loop: `g_main_context_dispatch`).
 
 ghost use Rattle.std.specs.Prelude.{◌≡◌, map, IfOk, OnOk, OnErr};
-ghost use Rattle.ui_machine.specs.Outcome.{Goes};
 ghost use Rattle.ui_machine.specs.Rules.MainLoop.{source_data, sourcing};
 ghost use Rattle.ui_machine.specs.Steps.{uncounted};
 ghost use Rattle.g_values.specs.View.{value_view};
 ghost use Rattle.instance_tables.specs.Store.{id_of};
+ghost use Rattle.engine_world.specs.Able.{Able, Leads};
 ghost use Rattle.engine_world.specs.Quiet.{IsQuiet};
 ghost use Rattle.engine_world.specs.View.{world_of};
 ghost use Rattle.engine_world.specs.TaskView.{agenda_of};
@@ -20,7 +20,7 @@ use engine_world::references::push_task;
 use engine_world::task::Task;
 use g_values::Value;
 use std::alloc::{AllocError, Global};
-use ui_machine::{Arm, Halt, ObjectId};
+use ui_machine::ObjectId;
 
 // What the program of a source is given: the source's data, if it has some.
 fn source_data(alloc: Global, arg: Option<ObjectId>) -> Result<Vec<Value>, AllocError>
@@ -38,16 +38,21 @@ fn source_data(alloc: Global, arg: Option<ObjectId>) -> Result<Vec<Value>, Alloc
 ///
 /// # Errors
 ///
-/// `Halt::OutOfMemory` if memory is refused, and `Halt::Stuck` where the machine is stuck here.
-pub fn run_source(engine: &mut Engine, definition: &Definition, source: u64) -> Result<(), Halt>
-    ensures step { Goes result
+/// `AllocError` if no memory is found.
+pub fn run_source(
+    engine: &mut Engine,
+    definition: &Definition,
+    source: u64,
+) -> Result<(), AllocError>
+    requires able { Able (uncounted (agenda_of definition.now engine.now) engine.now.counted (sourcing definition.now (world_of engine.now.world) source)) }
+    ensures step { Leads result
         (uncounted (agenda_of definition.now engine.old) engine.old.counted (sourcing definition.now (world_of engine.old.world) source))
         (config_of definition.now engine.new) }
     ensures quiet { OnErr result (IsQuiet (world_of engine.old.world) (world_of engine.new.world)) }
     ensures counted { OnOk result (KeepsCounts definition.now engine.old engine.new) }
 {
     let Some(due) = engine.world.context.find(source) else {
-        return Err(Halt::Stuck(Arm::Code));
+        unreachable!()
     };
     let args = source_data(engine.alloc, due.arg)?;
     push_task(engine, Task::Answering { source })?;

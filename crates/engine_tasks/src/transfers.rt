@@ -1,13 +1,12 @@
 //! Transfers of bindings: a property's value is set at another property (GObject manual, GBinding).
 
-ghost use Rattle.std.specs.Prelude.{◌≡◌, Ok, option_map, OnOk, OnErr};
-ghost use Rattle.ui_machine.specs.Outcome.{Goes};
+ghost use Rattle.std.specs.Prelude.{◌≡◌, Ok, option_map, IfOk, OnOk, OnErr};
 ghost use Rattle.ui_machine.specs.Rules.Transfers.{set_by, transferring, unsetting};
 ghost use Rattle.ui_machine.specs.Steps.{counted, uncounted};
 ghost use Rattle.g_values.specs.View.{value_view};
 ghost use Rattle.engine_world.specs.Counting.{KeepsCounts};
 ghost use Rattle.engine_world.specs.EngineView.{config_of};
-ghost use Rattle.engine_world.specs.GivenView.{Finds};
+ghost use Rattle.engine_world.specs.Able.{Able, Leads};
 ghost use Rattle.engine_world.specs.Quiet.{IsQuiet};
 ghost use Rattle.engine_world.specs.TaskView.{agenda_of};
 ghost use Rattle.engine_world.specs.View.{world_of};
@@ -22,30 +21,25 @@ use engine_world::references::push_task;
 use engine_world::task::Task;
 use engine_world::transformations::{inverted, transformed};
 use g_values::Value;
-use ui_machine::{Arm, Halt};
+use std::alloc::AllocError;
 
 // What a transfer sets: the value of its source, transformed and inverted. Nothing where the transformation fails.
 fn carried_value(
     engine: &Engine,
     definition: &Definition,
     transfer: Transfer,
-) -> Result<Option<Value>, Halt>
-    ensures { Finds (λ value. option_map value_view value) result (carried_value definition.now (world_of engine.now.world) transfer) }
+) -> Result<Option<Value>, AllocError>
+    requires able { Able (carried_value definition.now (world_of engine.now.world) transfer) }
+    ensures { IfOk result (λ value. carried_value definition.now (world_of engine.now.world) transfer ≡ Ok (option_map value_view value)) }
 {
     // For the proof: what is known of a definition's types.
     let types = definition.types();
-    let from = spec_of(engine, definition, transfer.source, transfer.source_slot)?;
-    let to = spec_of(engine, definition, transfer.target, transfer.target_slot)?;
-    let value = engine
-        .world
-        .table
-        .read(transfer.source, transfer.source_slot)?;
-    if !from.is_readable() || !to.is_writable() {
-        return Err(Halt::Stuck(Arm::Flags));
-    }
-    if to.is_construct_only() {
-        return Err(Halt::Stuck(Arm::ConstructOnly));
-    }
+    let from = spec_of(engine, definition, transfer.source, transfer.source_slot);
+    let to = spec_of(engine, definition, transfer.target, transfer.target_slot);
+    let table = &engine.world.table;
+    let Ok(value) = table.read(transfer.source, transfer.source_slot) else {
+        unreachable!()
+    };
     let value = transformed(engine.alloc, types, from.kind, to.kind, value)?;
     Ok(inverted(transfer.invert, value))
 }
@@ -56,8 +50,9 @@ fn set_by(
     definition: &Definition,
     transfer: Transfer,
     value: Option<Value>,
-) -> Result<(), Halt>
-    ensures step { Goes result
+) -> Result<(), AllocError>
+    requires able { Able (uncounted (agenda_of definition.now engine.now) engine.now.counted (set_by (world_of engine.now.world) transfer.number (to_end transfer) (option_map value_view value))) }
+    ensures step { Leads result
         (uncounted (agenda_of definition.now engine.old) engine.old.counted (set_by (world_of engine.old.world) transfer.number (to_end transfer) (option_map value_view value)))
         (config_of definition.now engine.new) }
     ensures quiet { OnErr result (IsQuiet (world_of engine.old.world) (world_of engine.new.world)) }
@@ -90,20 +85,21 @@ fn set_by(
 ///
 /// # Errors
 ///
-/// `Halt::OutOfMemory` if memory is refused, and `Halt::Stuck` where the machine is stuck here.
+/// `AllocError` if no memory is found.
 pub fn transfer(
     engine: &mut Engine,
     definition: &Definition,
     number: u64,
     back: bool,
-) -> Result<(), Halt>
-    ensures step { Goes result
+) -> Result<(), AllocError>
+    requires able { Able (counted (agenda_of definition.now engine.now) engine.now.counted (transferring definition.now (world_of engine.now.world) number back)) }
+    ensures step { Leads result
         (counted (agenda_of definition.now engine.old) engine.old.counted (transferring definition.now (world_of engine.old.world) number back))
         (config_of definition.now engine.new) }
     ensures quiet { OnErr result (IsQuiet (world_of engine.old.world) (world_of engine.new.world)) }
     ensures counted { OnOk result (KeepsCounts definition.now engine.old engine.new) }
 {
-    count(engine)?;
+    count(engine);
     let Some(transfer) = engine.world.bindings.transfer(number, back) else {
         return Ok(());
     };

@@ -16,14 +16,15 @@ use Rattle.ui_machine.specs.Definition.Lookups.{type_of, specs_of}
 use Rattle.ui_machine.specs.Output.Lines as lines
 use Rattle.ui_machine.specs.State.Tasks.{ConstructStep, sets, thaws, Item, makes, Task, Constructing, Building}
 use Rattle.ui_machine.specs.State.Config.{Config, World, Started, starts, said}
-use Rattle.ui_machine.specs.Outcome.{Answer, ◌>>=◌, known}
-use Rattle.ui_machine.specs.Rules.Construction.{is_forward, not_forward, or_default, given_at, given_value, set_of, no_spec, is_at_construction, construct_sets, constructed_runs, given_sets, new_object, with_object, making, has_valid_default}
+use Rattle.ui_machine.specs.Outcome.{Answer, ◌>>=◌, known, only_if}
+use Rattle.ui_machine.specs.Rules.Construction.{is_forward, not_forward, or_default, given_at, given_value, set_of, no_spec, is_at_construction, construct_sets, constructed_runs, construction, given_sets, new_object, with_object, making, has_valid_default}
 use Rattle.ui_machine.specs.Rules.Build.{made_items, adopts_if, forward_of, forward_items, peer_for, building, building_object}
 use Rattle.ui_machine.specs.Steps.{uncounted}
 use Rattle.g_values.specs.declared.value.Value.{Value}
 use Rattle.g_values.specs.View.{value_view}
 use Rattle.definition_format.specs.Meaning.{IsPlain, IsBasic, is_object, object_count}
 use Rattle.engine_world.specs.declared.task.ForwardReference.{ForwardReference}
+use Rattle.engine_world.specs.Able.{Able}
 use Rattle.engine_world.specs.PeerPlaces.{own_peer}
 use Rattle.engine_world.specs.TaskView.{forwards_of_place, forwards_at, adopts_of, build_from, build_end, build_behind}
 use Rattle.engine_world.specs.declared.task.ConstructStep as code
@@ -90,6 +91,42 @@ few_steps d w class given =
 each_valid : (d : Definition) (specs : List Spec) → ((i : ℕ) (s : Spec) → slice_get specs i ≡ Some s → IsPlain d.types s) → list_all (has_valid_default d) specs ≡ true
 each_valid d [] plain = refl
 each_valid d (s ∷ specs) plain = rw (let e = (plain 0 s refl).default in e) (each_valid d specs (λ i t at. plain (suc i) t at))
+
+-- nothing is made of a place that is not there
+pub made_nowhere : (d : Definition) (w : World) (place : ℕ) (peer : Option ℕ) (held : Bool) → slice_get d.places place ≡ None → making d w place peer held ≡ Err arms.Code
+unfolding making
+made_nowhere d w place peer held none = rw none refl
+
+-- nor of an abstract class
+pub makes_concrete : (d : Definition) (w : World) (place : ℕ) (p : Place) → slice_get d.places place ≡ Some p → (peer : Option ℕ) (held : Bool)
+    → Able (making d w place peer held) → (type_of d p.class).is_abstract ≡ false
+unfolding making
+makes_concrete d w place p at peer held able = by (type_of d p.class).is_abstract _ (rw at at able)
+  where
+    by : (b : Bool) (a : Answer Started) → Able (only_if (not b) arms.Abstract a) → b ≡ false
+    by false a may = refl
+    by true a may = absurd may
+
+-- what is made of a place
+abbrev made_of : (d : Definition) (w : World) (place : ℕ) (peer : Option ℕ) → Bool → Place → Answer Started
+made_of d w place peer held p =
+    only_if (not (type_of d p.class).is_abstract) arms.Abstract
+    (only_if (list_all (has_valid_default d) (specs_of d p.class)) arms.Value
+    (starts (said d (with_object d w (new_object d place p peer)) (lines.construct (suc (length w.objects)) (type_of d p.class).name)) (Constructing (suc (length w.objects)) (construction d w place p) held ∷ [])))
+
+-- who holds it makes no difference
+pub makes_any : (d : Definition) (w : World) (place : ℕ) (peer : Option ℕ) (b c : Bool) → Able (making d w place peer b) → Able (making d w place peer c)
+unfolding making
+makes_any d w place peer b c able = by (slice_get d.places place) able
+  where
+    of : (concrete valid : Bool) (x y : Started) → Able (only_if concrete arms.Abstract (only_if valid arms.Value (Ok x))) → Able (only_if concrete arms.Abstract (only_if valid arms.Value (Ok y)))
+    of true true x y may = tt
+    of true false x y may = may
+    of false valid x y may = may
+
+    by : (p : Option Place) → Able (known arms.Code p >>= made_of d w place peer b) → Able (known arms.Code p >>= made_of d w place peer c)
+    by None may = may
+    by (Some p) may = of (not (type_of d p.class).is_abstract) (list_all (has_valid_default d) (specs_of d p.class)) _ _ may
 
 module _ (d : Definition) (basic : IsBasic d) where
   module _ (w : World) (place : ℕ) (p : Place) (at : slice_get d.places place ≡ Some p) where

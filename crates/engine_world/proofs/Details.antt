@@ -1,5 +1,5 @@
 -- The property that a detail of a notification names.
-use Rattle.std.proofs.Common.{◌≡◌, ℕ, zero, suc, ◌+◌, Bool, true, false, cond, nat_eq, List, [], ◌∷◌, Option, Some, None, is_some, Ok, Err, slice_get, refl, ap, ◌∙◌, arith}
+use Rattle.std.proofs.Common.{◌≡◌, ℕ, zero, suc, ◌+◌, Bool, true, false, cond, nat_eq, List, [], ◌∷◌, Option, Some, None, is_some, ◌&&◌, Ok, Err, slice_get, refl, ap, ◌∙◌, arith}
 use Rattle.std.proofs.lemmas.Bool.Decides.{nat_tests}
 use Rattle.ui_machine.specs.Definition.{Definition}
 use Rattle.ui_machine.specs.Definition.Lookups.{slot_of, spec_of, specs_of}
@@ -7,15 +7,15 @@ use Rattle.ui_machine.specs.Definition.Names.{canonical, place_from, same_name}
 use Rattle.ui_machine.specs.Definition.Properties.{Spec, has_flags}
 use Rattle.ui_machine.specs.declared.arm.Arm.{Arm}
 use Rattle.ui_machine.specs.declared.arm.Arm.TheVariants as arms
-use Rattle.ui_machine.specs.declared.arm.Halt.{Halt}
-use Rattle.ui_machine.specs.declared.arm.Halt.TheVariants as halts
 use Rattle.ui_machine.specs.Definition.Signals.{Signal}
-use Rattle.ui_machine.specs.Outcome.{Answer, Stops, known, only_if, ◌>>=◌}
-use Rattle.ui_machine.specs.Rules.Connections.{detail_at, detail_in}
-use Rattle.ui_machine.specs.Rules.EmissionPlan.{signal_at, signal_of}
+use Rattle.ui_machine.specs.Outcome.{Answer, known, only_if, ◌>>=◌}
+use Rattle.ui_machine.specs.Rules.Connections.{detail_at, detail_for, detail_in, may_stand}
+use Rattle.ui_machine.specs.Rules.EmissionPlan.{signal_at}
 use Rattle.ui_machine.specs.State.Config.{World}
 use Rattle.ui_machine.specs.State.Objects.{Object, asked, living}
-use Rattle.engine_world.specs.GivenView.{detail_named, standing}
+use Rattle.engine_world.specs.GivenView.{detail_named}
+use Rattle.engine_world.specs.Able.{Able}
+use Rattle.engine_world.proofs.Ableness.{tested}
 
 pub same_names : (xs ys : List ℕ) → same_name xs ys ≡ true → xs ≡ ys
 same_names [] [] h = refl
@@ -55,30 +55,63 @@ slot_named d class name slot h =
 
 -- ** a detail as a signal takes it
 
+module _ (d : Definition) (class n : ℕ) (detail : Option (List ℕ)) where
+  abbrev if_stands : Signal → Answer (Option (List ℕ))
+  if_stands s = only_if (may_stand d class n s detail) arms.Code (Ok (detail_for n detail))
+
+  stands : (b : Bool) → Able (only_if b arms.Code (Ok (detail_for n detail))) → only_if b arms.Code (Ok (detail_for n detail)) ≡ Ok (detail_for n detail)
+  stands true able = refl
+  stands false able = absurd able
+
+  -- where the machine is not stuck it is as the signal keeps it
+  pub stands_so : Able (detail_at d class n detail) → detail_at d class n detail ≡ Ok (detail_for n detail)
+  unfolding detail_at
+  stands_so able = by (signal_at d class n) able
+    where
+      by : (found : Answer Signal) → Able (found >>= if_stands) → (found >>= if_stands) ≡ Ok (detail_for n detail)
+      by (Ok s) may = stands (may_stand d class n s detail) may
+      by (Err arm) may = absurd may
+
+  -- and it may be there
+  stands_at : Able (detail_at d class n detail) → (s : Signal) × (may_stand d class n s detail ≡ true)
+  unfolding detail_at
+  stands_at able = by (signal_at d class n) able
+    where
+      by : (found : Answer Signal) → Able (found >>= if_stands) → (s : Signal) × (may_stand d class n s detail ≡ true)
+      by (Ok s) may = (s, tested (may_stand d class n s detail) arms.Code (Ok (detail_for n detail)) may)
+      by (Err arm) may = absurd may
+
 -- none stays none
-pub stands_none : (d : Definition) (class n : ℕ) (s : Signal) → standing d class n s None ≡ Ok None
-stands_none d class n s = by (nat_eq n 0)
+pub stands_none : (n : ℕ) → detail_for n None ≡ None
+stands_none n = by (nat_eq n 0)
   where
-    by : (b : Bool) → ◌≡◌ {A = Answer (Option (List ℕ))} (Ok (cond b None None)) (Ok None)
+    by : (b : Bool) → ◌≡◌ {A = Option (List ℕ)} (cond b None None) None
     by true = refl
     by false = refl
 
-module _ (d : Definition) (class n : ℕ) (s : Signal) (x : List ℕ) where
-  -- at a signal that is not detailed there is none
-  pub stands_plain : has_flags 16 s.flags ≡ false → standing d class n s (Some x) ≡ Err arms.Code
-  stands_plain plain = rw plain refl
+-- one of another signal than `notify` stays as it is
+pub stands_other : (n : ℕ) (detail : Option (List ℕ)) → nat_eq n 0 ≡ false → detail_for n detail ≡ detail
+stands_other n detail other = rw other refl
 
-  -- it stays as it is
-  pub stands_other : has_flags 16 s.flags ≡ true → nat_eq n 0 ≡ false → standing d class n s (Some x) ≡ Ok (Some x)
-  stands_other detailed other = rw (detailed, other) refl
+-- one of `notify` becomes the name of the property
+pub stands_notify : (d : Definition) (class n : ℕ) (x name : List ℕ) → nat_eq n 0 ≡ true → detail_named d class x ≡ Ok name → detail_for n (Some x) ≡ Some name
+stands_notify d class n x name first named = rw first (by (is_some (slot_of d class x)) named)
+  where
+    by : (b : Bool) → only_if b arms.Code (Ok (canonical x)) ≡ Ok name → Some (canonical x) ≡ Some name
+    by true is = let same : canonical x ≡ name = cc is in ap (λ text. Some text) same
+    by false is = absurd (cc is)
 
-  -- it becomes the name of the property
-  pub stands_notify : has_flags 16 s.flags ≡ true → nat_eq n 0 ≡ true → standing d class n s (Some x) ≡ (detail_named d class x >>= λ name. Ok (Some name))
-  stands_notify detailed first = rw (detailed, first) (by (is_some (slot_of d class x)))
-    where
-      by : (b : Bool) → only_if b arms.Code (Ok (Some (canonical x))) ≡ (only_if b arms.Code (Ok (canonical x)) >>= λ name. Ok (Some name))
-      by true = refl
-      by false = refl
+-- at `notify` it names a property
+pub names_property : (d : Definition) (class n : ℕ) (x : List ℕ) → nat_eq n 0 ≡ true → Able (detail_at d class n (Some x)) → Able (detail_named d class x)
+names_property d class n x first able = by (is_some (slot_of d class x)) refl (stands_at d class n (Some x) able).0 (stands_at d class n (Some x) able).1
+  where
+    none : (b : Bool) → (b && false) ≡ true → ⊥
+    none true e = cc e
+    none false e = cc e
+
+    by : (b : Bool) → is_some (slot_of d class x) ≡ b → (s : Signal) → may_stand d class n s (Some x) ≡ true → Able (only_if b arms.Code (Ok (canonical x)))
+    by true so s may = tt
+    by false so s may = none (has_flags 16 s.flags) (rw (first, so) at may)
 
 -- ** by the class of the object
 
@@ -96,17 +129,3 @@ module _ (d : Definition) (w : World) (id n : ℕ) (detail : Option (List ℕ)) 
 
   pub detail_heard : (class : ℕ) → asked w.objects id (λ o. Ok o.class) ≡ Ok class → detail_in d w id n detail ≡ detail_at d class n detail
   detail_heard class of = detail_by (Ok class) of
-
-module _ (d : Definition) (class n : ℕ) (detail : Option (List ℕ)) where
-  pub detail_unknown : signal_of d class n ≡ None → detail_at d class n detail ≡ Err arms.Code
-  unfolding detail_at signal_at
-  detail_unknown none = ap (λ (s : Option Signal). known arms.Code s >>= λ s. standing d class n s detail) none
-
-  pub detail_known : (s : Signal) → signal_of d class n ≡ Some s → detail_at d class n detail ≡ standing d class n s detail
-  unfolding detail_at signal_at
-  detail_known s some = ap (λ (s : Option Signal). known arms.Code s >>= λ s. standing d class n s detail) some
-
--- where the property that a name names is not found, there is no detail
-pub finds_name : (halt : Halt) (a : Answer (List ℕ)) (b : Answer (Option (List ℕ))) → b ≡ (a >>= λ name. Ok (Some name)) → Stops halt a → Stops halt b
-finds_name halts.OutOfMemory a b is s = tt
-finds_name (halts.Stuck arm) a b is s = is ∙ ap (λ (r : Answer (List ℕ)). r >>= λ name. Ok (Some name)) s

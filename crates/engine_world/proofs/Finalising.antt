@@ -1,16 +1,19 @@
 -- How an object is disposed, and how one that nothing holds is finalised.
-use Rattle.std.proofs.Common.{◌≡◌, ◌<◌, ℕ, suc, Bool, true, false, not, String, Global, string_bytes, List, [], map, Option, Some, None, IsSome, Ok, refl, sym, ap, subst, ◌∙◌}
+use Rattle.std.proofs.Common.{◌≡◌, ◌<◌, ℕ, suc, Bool, true, false, not, String, Global, string_bytes, List, [], map, Option, Some, None, IsSome, slice_get, Ok, Err, refl, sym, ap, subst, ◌∙◌}
+use Rattle.ui_machine.specs.declared.arm.Arm.{Arm}
+use Rattle.ui_machine.specs.declared.arm.Arm.TheVariants as arms
 use Rattle.ui_machine.specs.declared.arm.Halt.{Halt}
 use Rattle.ui_machine.specs.declared.arm.Halt.TheVariants as halts
 use Rattle.ui_machine.specs.Definition.{Definition}
 use Rattle.ui_machine.specs.Output.Lines as lines
 use Rattle.ui_machine.specs.Output.Text.{text_of_line}
-use Rattle.ui_machine.specs.Outcome.{Answer, Stops, ◌>>=◌}
-use Rattle.ui_machine.specs.Rules.Disposal.{is_of_object, closing, said_if, is_first, peer_of, disposed, finalised}
+use Rattle.ui_machine.specs.Outcome.{Answer, Stops, known, ◌>>=◌}
+use Rattle.ui_machine.specs.Rules.Disposal.{is_of_object, closed_if_open, closing, said_if, is_first, peer_of, disposed, finalised}
 use Rattle.ui_machine.specs.Rules.Disposal as disposal
 use Rattle.ui_machine.specs.Rules.Sets.{is_disposed}
 use Rattle.ui_machine.specs.State.Config.{World, Started, starts, said, with_objects}
 use Rattle.ui_machine.specs.State.Objects.{Object, Objects, living, put}
+use Rattle.ui_machine.specs.State.Peers.{Peer}
 use Rattle.ui_machine.specs.State.Tasks.{Task}
 use Rattle.ui_machine.specs.Steps.{counted, finalising, most_steps, uncounted}
 use Rattle.ui_machine.specs.State.Bindings.{bindings_without_end}
@@ -28,6 +31,8 @@ use Rattle.engine_world.specs.declared.world.World as code
 use Rattle.engine_world.specs.ClosingView.{with_closed}
 use Rattle.engine_world.specs.View.{with_line, with_line_if, world_of}
 use Rattle.engine_world.specs.declared.closings.Closing.{Closing}
+use Rattle.engine_world.specs.Able.{Able}
+use Rattle.engine_world.proofs.Ableness.{no_arm, none_stops}
 use Rattle.engine_world.proofs.Emits.{stops_on}
 use Rattle.engine_world.proofs.Notified.{counted_on}
 
@@ -91,6 +96,28 @@ unfolding finalising finalised
 finalised_stops d v id halt stops =
     stops_on halt (disposed d (world_of v) id >>= λ u. Ok (said d (with_objects u (put u.objects id None)) (lines.final id))) (λ u. starts u [])
     (stops_on halt (disposed d (world_of v) id) (λ u. Ok (said d (with_objects u (put u.objects id None)) (lines.final id))) (disposed_stops d v id halt stops))
+
+-- the close of a peer is stuck in one world as in another with the same peers
+closing_alike : (d : Definition) (found : Option ℕ) (w v : World) → w.peers ≡ v.peers → (arm : Arm) → closing d found w ≡ Err arm → closing d found v ≡ Err arm
+unfolding closing
+closing_alike d None w v same arm stuck = absurd (cc stuck)
+closing_alike d (Some number) w v same arm stuck = by (slice_get w.peers number) (slice_get v.peers number) (ap (λ (ps : List Peer). slice_get ps number) same) stuck
+  where
+    by : (p q : Option Peer) → p ≡ q → (known arms.Code p >>= λ x. Ok (closed_if_open d w number x)) ≡ Err arm → (known arms.Code q >>= λ x. Ok (closed_if_open d v number x)) ≡ Err arm
+    by None None same e = e
+    by None (Some q) same e = absurd (cc same)
+    by (Some p) q same e = absurd (cc e)
+
+-- where the dispose is not stuck, the close of a peer is not
+pub closing_able : (d : Definition) (v : code.World) (id : ℕ) → Able (disposed d (world_of v) id) → Able (closing d (peer_of (living v.table.objects id)) (world_of v))
+closing_able d v id able =
+    none_stops _ (λ arm stuck. no_arm _ arm able
+    (disposed_stops d v id (halts.Stuck arm) (λ w same. closing_alike d (peer_of (living v.table.objects id)) (world_of v) w (sym same) arm stuck)))
+
+pub finalising_able : (d : Definition) (v : code.World) (id : ℕ) → Able (finalising d (world_of v) id) → Able (closing d (peer_of (living v.table.objects id)) (world_of v))
+finalising_able d v id able =
+    none_stops _ (λ arm stuck. no_arm _ arm able
+    (finalised_stops d v id (halts.Stuck arm) (λ w same. closing_alike d (peer_of (living v.table.objects id)) (world_of v) w (sym same) arm stuck)))
 
 -- what code leaves of a dispose
 pub code_gone : (d : Definition) (v : code.World) (t : Store) (hs : Connected) (bs : Made) (id : ℕ) (closed : Option Closing) (first : Option (String Global))

@@ -17,13 +17,24 @@ use Rattle.ui_machine.specs.State.Objects.{Object, living}
 use Rattle.ui_machine.specs.State.Tasks.{Building, Item, Task}
 use Rattle.ui_machine.specs.Steps.{uncounted}
 use Rattle.instance_tables.specs.declared.error.AdoptError.{AdoptError}
-use Rattle.instance_tables.specs.declared.error.AdoptError.TheVariants.{NotLiving, HasParent, ChildLimit}
+use Rattle.instance_tables.specs.declared.error.AdoptError.TheVariants.{ChildLimit, HasParent, NotLiving, OutOfMemory}
 use Rattle.instance_tables.specs.Family.{refusal}
 use Rattle.definition_format.specs.Meaning.{IsBasic, object_count}
 use Rattle.engine_world.specs.KinView.{Kin, kin_at, joined}
 use Rattle.engine_world.proofs.Prototypes.{parentless}
 
 -- ** what the table says of both
+
+-- want of memory is no reason why an object may not become another's child
+pub never_memory : (parent child : ℕ) (p c : Option Object) → refusal parent p child c ≡ Some OutOfMemory → ⊥
+never_memory parent child None c because = cc because
+never_memory parent child (Some p) None because = cc because
+never_memory parent child (Some p) (Some c) because = by (is_unadoptable parent p child c) (is_some c.parent || nat_eq parent child) because
+  where
+    by : (b r : Bool) → cond b (Some (cond r HasParent ChildLimit)) None ≡ Some OutOfMemory → ⊥
+    by true true h = cc h
+    by true false h = cc h
+    by false r h = cc h
 
 module _ (d : Definition) (w : World) (parent child : ℕ) where
   abbrev told : World

@@ -32,3 +32,4 @@ pub mod Forwarded
 pub mod SeatedPeers
 mod PlainKinds
 mod ClosedPeers
+pub mod Ableness

@@ -1,7 +1,7 @@
 -- What the registers of a program hold as one is written, and the results that programs take.
 use Rattle.engine_world.specs.KnownHandlers.{AllTakeKnownHandlers}
 use Rattle.engine_world.proofs.Counts.{stays, restacked}
-use Rattle.std.proofs.Common.{◌≡◌, ◌∙◌, refl, sym, ap, ℕ, ◌+◌, Bool, true, false, nat_lt, length, List, [], ◌∷◌, Option, None, Result, Ok, Err, zero, suc, arith}
+use Rattle.std.proofs.Common.{◌≡◌, ◌∙◌, refl, sym, ap, ℕ, ◌+◌, Bool, true, false, nat_lt, length, List, [], ◌∷◌, Option, None, Some, Result, Ok, Err, zero, suc, arith}
 use Rattle.std.specs.Prelude.{OnOk}
 use Rattle.ui_machine.specs.declared.arm.Arm.TheVariants as arms
 use Rattle.ui_machine.specs.Definition.{Definition}
@@ -20,6 +20,8 @@ use Rattle.ui_machine.specs.State.Tasks.{Frame, Registers, Running, Task}
 use Rattle.ui_machine.specs.State.Objects.{Objects}
 use Rattle.instance_tables.specs.Store.{Store, count_of}
 use Rattle.engine_world.specs.Counting.{Counts, KeepsCounts, OnlyCounts, OnlyTasks, in_frame}
+use Rattle.engine_world.specs.Able.{Able}
+use Rattle.engine_world.proofs.Ableness.{first}
 use Rattle.engine_world.proofs.Emits.{stops_on}
 use Rattle.ui_machine.specs.declared.arm.Halt.{Halt}
 use Rattle.engine_world.specs.View.{world_of}
@@ -131,9 +133,24 @@ register_moved d e t taken before after only counts h = record {
 }
 
 -- what stops the write stops the program
-pub receive_stops : (f : Frame) (rest : List Task) (to : ℕ) (v : Option Value) (halt : Halt) → Stops halt (with_register to v f.registers) → Stops halt (received_by f rest to v)
+-- a register is there where the program is not stuck that takes a result
+pub receives_able : (f : Frame) (rest : List Task) (to : ℕ) (v : Option Value) → Able (received_by f rest to v) → Able (with_register to v f.registers)
 unfolding received_by
-receive_stops f rest to v halt s = stops_on halt (with_register to v f.registers) (λ new. Ok (Running (record f { into = None; registers = new }) ∷ rest)) s
+receives_able f rest to v able = first (with_register to v f.registers) (λ new. Ok (Running (record f { into = None; registers = new }) ∷ rest)) able
+
+-- whatever tasks there are behind it
+pub takes_able : (f : Frame) (rest : List Task) (v : Option Value) → Able (passed_down (Running f ∷ rest) v) → Able (taken f.into f [] v)
+unfolding received_by
+takes_able f rest v able = by f.into v able
+  where
+    of : (a : Answer Registers) → Able (a >>= λ new. Ok (Running (record f { into = None; registers = new }) ∷ rest)) → Able (a >>= λ new. Ok (Running (record f { into = None; registers = new }) ∷ []))
+    of (Ok new) may = tt
+    of (Err arm) may = may
+
+    by : (into : Option ℕ) (v : Option Value) → Able (taken into f rest v) → Able (taken into f [] v)
+    by None v may = tt
+    by (Some to) None may = may
+    by (Some to) (Some x) may = of (with_register to (Some x) f.registers) may
 
 -- other tasks that hold the same
 pub stack_same : (d : Definition) (e : Engine) (s : Stack) → tasks_of d e.world.handlers.handlers s ≡ agenda_of d e

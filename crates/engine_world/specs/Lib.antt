@@ -19,3 +19,4 @@ pub mod PeerPlaces
 pub mod EngineView
 pub mod Standing
 pub mod Counting
+pub mod Able

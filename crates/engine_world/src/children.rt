@@ -1,7 +1,7 @@
 //! Children: an object becomes another's child, or a limit's line says that it does not.
 
 ghost use Rattle.std.specs.Prelude.{◌≡◌, None, OnOk, OnErr};
-ghost use Rattle.ui_machine.specs.Outcome.{Goes};
+ghost use Rattle.engine_world.specs.Able.{Able, Leads};
 ghost use Rattle.ui_machine.specs.Output.Lines as lines;
 ghost use Rattle.ui_machine.specs.Rules.Children.{with_family};
 ghost use Rattle.ui_machine.specs.State.Config.{said};
@@ -16,7 +16,7 @@ use crate::lines::Line;
 use definitions::Definition;
 use instance_tables::AdoptError;
 use std::alloc::AllocError;
-use ui_machine::{Arm, Halt, ObjectId};
+use ui_machine::ObjectId;
 
 /// An object, and the one whose child it is to be.
 #[derive(Clone, Copy)]
@@ -67,9 +67,10 @@ fn adopt(engine: &mut Engine, definition: &Definition, kin: Kin) -> Result<(), A
 ///
 /// # Errors
 ///
-/// `Halt::OutOfMemory` if memory is refused, and `Halt::Stuck` where the machine is stuck here.
-pub fn join(engine: &mut Engine, definition: &Definition, kin: Kin) -> Result<(), Halt>
-    ensures joins { Goes result (joined definition.now (world_of engine.old.world) kin.parent.0 kin.child.0) (world_of engine.new.world) }
+/// `AllocError` if no memory is found.
+pub fn join(engine: &mut Engine, definition: &Definition, kin: Kin) -> Result<(), AllocError>
+    requires able { Able (joined definition.now (world_of engine.now.world) kin.parent.0 kin.child.0) }
+    ensures joins { Leads result (joined definition.now (world_of engine.old.world) kin.parent.0 kin.child.0) (world_of engine.new.world) }
     ensures quiet { OnErr result (IsQuiet (world_of engine.old.world) (world_of engine.new.world)) }
     ensures same { (engine.new.stack ≡ engine.old.stack) × (engine.new.counted ≡ engine.old.counted) }
     ensures handlers { engine.new.world.handlers ≡ engine.old.world.handlers }
@@ -77,8 +78,8 @@ pub fn join(engine: &mut Engine, definition: &Definition, kin: Kin) -> Result<()
 {
     match engine.world.table.refusal(kin.parent, kin.child) {
         None => adopt(engine, definition, kin)?,
-        Some(AdoptError::NotLiving) => return Err(Halt::Stuck(Arm::Operand)),
-        Some(AdoptError::OutOfMemory) => return Err(Halt::OutOfMemory),
+        Some(AdoptError::NotLiving) => unreachable!(),
+        Some(AdoptError::OutOfMemory) => unreachable!(),
         Some(AdoptError::HasParent) => say_limit(engine, definition, "adopt")?,
         Some(AdoptError::ChildLimit) => say_limit(engine, definition, "adopt")?,
     }
@@ -89,14 +90,15 @@ pub fn join(engine: &mut Engine, definition: &Definition, kin: Kin) -> Result<()
 ///
 /// # Errors
 ///
-/// `Halt::OutOfMemory` if memory is refused, and `Halt::Stuck` where the machine is stuck here.
+/// `AllocError` if no memory is found.
 pub fn join_objects(
     engine: &mut Engine,
     definition: &Definition,
     parent: ObjectId,
     child: ObjectId,
-) -> Result<(), Halt>
-    ensures joins { Goes result (joined definition.now (world_of engine.old.world) parent.0 child.0) (world_of engine.new.world) }
+) -> Result<(), AllocError>
+    requires able { Able (joined definition.now (world_of engine.now.world) parent.0 child.0) }
+    ensures joins { Leads result (joined definition.now (world_of engine.old.world) parent.0 child.0) (world_of engine.new.world) }
     ensures quiet { OnErr result (IsQuiet (world_of engine.old.world) (world_of engine.new.world)) }
     ensures same { (engine.new.stack ≡ engine.old.stack) × (engine.new.counted ≡ engine.old.counted) }
     ensures handlers { engine.new.world.handlers ≡ engine.old.world.handlers }

@@ -1,8 +1,8 @@
 //! Peers that are closed as the objects that have them are disposed.
 
-ghost use Rattle.std.specs.Prelude.{◌≡◌, ◌∷◌, ◌++◌, [], ◌<◌, ℕ, IfErr, IfOk, IfSome, IsSome, List, Ok, OnErr, OnOk, length, map, option_map, string_bytes};
+ghost use Rattle.std.specs.Prelude.{◌≡◌, ◌∷◌, ◌++◌, [], ◌<◌, ℕ, IfOk, IfSome, IsSome, List, Ok, OnErr, OnOk, length, map, option_map, string_bytes};
 ghost use Rattle.std.specs.Option.{option_map_or};
-ghost use Rattle.ui_machine.specs.Outcome.{Stops};
+ghost use Rattle.engine_world.specs.Able.{Able};
 ghost use Rattle.ui_machine.specs.Output.Lines as lines;
 ghost use Rattle.ui_machine.specs.Prefix.{IsPrefix};
 ghost use Rattle.ui_machine.specs.Rules.Disposal.{closing, is_first, peer_of, said_if};
@@ -18,7 +18,7 @@ use crate::engine::Engine;
 use crate::lines::Line;
 use definitions::Definition;
 use std::alloc::{AllocError, Global};
-use ui_machine::{Arm, Halt, ObjectId};
+use ui_machine::ObjectId;
 
 /// An open peer that is to be closed, by its number, and the line that reports it.
 #[derive(Drop)]
@@ -31,24 +31,23 @@ pub struct Closing {
 ///
 /// # Errors
 ///
-/// `Halt::OutOfMemory` if memory is refused, and `Halt::Stuck` where the machine is stuck here.
+/// `AllocError` if no memory is found.
 pub fn closing_with(
     engine: &Engine,
     definition: &Definition,
     object: ObjectId,
-) -> Result<Option<Closing>, Halt>
+) -> Result<Option<Closing>, AllocError>
+    requires able { Able (closing definition.now (peer_of (living engine.now.world.table.objects object.0)) (world_of engine.now.world)) }
     ensures closes { IfOk result (λ closed. (w : World) → w.peers ≡ engine.now.world.seats
         → closing definition.now (peer_of (living engine.now.world.table.objects object.0)) w ≡ Ok (with_closed closed w)) }
     ensures number { IfOk result (λ closed. option_map (λ (c : Closing). c.peer) closed ≡ closed_with (world_of engine.now.world) object.0) }
     ensures there { IfOk result (IsThere engine.now.world.seats) }
-    ensures stops { IfErr result (λ halt. (w : World) → w.peers ≡ engine.now.world.seats
-        → Stops halt (closing definition.now (peer_of (living engine.now.world.table.objects object.0)) w)) }
 {
     let Some(peer) = engine.world.table.peer_of(object) else {
         return Ok(None);
     };
     let Some(seat) = engine.world.seats.seat(peer) else {
-        return Err(Halt::Stuck(Arm::Code));
+        unreachable!()
     };
     if !seat.is_open {
         return Ok(None);

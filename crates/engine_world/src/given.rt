@@ -1,6 +1,6 @@
 //! What is given: values, and objects that the builder has.
 
-ghost use Rattle.std.specs.Prelude.{◌≡◌, Some, option_map, IfOk};
+ghost use Rattle.std.specs.Prelude.{◌≡◌, Ok, Some, option_map, IfOk};
 ghost use Rattle.ui_machine.specs.Definition.Values as values;
 ghost use Rattle.ui_machine.specs.Outcome.{known};
 ghost use Rattle.ui_machine.specs.declared.arm.Arm.TheVariants as arms;
@@ -8,20 +8,19 @@ ghost use Rattle.ui_machine.specs.Rules.Build.{held_object};
 ghost use Rattle.ui_machine.specs.Rules.Construction.{given_value};
 ghost use Rattle.g_values.specs.View.{value_view};
 ghost use Rattle.definition_format.specs.Meaning.{given_view};
-ghost use Rattle.instance_tables.specs.Store.{Shows, id_of};
+ghost use Rattle.instance_tables.specs.Store.{id_of};
 ghost use Rattle.ui_machine.specs.declared.ids.ObjectId.{ObjectId};
-ghost use Rattle.engine_world.specs.GivenView.{held_value, settable_at};
+ghost use Rattle.engine_world.specs.Able.{Able};
+ghost use Rattle.engine_world.specs.GivenView.{held_value};
 ghost use Rattle.engine_world.specs.View.{world_of};
 
 use crate::engine::Engine;
-use crate::properties::spec_of;
 use crate::world::World;
 use definition_format::Given;
-use definitions::Definition;
 use g_values::Value;
 use std::alloc::AllocError;
 use type_tree::TypeId;
-use ui_machine::{Arm, ObjectId, Place, Slot};
+use ui_machine::{ObjectId, Place};
 
 // The type that every object is.
 const G_OBJECT: u16 = 0;
@@ -49,65 +48,34 @@ impl World {
     }
 }
 
-/// The object that the builder has of a place.
-///
-/// # Errors
-///
-/// The arm by which the machine is stuck here, if it is.
-pub fn held_object(engine: &Engine, place: Place) -> Result<ObjectId, Arm>
-    ensures { Shows (λ (id : ObjectId). id.0) result (held_object (world_of engine.now.world) place.0) }
+/// The object that the builder has of a place, which it has.
+pub fn held_object(engine: &Engine, place: Place) -> ObjectId
+    requires able { Able (held_object (world_of engine.now.world) place.0) }
+    ensures { held_object (world_of engine.now.world) place.0 ≡ Ok result.0 }
 {
-    engine.world.built(place).ok_or(Arm::Operand)
+    let Some(object) = engine.world.built(place) else {
+        unreachable!()
+    };
+    object
 }
 
 /// The same as a value.
-///
-/// # Errors
-///
-/// The arm by which the machine is stuck here, if it is.
-pub fn held_value(engine: &Engine, place: Place) -> Result<Value, Arm>
-    ensures { Shows value_view result (held_value (world_of engine.now.world) place.0) }
+pub fn held_value(engine: &Engine, place: Place) -> Value
+    requires able { Able (held_value (world_of engine.now.world) place.0) }
+    ensures { held_value (world_of engine.now.world) place.0 ≡ Ok (value_view result) }
 {
-    let object = held_object(engine, place)?;
-    Ok(object_value(object))
+    object_value(held_object(engine, place))
 }
 
-/// A given value, or the object of the builder.
-///
-/// # Errors
-///
-/// The arm by which the machine is stuck here, if it is.
-pub fn operand(engine: &Engine, given: Given) -> Result<Value, Arm>
-    ensures { Shows value_view result (known arms.Operand (given_value (world_of engine.now.world) (given_view given))) }
+/// A given value, or the object of the builder, which it has.
+pub fn operand(engine: &Engine, given: Given) -> Value
+    requires able { Able (known arms.Operand (given_value (world_of engine.now.world) (given_view given))) }
+    ensures { given_value (world_of engine.now.world) (given_view given) ≡ Some (value_view result) }
 {
     match given {
-        Given::Value(value) => Ok(value),
+        Given::Value(value) => value,
         Given::Object(place) => held_value(engine, place),
     }
-}
-
-/// The object that the builder has of a place, whose property may be set.
-///
-/// # Errors
-///
-/// The arm by which the machine is stuck here, if it is.
-pub fn settable(
-    engine: &Engine,
-    definition: &Definition,
-    place: Place,
-    slot: Slot,
-) -> Result<ObjectId, Arm>
-    ensures { Shows (λ (id : ObjectId). id.0) result (settable_at definition.now (world_of engine.now.world) place.0 slot) }
-{
-    let object = held_object(engine, place)?;
-    let spec = spec_of(engine, definition, object, slot)?;
-    if !spec.is_writable() {
-        return Err(Arm::Flags);
-    }
-    if spec.is_construct_only() {
-        return Err(Arm::ConstructOnly);
-    }
-    Ok(object)
 }
 
 /// An object as a value, or the null object.

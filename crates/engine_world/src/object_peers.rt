@@ -1,11 +1,11 @@
 //! Which peer an object gets as it is made.
 
-ghost use Rattle.std.specs.Prelude.{◌≡◌, ◌<◌, ◌||◌, ℕ, IfOk, IfSome, None, Some, drop, is_some, length, not, slice_get, take};
+ghost use Rattle.std.specs.Prelude.{◌≡◌, ◌<◌, ◌||◌, ℕ, IfSome, None, Ok, Some, drop, is_some, length, not, slice_get, take};
 ghost use Rattle.ui_machine.specs.Rules.Build.{first_peer};
 ghost use Rattle.ui_machine.specs.Rules.Construction.{has_shape, peer_left, peer_to_take};
 ghost use Rattle.definition_format.specs.Meaning.{name_bytes};
 ghost use Rattle.definitions.specs.EntryView.{entry_view};
-ghost use Rattle.instance_tables.specs.Store.{Shows};
+ghost use Rattle.engine_world.specs.Able.{Able};
 ghost use Rattle.ui_machine.specs.Definition as definition;
 ghost use Rattle.ui_machine.specs.Definition.Places as machine;
 ghost use Rattle.ui_machine.specs.Seq.{read};
@@ -19,7 +19,7 @@ use crate::places::entry_at;
 use crate::seats::Seats;
 use definitions::{Definition, ObjectEntry};
 use type_tree::TypeId;
-use ui_machine::{Arm, Place};
+use ui_machine::Place;
 
 /// The peer for a new object of a prototype.
 #[derive(Clone, Copy, Debug, PartialEq, Eq)]
@@ -73,26 +73,15 @@ fn first_peer(seats: &Seats, names: &[String]) -> Option<usize>
 }
 
 /// The peer that the object at a place of the build has for its own: it has one where its class has a shape.
-///
-/// # Errors
-///
-/// The arm by which the machine is stuck here, if it is.
-pub fn own_peer(
-    engine: &Engine,
-    definition: &Definition,
-    place: Place,
-) -> Result<Option<usize>, Arm>
-    ensures own { Shows (λ peer. peer) result (own_peer definition.now (world_of engine.now.world) place.0) }
-    ensures within { IfOk result (λ peer. IfSome peer (λ number. number < length engine.now.world.seats)) }
+pub fn own_peer(engine: &Engine, definition: &Definition, place: Place) -> Option<usize>
+    requires able { Able (own_peer definition.now (world_of engine.now.world) place.0) }
+    ensures own { own_peer definition.now (world_of engine.now.world) place.0 ≡ Ok result }
+    ensures within { IfSome result (λ number. number < length engine.now.world.seats) }
 {
     let Some(entry) = entry_at(definition, place) else {
-        return Err(Arm::Code);
+        unreachable!()
     };
-    let peer = first_peer(&engine.world.seats, entry.peers);
-    if has_shape(definition, entry.class) != peer.is_some() {
-        return Err(Arm::Code);
-    }
-    Ok(peer)
+    first_peer(&engine.world.seats, entry.peers)
 }
 
 // The number that is kept of a place, and 0 where none is.

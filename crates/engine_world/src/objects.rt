@@ -1,7 +1,7 @@
 //! Objects that are made: with their defaults, and with what their construction has still to do.
 
-ghost use Rattle.std.specs.Prelude.{◌≡◌, ◌<◌, suc, length, ℕ, cond, [], ◌∷◌, ◌++◌, map, OnOk, OnErr, IfOk, IfErr, IfSome, Bool};
-ghost use Rattle.ui_machine.specs.Outcome.{Stops};
+ghost use Rattle.std.specs.Prelude.{◌≡◌, ◌<◌, suc, length, ℕ, cond, [], ◌∷◌, ◌++◌, map, OnOk, OnErr, IfOk, IfSome, Bool};
+ghost use Rattle.engine_world.specs.Able.{Able};
 ghost use Rattle.ui_machine.specs.Definition.Properties as machine;
 ghost use Rattle.ui_machine.specs.Definition.Lookups.{specs_of};
 ghost use Rattle.instance_tables.specs.Store.{made_object};
@@ -31,7 +31,7 @@ use g_values::Value;
 use instance_tables::{Object, Table};
 use std::alloc::{AllocError, Global};
 use type_tree::TypeId;
-use ui_machine::{Arm, Halt, ObjectId, Place, Slot};
+use ui_machine::{ObjectId, Place, Slot};
 
 // The type under which objects begin floating.
 const INITIALLY_UNOWNED: u16 = 1;
@@ -78,19 +78,19 @@ fn create_object(
 ///
 /// # Errors
 ///
-/// `Halt::OutOfMemory` if memory is refused, and `Halt::Stuck` where the machine is stuck here.
+/// `AllocError` if no memory is found.
 #[tactic(auto, unfolding(ui_machine::specs::Rules::Construction::making))]
 pub fn make(
     engine: &mut Engine,
     definition: &Definition,
     place: Place,
     peer: Option<usize>,
-) -> Result<NewObject, Halt>
+) -> Result<NewObject, AllocError>
+    requires able { (held : Bool) → Able (making definition.now (world_of engine.now.world) place.0 peer held) }
     ensures made { IfOk result (λ new. (held : Bool) → making definition.now (world_of engine.old.world) place.0 peer held
         ≡ starts (begun new (world_of engine.new.world)) (Constructing new.object.0 new.steps held ∷ [])) }
     ensures peer { IfOk result (λ new. new.peer ≡ peer) }
     ensures identity { IfOk result (λ new. new.object.0 ≡ suc (length (world_of engine.old.world).objects)) }
-    ensures stops { IfErr result (λ halt. (held : Bool) → Stops halt (making definition.now (world_of engine.old.world) place.0 peer held)) }
     ensures quiet { IsQuiet (world_of engine.old.world) (world_of engine.new.world) }
     ensures seats { engine.new.world.seats ≡ engine.old.world.seats }
     ensures counted { OnOk result (KeepsCounts definition.now engine.old engine.new) }
@@ -99,12 +99,9 @@ pub fn make(
 {
     let types = definition.types();
     let Some(entry) = entry_at(definition, place) else {
-        return Err(Halt::Stuck(Arm::Code));
+        unreachable!()
     };
     let class = entry.class;
-    if types.flags(class).is_abstract {
-        return Err(Halt::Stuck(Arm::Abstract));
-    }
     let values = defaults(engine.alloc, definition, class)?;
     let given = GivenAt {
         world: &engine.world,

@@ -1,9 +1,9 @@
 //! Programs that run: what their registers hold, and the results that they wait for.
 
-ghost use Rattle.std.specs.Prelude.{◌≡◌, ℕ, ◌+◌, ◌≤◌, ◌∷◌, Some, option_map, OnOk};
+ghost use Rattle.std.specs.Prelude.{◌≡◌, ℕ, ◌+◌, ◌≤◌, [], ◌∷◌, Some, option_map, OnOk};
 ghost use Rattle.ui_machine.specs.Definition as machine;
 ghost use Rattle.ui_machine.specs.Instructions.Registers.{with_register};
-ghost use Rattle.ui_machine.specs.Outcome.{Goes};
+ghost use Rattle.engine_world.specs.Able.{Able, Leads};
 ghost use Rattle.ui_machine.specs.Rules.Accumulation.{passed_down, received, received_by, taken};
 ghost use Rattle.ui_machine.specs.State.Tasks.{Running};
 ghost use Rattle.g_values.specs.View.{value_view};
@@ -22,28 +22,30 @@ use frames::Frame;
 use g_values::Value;
 use instance_tables::Table;
 use std::alloc::AllocError;
-use ui_machine::{Arm, Halt};
 
 /// Writes a register, or unsets it. What it names then is held, and what it named is let go.
 ///
 /// # Errors
 ///
-/// `Halt::OutOfMemory` if memory is refused, and `Halt::Stuck` where the machine is stuck here.
+/// `AllocError` if no memory is found.
 #[inline(always)]
 pub fn put(
     table: &mut Table,
     frame: &mut Frame,
     to: Register,
     value: Option<Value>,
-) -> Result<(), Halt>
+) -> Result<(), AllocError>
+    requires able { Able (with_register to.0 (option_map value_view value) (frame_view frame.now).registers) }
     requires held { (o : ℕ) → in_frame o (frame_view frame.now) ≤ count_of table.now.counts o }
-    ensures written { Goes result (with_register to.0 (option_map value_view value) (frame_view frame.old).registers) (frame_view frame.new).registers }
+    ensures written { Leads result (with_register to.0 (option_map value_view value) (frame_view frame.old).registers) (frame_view frame.new).registers }
     ensures beside { frame_view frame.new ≡ record (frame_view frame.old) { registers = (frame_view frame.new).registers } }
     ensures only { OnlyCounts table.old table.new }
     ensures counts { OnOk result ((o : ℕ) → count_of table.new.counts o + in_frame o (frame_view frame.old) ≡ count_of table.old.counts o + in_frame o (frame_view frame.new)) }
 {
     hold_any(table, register_named(&value))?;
-    let held = frame.put(to, value)?;
+    let Ok(held) = frame.put(to, value) else {
+        unreachable!()
+    };
     let_go_any(table, register_named(&held));
     Ok(())
 }
@@ -65,9 +67,15 @@ pub fn push_frame(engine: &mut Engine, frame: Frame) -> Result<(), AllocError>
 }
 
 // A program goes on with a result in the register that waited for it.
-fn receive(engine: &mut Engine, mut frame: Frame, to: Register, value: Value) -> Result<(), Halt>
+fn receive(
+    engine: &mut Engine,
+    mut frame: Frame,
+    to: Register,
+    value: Value,
+) -> Result<(), AllocError>
+    requires able { Able (with_register to.0 (Some (value_view value)) (frame_view frame).registers) }
     requires held { (o : ℕ) → in_frame o (frame_view frame) ≤ count_of engine.now.world.table.counts o }
-    ensures agenda { (d : machine.Definition) → Goes result (received_by (frame_view frame) (agenda_of d engine.old) to.0 (Some (value_view value))) (agenda_of d engine.new) }
+    ensures agenda { (d : machine.Definition) → Leads result (received_by (frame_view frame) (agenda_of d engine.old) to.0 (Some (value_view value))) (agenda_of d engine.new) }
     ensures only { OnlyTasks engine.old engine.new }
     ensures counted { OnOk result ((d : machine.Definition) (taken : ℕ → ℕ)
         → Counts d (λ o. taken o + in_frame o (frame_view frame)) engine.old → Counts d taken engine.new) }
@@ -79,10 +87,11 @@ fn receive(engine: &mut Engine, mut frame: Frame, to: Register, value: Value) ->
 }
 
 // A program takes the result of the emission above it, if it waits for one.
-fn pass_to(engine: &mut Engine, frame: Frame, value: &Option<Value>) -> Result<(), Halt>
+fn pass_to(engine: &mut Engine, frame: Frame, value: &Option<Value>) -> Result<(), AllocError>
+    requires able { Able (taken (option_map number_of frame.into) (frame_view frame) [] (option_map value_view value.now)) }
     requires held { (o : ℕ) → in_frame o (frame_view frame) ≤ count_of engine.now.world.table.counts o }
     ensures agenda { (d : machine.Definition)
-        → Goes result (taken (option_map number_of frame.into) (frame_view frame) (agenda_of d engine.old) (option_map value_view value.now)) (agenda_of d engine.new) }
+        → Leads result (taken (option_map number_of frame.into) (frame_view frame) (agenda_of d engine.old) (option_map value_view value.now)) (agenda_of d engine.new) }
     ensures only { OnlyTasks engine.old engine.new }
     ensures counted { OnOk result ((d : machine.Definition) (taken : ℕ → ℕ)
         → Counts d (λ o. taken o + in_frame o (frame_view frame)) engine.old → Counts d taken engine.new) }
@@ -92,7 +101,7 @@ fn pass_to(engine: &mut Engine, frame: Frame, value: &Option<Value>) -> Result<(
         return Ok(());
     };
     let Some(value) = value else {
-        return Err(Halt::Stuck(Arm::Result));
+        unreachable!()
     };
     let value = value.copied()?;
     receive(engine, frame, to, value)
@@ -102,25 +111,26 @@ fn pass_to(engine: &mut Engine, frame: Frame, value: &Option<Value>) -> Result<(
 ///
 /// # Errors
 ///
-/// `Halt::OutOfMemory` if memory is refused, and `Halt::Stuck` where the machine is stuck here.
+/// `AllocError` if no memory is found.
 pub fn pass_answer(
     engine: &mut Engine,
     definition: &Definition,
     to: Register,
     value: Value,
-) -> Result<(), Halt>
+) -> Result<(), AllocError>
+    requires able { Able (received (agenda_of definition.now engine.now) to.0 (Some (value_view value))) }
     requires held { HoldsTasks definition.now engine.now }
-    ensures agenda { Goes result (received (agenda_of definition.now engine.old) to.0 (Some (value_view value))) (agenda_of definition.now engine.new) }
+    ensures agenda { Leads result (received (agenda_of definition.now engine.old) to.0 (Some (value_view value))) (agenda_of definition.now engine.new) }
     ensures only { OnlyTasks engine.old engine.new }
     ensures counted { OnOk result (KeepsCounts definition.now engine.old engine.new) }
 {
     // For the proof: the clauses speak of the definition.
     let _ = definition;
     let Some(task) = engine.stack.pop() else {
-        return Err(Halt::Stuck(Arm::Code));
+        unreachable!()
     };
     let Task::Running(frame) = task else {
-        return Err(Halt::Stuck(Arm::Code));
+        unreachable!()
     };
     receive(engine, frame, to, value)
 }
@@ -129,14 +139,15 @@ pub fn pass_answer(
 ///
 /// # Errors
 ///
-/// `Halt::OutOfMemory` if memory is refused, and `Halt::Stuck` where the machine is stuck here.
+/// `AllocError` if no memory is found.
 pub fn pass_down(
     engine: &mut Engine,
     definition: &Definition,
     value: &Option<Value>,
-) -> Result<(), Halt>
+) -> Result<(), AllocError>
+    requires able { Able (passed_down (agenda_of definition.now engine.now) (option_map value_view value.now)) }
     requires held { HoldsTasks definition.now engine.now }
-    ensures agenda { Goes result (passed_down (agenda_of definition.now engine.old) (option_map value_view value.now)) (agenda_of definition.now engine.new) }
+    ensures agenda { Leads result (passed_down (agenda_of definition.now engine.old) (option_map value_view value.now)) (agenda_of definition.now engine.new) }
     ensures only { OnlyTasks engine.old engine.new }
     ensures counted { OnOk result (KeepsCounts definition.now engine.old engine.new) }
 {

@@ -1,19 +1,19 @@
 //! What is looked up of living objects: their classes, and the specs of their properties.
 
-ghost use Rattle.std.specs.Prelude.{◌≡◌, IfOk};
+ghost use Rattle.std.specs.Prelude.{◌≡◌, Ok};
 ghost use Rattle.ui_machine.specs.Rules.Sets.{spec_at};
 ghost use Rattle.ui_machine.specs.State.Objects.{class_in};
 ghost use Rattle.param_specs.specs.View.{spec_view};
 ghost use Rattle.definition_format.specs.Meaning.{IsPlain};
 ghost use Rattle.engine_world.specs.View.{world_of};
-ghost use Rattle.instance_tables.specs.Store.{Shows};
+ghost use Rattle.engine_world.specs.Able.{Able};
 
 use crate::engine::Engine;
 use definitions::Definition;
 use instance_tables::Table;
 use param_specs::Spec;
 use type_tree::TypeId;
-use ui_machine::{Arm, ObjectId, Slot};
+use ui_machine::{ObjectId, Slot};
 
 /// The class of an object, if it lives.
 pub fn living_class(table: &Table, id: ObjectId) -> Option<TypeId>
@@ -26,25 +26,24 @@ pub fn living_class(table: &Table, id: ObjectId) -> Option<TypeId>
 }
 
 /// The spec of a living object's property.
-///
-/// # Errors
-///
-/// The arm by which the machine is stuck here, if it is.
 #[tactic(auto, unfolding(ui_machine::specs::Rules::Sets::spec_at))]
 pub fn spec_of<'a>(
     engine: &Engine,
     definition: &'a Definition,
     object: ObjectId,
     slot: Slot,
-) -> Result<&'a Spec, Arm>
-    ensures spec { Shows (λ s. spec_view s.now) result (spec_at definition.now (world_of engine.now.world).objects object.0 slot) }
-    ensures plain { IfOk result (λ s. IsPlain definition.now.types (spec_view s.now)) }
+) -> &'a Spec
+    requires able { Able (spec_at definition.now (world_of engine.now.world).objects object.0 slot) }
+    ensures spec { spec_at definition.now (world_of engine.now.world).objects object.0 slot ≡ Ok (spec_view result.now) }
+    ensures plain { IsPlain definition.now.types (spec_view result.now) }
 {
     // For the proof: what is known of a definition's types.
     let _types = definition.types();
-    let class = engine.world.table.class_of(object)?;
-    let Some(spec) = definition.spec(class, slot) else {
-        return Err(Arm::Code);
+    let Ok(class) = engine.world.table.class_of(object) else {
+        unreachable!()
     };
-    Ok(spec)
+    let Some(spec) = definition.spec(class, slot) else {
+        unreachable!()
+    };
+    spec
 }

@@ -1,5 +1,4 @@
 use Rattle.std.proofs.Common.{[], ◌∷◌, Bool, cond, option_map, refl, sym, ap, ◌∙◌}
-use Rattle.std.proofs.lemmas.Result.{err_from_is_err_and}
 use Rattle.ui_machine.specs.State.Tasks.{Emitting, Task}
 use Rattle.g_values.specs.View.{value_view}
 use Rattle.signal_core.specs.Emission.{Walk, accumulator_of}
@@ -9,48 +8,31 @@ use Rattle.engine_world.specs.View.{world_of}
 use Rattle.engine_world.specs.declared.task.Transfers.{Transfers}
 use Rattle.engine_world.specs.declared.task.Transfers.TheVariants as at
 use Rattle.engine_instructions.specs.CollectView.{collects}
-use Rattle.engine_instructions.proofs.Collecting.{collect_suited, collect_unheard, collect_unknown, collect_unsuited, collected_as, collected_counts, still_begun, still_ends, collects_object, leaves_as}
+use Rattle.engine_instructions.proofs.Collecting.{collect_suited, collect_unheard, collect_unknown, collected_as, collected_counts, still_begun, still_ends, collects_object, leaves_as}
+use Rattle.engine_world.proofs.Ableness.{no_arm}
 use Rattle.engine_world.proofs.Registers.{table_world}
 use Rattle.engine_instructions.proofs.accumulation.accumulate.Goals as goal
 
-pub returns-in_err-class-clause-step : goal.returns-in_err-class-clause-step
-returns-in_err-class-clause-step c =
+pub unreachable-requires : goal.unreachable-requires
+unreachable-requires c =
     let d = c.args.definition.now in
     let e = c.args.engine.now in
     let w = c.args.cursor in
     let hs = e.world.handlers.handlers in
-    let p = err_from_is_err_and c.from_residual.result c.from_residual.ensures.1 in
-    rw (p.1, p.2)
+    no_arm _ _ c.requires.able
     (collect_unheard d (world_of e.world) (emission_of w c.args.args.items c.args.by_event) (entries_to_come w hs c.args.transfers) (agenda_of d e) (option_map value_view c.args.given) _
-    (rw c.object-object.ensures at c.in_err-class.ensures))
+    (rw c.object-object.ensures at c.in_default.ensures))
 
-pub returns-in_default-clause-step : goal.returns-in_default-clause-step
-returns-in_default-clause-step c =
+pub unreachable-requires-in_default-signal : goal.unreachable-requires-in_default-signal
+unreachable-requires-in_default-signal c =
     let d = c.args.definition.now in
     let e = c.args.engine.now in
     let w = c.args.cursor in
     let hs = e.world.handlers.handlers in
-    let none = sym c.signal.ensures ∙ ap (option_map declared_view) c.in_default.is in
-    collect_unknown d (world_of e.world) (emission_of w c.args.args.items c.args.by_event) (entries_to_come w hs c.args.transfers) (agenda_of d e) (option_map value_view c.args.given) _
-    (rw c.object-object.ensures at c.in_ok-class.ensures) (rw c.signal-number.ensures at none)
-
-pub suits-requires : goal.suits-requires
-suits-requires c = record {
-  known =
-      let declared = sym c.signal.ensures ∙ ap (option_map declared_view) c.in-Some.is in
-      rw c.types-types.ensures.types ((c.types-types.ensures.basic.signal_kinds c.in_ok-class.class c.signal-number.result (declared_view c.in-Some.signal) declared).result);
-}
-
-pub returns-then-not-suits-clause-step : goal.returns-then-not-suits-clause-step
-returns-then-not-suits-clause-step c =
-    let d = c.args.definition.now in
-    let e = c.args.engine.now in
-    let w = c.args.cursor in
-    let hs = e.world.handlers.handlers in
-    let declared = sym c.signal.ensures ∙ ap (option_map declared_view) c.in-Some.is in
-    let misfit = rw c.types-types.ensures.types at (sym c.if-not-suits.ensures) in
-    collect_unsuited d (world_of e.world) (emission_of w c.args.args.items c.args.by_event) (entries_to_come w hs c.args.transfers) (agenda_of d e) (option_map value_view c.args.given) _
-    (rw c.object-object.ensures at c.in_ok-class.ensures) (declared_view c.in-Some.signal) (rw c.signal-number.ensures at declared) misfit
+    let none = sym c.signal.ensures ∙ ap (option_map declared_view) c.in_default-signal.is in
+    no_arm _ _ c.requires.able
+    (collect_unknown d (world_of e.world) (emission_of w c.args.args.items c.args.by_event) (entries_to_come w hs c.args.transfers) (agenda_of d e) (option_map value_view c.args.given) _
+    (rw c.object-object.ensures at c.in-Ok.ensures) (rw c.signal-number.ensures at none))
 
 pub returns-clause-step : goal.returns-clause-step
 returns-clause-step c =
@@ -62,9 +44,8 @@ returns-clause-step c =
     let s = declared_view c.in-Some.signal in
     let given = option_map value_view c.args.given in
     let declared = sym c.signal.ensures ∙ ap (option_map declared_view) c.in-Some.is in
-    let fit = rw c.types-types.ensures.types at (sym c.if-not-suits.ensures) in
     collect_suited d (world_of e.world) (emission_of w args c.args.by_event) (entries_to_come w hs c.args.transfers) (agenda_of d e) given _
-    (rw c.object-object.ensures at c.in_ok-class.ensures) s (rw c.signal-number.ensures at declared) fit
+    (rw c.object-object.ensures at c.in-Ok.ensures) s (rw c.signal-number.ensures at declared) c.requires.able
     ∙ leaves_as _ _ _ _ (sym (table_world e c.collect.new.table c.collect.ensures.only))
     (ap (λ (t : Task). t ∷ agenda_of d e) (collected_as w hs args c.args.by_event c.args.transfers c.requires.ends s given)
     ∙ ap (λ (b : Bool). Emitting (emission_of (collects s.accumulator given w) args c.args.by_event) (entries_to_come (collects s.accumulator given w) hs (cond b (at.Due []) c.args.transfers)) ∷ agenda_of d e) (sym c.in_ok-is_last.ensures.last)

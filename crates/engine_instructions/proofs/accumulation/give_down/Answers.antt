@@ -1,16 +1,16 @@
 use Rattle.std.proofs.Common.{◌≡◌, List, [], ◌∷◌, option_map, refl, sym, subst, ap, ◌∙◌, arith}
-use Rattle.ui_machine.specs.Outcome.{Goes}
 use Rattle.ui_machine.specs.Rules.Accumulation.{given_down}
 use Rattle.ui_machine.specs.Seq.{total}
 use Rattle.ui_machine.specs.State.References.{in_task}
 use Rattle.ui_machine.specs.State.Tasks.{Task}
 use Rattle.g_values.specs.View.{value_view}
+use Rattle.engine_world.specs.Able.{Able, Leads}
 use Rattle.engine_world.specs.KnownHandlers.{TakesKnownHandlers}
 use Rattle.engine_world.specs.TaskView.{agenda_of, emission_of, entries_to_come, task_of, tasks_of}
 use Rattle.engine_world.specs.View.{world_of}
 use Rattle.engine_world.specs.declared.task.Task as code
 use Rattle.engine_world.specs.declared.task.Task.TheVariants as tasks
-use Rattle.engine_instructions.proofs.Collecting.{TakesNone, goes_none, gives_last, gives_other, gives_source, on_any, popped_emission, popped_source}
+use Rattle.engine_instructions.proofs.Collecting.{TakesNone, gives_last, gives_nothing, gives_other, gives_source, popped_emission, popped_source, source_able}
 use Rattle.engine_world.proofs.Left.{same_agenda}
 use Rattle.engine_world.proofs.Registers.{on_ok, stack_same}
 use Rattle.engine_instructions.proofs.accumulation.give_down.Goals as goal
@@ -21,13 +21,13 @@ returns-in_default-clause-step c =
     let e = c.args.engine.now in
     let given = option_map value_view c.args.given in
     let none = c.in_default.ensures.tasks d e.world.handlers.handlers in
-    goes_none d (world_of e.world) c.check_none.result given (agenda_of d e) _ [] c.check_none.ensures none.0 none.1 (gives_last d (world_of e.world) given)
+    gives_nothing d (world_of e.world) given (agenda_of d e) _ [] none.0 none.1 (gives_last d (world_of e.world) given) c.requires.able
 
 pub returns-in_default-clause-counted : goal.returns-in_default-clause-counted
 returns-in_default-clause-counted c =
     let d = c.args.definition.now in
     let none = c.in_default.ensures.tasks d c.args.engine.now.world.handlers.handlers in
-    on_any c.check_none.result (stack_same d c.args.engine.now c.pop.new.self (none.1 ∙ sym none.0) c.in_default.ensures.begun)
+    stack_same d c.args.engine.now c.pop.new.self (none.1 ∙ sym none.0) c.in_default.ensures.begun
 
 pub returns-in_ok-push-in_default-task-clause-step : goal.returns-in_ok-push-in_default-task-clause-step
 returns-in_ok-push-in_default-task-clause-step c =
@@ -37,8 +37,8 @@ returns-in_ok-push-in_default-task-clause-step c =
     let t = c.in-Some.task in
     let rest = tasks_of d hs c.pop.new.self in
     let given = option_map value_view c.args.given in
-    goes_none d (world_of e.world) c.check_none-in_default-task.result given (agenda_of d e) _ (task_of d hs t ∷ rest) c.check_none-in_default-task.ensures
-    (c.in-Some.ensures.tasks d hs) (c.in_ok-push-in_default-task.ensures.tasks d hs) (gives_other d hs (world_of e.world) rest t given (other t refl))
+    gives_nothing d (world_of e.world) given (agenda_of d e) _ (task_of d hs t ∷ rest)
+    (c.in-Some.ensures.tasks d hs) (c.in_ok-push-in_default-task.ensures.tasks d hs) (gives_other d hs (world_of e.world) rest t given (other t refl)) c.requires.able
   where
     other : (t : code.Task) → c.in-Some.task ≡ t → TakesNone t
     other (tasks.Emitting cursor args by_event transfers) is = absurd (c.in_default-task.not-Emitting cursor args by_event transfers is)
@@ -64,16 +64,19 @@ returns-in_ok-push-in_default-task-clause-counted c =
     let d = c.args.definition.now in
     let e = c.args.engine.now in
     let hs = e.world.handlers.handlers in
-    on_any c.check_none-in_default-task.result (stack_same d e c.push.new.self (c.in_ok-push-in_default-task.ensures.tasks d hs ∙ sym (c.in-Some.ensures.tasks d hs))
-    (λ last h. c.in_ok-push-in_default-task.ensures.begun last (c.in-Some.ensures.first last h) (c.in-Some.ensures.begun last h)))
+    stack_same d e c.push.new.self (c.in_ok-push-in_default-task.ensures.tasks d hs ∙ sym (c.in-Some.ensures.tasks d hs))
+    (λ last h. c.in_ok-push-in_default-task.ensures.begun last (c.in-Some.ensures.first last h) (c.in-Some.ensures.begun last h))
 
 pub accumulate-requires : goal.accumulate-requires
 accumulate-requires c =
     let last = c.args.engine.now.world.handlers.last in
-    let known = subst (λ (t : code.Task). TakesKnownHandlers last t) c.in-Emitting.is (c.in-Some.ensures.first last c.requires.begun) in record {
+    let known = subst (λ (t : code.Task). TakesKnownHandlers last t) c.in-Emitting.is (c.in-Some.ensures.first last c.requires.begun) in
+    let d = c.args.definition.now in
+    let hs = c.args.engine.now.world.handlers.handlers in
+    let tasks = c.in-Some.ensures.tasks d hs ∙ ap (λ (t : code.Task). task_of d hs t ∷ tasks_of d hs c.pop.new.self) c.in-Emitting.is in
+    record {
+      able = subst (λ (ts : List Task). Able (given_down d (world_of c.args.engine.now.world) ts (option_map value_view c.args.given))) tasks c.requires.able;
       held = λ o.
-          let d = c.args.definition.now in
-          let hs = c.args.engine.now.world.handlers.handlers in
           let first = ap (λ (ts : List Task). total (in_task o) ts) (c.in-Some.ensures.tasks d hs) in
           let emission = ap (λ (t : code.Task). in_task o (task_of d hs t)) c.in-Emitting.is in
           omega (arith, c.requires.held.at o, first, emission);
@@ -89,7 +92,7 @@ returns-in-Emitting-clause-step c =
     let rest = tasks_of d hs c.pop.new.self in
     let given = option_map value_view c.args.given in
     let first = c.in-Some.ensures.tasks d hs ∙ ap (λ (t : code.Task). task_of d hs t ∷ rest) c.in-Emitting.is in
-    subst (λ (ts : List Task). Goes c.accumulate.result (given_down d (world_of e.world) ts given) (record { world = world_of c.accumulate.new.engine.world; agenda = agenda_of d c.accumulate.new.engine }))
+    subst (λ (ts : List Task). Leads c.accumulate.result (given_down d (world_of e.world) ts given) (record { world = world_of c.accumulate.new.engine.world; agenda = agenda_of d c.accumulate.new.engine }))
     (sym first) c.accumulate.ensures.step
 
 pub returns-in-Emitting-clause-counted : goal.returns-in-Emitting-clause-counted
@@ -102,6 +105,16 @@ returns-in-Emitting-clause-counted c =
     let m = emission_of c.in-Emitting.cursor c.in-Emitting.args.items c.in-Emitting.by_event in
     on_ok c.accumulate.result (λ f. record { at = λ taken h. f taken (popped_emission d e c.pop.new.self taken m (entries_to_come c.in-Emitting.cursor hs c.in-Emitting.transfers) first c.in-Some.ensures.begun h) }) c.accumulate.ensures.counted
 
+pub answer-requires-clause-able : goal.answer-requires-clause-able
+answer-requires-clause-able c =
+    let d = c.args.definition.now in
+    let e = c.args.engine.now in
+    let hs = e.world.handlers.handlers in
+    let rest = tasks_of d hs c.pop.new.self in
+    let given = option_map value_view c.args.given in
+    let first = c.in-Some.ensures.tasks d hs ∙ ap (λ (t : code.Task). task_of d hs t ∷ rest) c.in-Answering.is in
+    source_able d (world_of e.world) c.in-Answering.source rest given (subst (λ (ts : List Task). Able (given_down d (world_of e.world) ts given)) first c.requires.able)
+
 pub returns-in-Answering-clause-step : goal.returns-in-Answering-clause-step
 returns-in-Answering-clause-step c =
     let d = c.args.definition.now in
@@ -111,9 +124,8 @@ returns-in-Answering-clause-step c =
     let given = option_map value_view c.args.given in
     let first = c.in-Some.ensures.tasks d hs ∙ ap (λ (t : code.Task). task_of d hs t ∷ rest) c.in-Answering.is in
     let back = same_agenda d (record e { stack = c.pop.new.self }) c.answer.new.engine c.answer.ensures.same.0 c.answer.ensures.handlers in
-    subst (λ (ts : List Task). Goes c.answer.result (given_down d (world_of e.world) ts given) (record { world = world_of c.answer.new.engine.world; agenda = agenda_of d c.answer.new.engine }))
-    (sym first)
-    (gives_source d (world_of e.world) c.answer.result c.in-Answering.source rest given (world_of c.answer.new.engine.world) (agenda_of d c.answer.new.engine) back c.answer.ensures.kept)
+    ap (λ (ts : List Task). given_down d (world_of e.world) ts given) first
+    ∙ gives_source d (world_of e.world) c.in-Answering.source rest given (world_of c.answer.new.engine.world) (agenda_of d c.answer.new.engine) back c.answer.ensures.kept
 
 pub returns-in-Answering-clause-counted : goal.returns-in-Answering-clause-counted
 returns-in-Answering-clause-counted c =
@@ -122,4 +134,4 @@ returns-in-Answering-clause-counted c =
     let hs = e.world.handlers.handlers in
     let rest = tasks_of d hs c.pop.new.self in
     let first = c.in-Some.ensures.tasks d hs ∙ ap (λ (t : code.Task). task_of d hs t ∷ rest) c.in-Answering.is in
-    on_ok c.answer.result (λ f. record { at = λ taken h. (f d).at taken (popped_source d e c.pop.new.self taken c.in-Answering.source first c.in-Some.ensures.begun h) }) c.answer.ensures.counted
+    record { at = λ taken h. (c.answer.ensures.counted d).at taken (popped_source d e c.pop.new.self taken c.in-Answering.source first c.in-Some.ensures.begun h) }

@@ -1,24 +1,23 @@
 use Rattle.std.proofs.Common.{[], ◌∷◌, List, ap, map, string_bytes, ◌∙◌}
-use Rattle.std.proofs.lemmas.Result.{err_from_is_err_and}
 use Rattle.ui_machine.specs.State.Tasks.{Calling, Task}
 use Rattle.bytecode.specs.View.{number_of}
 use Rattle.frames.specs.FrameView.{frame_view}
 use Rattle.engine_world.specs.Counting.{nothing}
 use Rattle.engine_world.specs.TaskView.{agenda_of, call_of}
 use Rattle.engine_world.specs.View.{world_of}
-use Rattle.engine_instructions.proofs.PeerCalls.{call_stops, calls}
+use Rattle.engine_instructions.proofs.PeerCalls.{calls, due_able}
 use Rattle.engine_instructions.proofs.Pushed.{count_pushed, frame_held, world_pushed}
 use Rattle.engine_instructions.proofs.Starting.{started_left}
 use Rattle.engine_instructions.proofs.calls.call_from_program.Goals as goal
 
-pub returns-in_err-due-clause-step : goal.returns-in_err-due-clause-step
-returns-in_err-due-clause-step c =
+pub due_call-requires : goal.due_call-requires
+due_call-requires c =
     let d = c.args.definition.now in
     let e = c.args.engine.now in
     let call = c.args.call.now in
-    let p = err_from_is_err_and c.from_residual.result c.from_residual.ensures.1 in
-    rw (p.1, p.2)
-    (call_stops d (world_of e.world) (frame_view c.args.frame) call.to.0 call.object.0 (string_bytes call.method) (map number_of call.args.items) e.counted (agenda_of d e) _ c.in_err-due.ensures)
+    record {
+      able = due_able d (world_of e.world) (frame_view c.args.frame) call.to.0 call.object.0 (string_bytes call.method) (map number_of call.args.items) e.counted (agenda_of d e) c.requires.able;
+    }
 
 pub returns-clause-step : goal.returns-clause-step
 returns-clause-step c =

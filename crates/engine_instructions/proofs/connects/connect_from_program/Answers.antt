@@ -1,7 +1,6 @@
 use Rattle.std.proofs.Common.{◌≡◌, true, false, refl, ap, subst, sym, ◌∙◌}
 use Rattle.std.specs.Prelude.{codes}
 use Rattle.std.proofs.lemmas.Result.{err_from_is_err_and}
-use Rattle.ui_machine.specs.Instructions.Signals.{connecting}
 use Rattle.ui_machine.specs.Output.Lines as lines
 use Rattle.ui_machine.specs.State.Config.{World, said}
 use Rattle.frames.specs.FrameView.{frame_view}
@@ -12,37 +11,29 @@ use Rattle.engine_world.specs.Counting.{nothing}
 use Rattle.engine_world.specs.Quiet.{IsQuiet}
 use Rattle.engine_world.specs.TaskView.{agenda_of}
 use Rattle.engine_world.specs.View.{world_of}
-use Rattle.engine_instructions.proofs.ConnectSteps.{connect_unwritten, connect_world_behind, connect_written, connection_stops, left_quiet, told_full, told_quietly}
+use Rattle.engine_instructions.proofs.ConnectSteps.{connect_world_behind, connect_written, connection_able, left_quiet, told_full, told_quietly, written_able}
 use Rattle.engine_world.proofs.Quiets.{quiet_on}
 use Rattle.engine_world.proofs.Left.{same_agenda}
-use Rattle.engine_world.proofs.Registers.{stops_left}
 use Rattle.engine_instructions.proofs.connects.connect_from_program.Goals as goal
 
-pub returns-in_err-connection-clause-step : goal.returns-in_err-connection-clause-step
-returns-in_err-connection-clause-step c =
+pub new_connection-requires : goal.new_connection-requires
+new_connection-requires c =
     let d = c.args.definition.now in
     let e = c.args.engine.now in
-    let f = frame_view c.args.frame in
-    let k = connect_view c.args.connect.now in
-    let p = err_from_is_err_and c.from_residual.result c.from_residual.ensures.1 in
-    rw (p.1, p.2)
-    (stops_left e.counted (agenda_of d e) (connecting d (world_of e.world) (agenda_of d e) f c.args.to.0 c.args.object.0 k) _
-    (connection_stops d (world_of e.world) (agenda_of d e) f c.args.to.0 c.args.object.0 k _ c.in_err-connection.ensures.connection))
+    record {
+      able = connection_able d (world_of e.world) (agenda_of d e) (frame_view c.args.frame) c.args.to.0 c.args.object.0 (connect_view c.args.connect.now) e.counted (agenda_of d e) c.requires.able;
+    }
 
 pub write_register-requires : goal.write_register-requires
-write_register-requires c = record { counted = c.in_ok-outcome.ensures.counted.at _ c.requires.counted }
-
-pub returns-in_err-write_register-clause-step : goal.returns-in_err-write_register-clause-step
-returns-in_err-write_register-clause-step c =
+write_register-requires c =
     let d = c.args.definition.now in
     let e = c.args.engine.now in
-    let f = frame_view c.args.frame in
-    let k = connect_view c.args.connect.now in
-    let p = err_from_is_err_and c.from_residual-in_err-write_register.result c.from_residual-in_err-write_register.ensures.1 in
-    rw (p.1, p.2)
-    (connect_unwritten d e c.connect_handler.new.engine f c.args.to.0 c.args.object.0 k (connection_of c.in_ok-connection.connection) c.in_ok-outcome.outcome
-    c.in_ok-connection.ensures.connection c.in_ok-outcome.ensures.outcome c.in_ok-outcome.ensures.agenda c.connect_handler.ensures.same
-    c.is_connected-is_connected.result c.is_connected-is_connected.ensures _ c.in_err-write_register.ensures.step)
+    record {
+      able = written_able d e c.connect_handler.new.engine (frame_view c.args.frame) c.args.to.0 c.args.object.0 (connect_view c.args.connect.now) (connection_of c.in_ok-connection.connection) c.in_ok-outcome.outcome
+          c.in_ok-connection.ensures.connection c.in_ok-outcome.ensures.outcome c.in_ok-outcome.ensures.agenda c.connect_handler.ensures.same
+          c.is_connected-is_connected.result c.is_connected-is_connected.ensures c.requires.able;
+      counted = c.in_ok-outcome.ensures.counted.at _ c.requires.counted;
+    }
 
 pub returns-in_err-write_register-clause-quiet : goal.returns-in_err-write_register-clause-quiet
 returns-in_err-write_register-clause-quiet c =

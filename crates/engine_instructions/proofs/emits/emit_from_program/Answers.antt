@@ -1,22 +1,20 @@
 use Rattle.std.proofs.Common.{[], ◌∷◌, List, ap, ◌∙◌}
-use Rattle.std.proofs.lemmas.Result.{err_from_is_err_and}
 use Rattle.ui_machine.specs.State.Tasks.{Beginning, Task}
 use Rattle.frames.specs.FrameView.{frame_view}
 use Rattle.engine_world.specs.Counting.{nothing}
 use Rattle.engine_instructions.specs.EmitView.{emit_of}
 use Rattle.engine_world.specs.TaskView.{agenda_of, new_of}
 use Rattle.engine_world.specs.View.{world_of}
-use Rattle.engine_instructions.proofs.Calling.{emission_begins, emission_stops}
+use Rattle.engine_instructions.proofs.Calling.{emission_able, emission_begins}
 use Rattle.engine_instructions.proofs.Pushed.{count_pushed, frame_held, world_pushed}
 use Rattle.engine_instructions.proofs.Starting.{started_left}
 use Rattle.engine_instructions.proofs.emits.emit_from_program.Goals as goal
 
-pub returns-in_err-emission-clause-step : goal.returns-in_err-emission-clause-step
-returns-in_err-emission-clause-step c =
+pub new_emission-requires : goal.new_emission-requires
+new_emission-requires c =
     let d = c.args.definition.now in
     let e = c.args.engine.now in
-    let p = err_from_is_err_and c.from_residual.result c.from_residual.ensures.1 in
-    rw (p.1, p.2) (emission_stops d (world_of e.world) (frame_view c.args.frame) c.args.object.0 (emit_of c.args.emit) _ c.in_err-emission.ensures e.counted (agenda_of d e))
+    record { able = emission_able d (world_of e.world) (frame_view c.args.frame) c.args.object.0 (emit_of c.args.emit) e.counted (agenda_of d e) c.requires.able }
 
 pub returns-clause-step : goal.returns-clause-step
 returns-clause-step c =

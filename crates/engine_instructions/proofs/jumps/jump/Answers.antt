@@ -1,6 +1,4 @@
-use Rattle.std.proofs.Common.{Err, ap, slice_get, sym, ◌∙◌, arith}
-use Rattle.std.proofs.lemmas.Result.{err_from_is_err_and}
-use Rattle.ui_machine.specs.declared.arm.Arm.{Arm}
+use Rattle.std.proofs.Common.{ap, slice_get, sym, ◌∙◌, arith}
 use Rattle.ui_machine.specs.Instructions.Jumps.{jumping}
 use Rattle.ui_machine.specs.Seq.{total}
 use Rattle.ui_machine.specs.State.References.{in_register}
@@ -11,23 +9,23 @@ use Rattle.engine_world.specs.View.{world_of}
 use Rattle.engine_instructions.proofs.Jumping.{goes_on_left, jump_keeps, jumps, no_block, stuck_left}
 use Rattle.engine_world.specs.Counting.{in_frame, nothing}
 use Rattle.engine_world.proofs.Counts.{taken_alike}
+use Rattle.engine_world.proofs.Ableness.{no_arm}
 use Rattle.engine_instructions.proofs.jumps.jump.Goals as goal
 
-pub returns-in_err-jump-clause-step : goal.returns-in_err-jump-clause-step
-returns-in_err-jump-clause-step c =
+pub unreachable-requires : goal.unreachable-requires
+unreachable-requires c =
     let d = c.args.definition.now in
     let e = c.args.engine.now in
-    let p = err_from_is_err_and c.from_residual.result c.from_residual.ensures.1 in
-    rw (p.1, p.2)
+    no_arm _ _ c.requires.able
     (stuck_left d e (jumping d (world_of e.world) (frame_view c.args.frame) c.args.to.0) _
-    (no_block d (world_of e.world) (frame_view c.args.frame) (program_view c.args.program.now) c.requires.program c.args.to.0 c.in_err-jump.ensures.err ∙ ap (λ (arm : Arm). Err arm) (sym c.in_err-jump.ensures.arm)))
+    (no_block d (world_of e.world) (frame_view c.args.frame) (program_view c.args.program.now) c.requires.program c.args.to.0 c.in_default.ensures.err))
 
 pub returns-clause-counted : goal.returns-clause-counted
 returns-clause-counted c =
     let d = c.args.definition.now in
     let e = c.args.engine.now in
     let f = frame_view c.args.frame in
-    let kept = jump_keeps c.args.to.0 f (frame_view c.jump.new.self) (slice_get (program_view c.args.program.now).blocks c.args.to.0) c.in_ok-jump.ensures.ok in
+    let kept = jump_keeps c.args.to.0 f (frame_view c.jump.new.self) (slice_get (program_view c.args.program.now).blocks c.args.to.0) c.in-Ok.ensures.ok in
     c.in_ok-push_frame.ensures.counted d nothing (taken_alike d e (λ o. in_frame o f) _ (λ o. omega (arith, ap (λ (rs : Registers). total (in_register o) rs) kept)) c.requires.counted)
 
 pub returns-clause-step : goal.returns-clause-step
@@ -35,5 +33,5 @@ returns-clause-step c =
     let d = c.args.definition.now in
     let e = c.args.engine.now in
     goes_on_left d e c.push_frame.new.engine (frame_view c.jump.new.self) _
-    (jumps d (world_of e.world) (frame_view c.args.frame) (program_view c.args.program.now) c.requires.program c.args.to.0 (frame_view c.jump.new.self) c.in_ok-jump.ensures.ok)
+    (jumps d (world_of e.world) (frame_view c.args.frame) (program_view c.args.program.now) c.requires.program c.args.to.0 (frame_view c.jump.new.self) c.in-Ok.ensures.ok)
     c.push_frame.ensures.beside (c.in_ok-push_frame.ensures.agenda d)

@@ -1,5 +1,4 @@
 use Rattle.std.proofs.Common.{◌+◌, List, ◌∷◌, map, ap, ◌∙◌, arith}
-use Rattle.std.proofs.lemmas.Result.{err_from_is_err_and}
 use Rattle.ui_machine.specs.Rules.Connections.{disconnected}
 use Rattle.ui_machine.specs.State.Config.{World}
 use Rattle.ui_machine.specs.State.Tasks.{Running, Task}
@@ -11,16 +10,15 @@ use Rattle.engine_instructions.specs.HandlersView.{matched_of}
 use Rattle.engine_world.specs.TaskView.{agenda_of}
 use Rattle.engine_world.specs.View.{world_of}
 use Rattle.engine_world.specs.declared.engine.Engine.{Engine}
-use Rattle.engine_instructions.proofs.Connections.{matched_goes, matched_stops, pruned_left}
+use Rattle.engine_instructions.proofs.Connections.{matched_able, matched_goes, pruned_left}
 use Rattle.engine_world.proofs.Counts.{taken_alike}
 use Rattle.engine_instructions.proofs.matched_handlers.disconnect_matched.Goals as goal
 
-pub returns-in_err-matched-clause-step : goal.returns-in_err-matched-clause-step
-returns-in_err-matched-clause-step c =
+pub matched_in-matched-requires : goal.matched_in-matched-requires
+matched_in-matched-requires c =
     let d = c.args.definition.now in
     let e = c.args.engine.now in
-    let p = err_from_is_err_and c.from_residual.result c.from_residual.ensures.1 in
-    rw (p.1, p.2) (matched_stops d (world_of e.world) (frame_view c.args.frame) c.args.object.0 c.args.program.now disconnected _ c.in_err-matched.ensures e.counted (agenda_of d e))
+    record { able = matched_able d (world_of e.world) (frame_view c.args.frame) c.args.object.0 c.args.program.now disconnected e.counted (agenda_of d e) c.requires.able }
 
 pub returns-clause-step : goal.returns-clause-step
 returns-clause-step c =
@@ -28,9 +26,9 @@ returns-clause-step c =
     let e = c.args.engine.now in
     let f = frame_view c.args.frame in
     let beside = c.push_frame.ensures.beside in
-    let w = disconnected (world_of e.world) c.in_ok-matched.matched.object.0 c.in_ok-matched.matched.program in
+    let w = disconnected (world_of e.world) c.matched_in-matched.result.object.0 c.matched_in-matched.result.program in
     pruned_left e.counted (agenda_of d e) _ w f _ _ _
-    (matched_goes d (world_of e.world) f c.args.object.0 c.args.program.now disconnected (matched_of c.in_ok-matched.matched) c.in_ok-matched.ensures)
+    (matched_goes d (world_of e.world) f c.args.object.0 c.args.program.now disconnected (matched_of c.matched_in-matched.result) c.matched_in-matched.ensures)
     (ap (λ (x : Engine). world_of x.world) beside ∙ c.disconnect.ensures.world)
     (c.in_ok-push_frame.ensures.agenda d ∙ ap (λ (ts : List Task). Running f ∷ ts) (c.disconnect.ensures.agenda ∙ ap (λ (v : World). map (pruned (gone_handlers v)) (agenda_of d e)) c.disconnect.ensures.world))
     (ap (λ (x : Engine). x.counted) beside ∙ c.disconnect.ensures.same)

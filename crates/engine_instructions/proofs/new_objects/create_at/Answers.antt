@@ -8,42 +8,36 @@ use Rattle.ui_machine.specs.State.Tasks.{Constructing}
 use Rattle.frames.specs.FrameView.{frame_view}
 use Rattle.g_values.specs.View.{value_view}
 use Rattle.engine_world.specs.Counting.{nothing}
-use Rattle.engine_instructions.specs.CreateView.{created}
 use Rattle.engine_world.specs.TaskView.{agenda_of}
 use Rattle.engine_world.specs.NewObjects.{begun}
 use Rattle.engine_world.specs.View.{world_of}
-use Rattle.engine_instructions.proofs.Creating.{create_unwritten, create_world, create_written, created_stops}
+use Rattle.engine_instructions.proofs.Creating.{create_world, create_written, made_able, write_able}
+use Rattle.engine_world.proofs.Ableness.{instructed}
+use Rattle.engine_world.proofs.Building.{makes_any}
 use Rattle.engine_world.proofs.Left.{same_agenda}
 use Rattle.engine_world.proofs.Quiets.{quiet_on, quiet_same}
-use Rattle.engine_world.proofs.Registers.{stops_left}
 use Rattle.engine_instructions.proofs.new_objects.create_at.Goals as goal
 
-pub returns-in_err-new-clause-step : goal.returns-in_err-new-clause-step
-returns-in_err-new-clause-step c =
+pub make-requires : goal.make-requires
+make-requires c =
     let d = c.args.definition.now in
     let e = c.args.engine.now in
-    let f = frame_view c.args.frame in
-    let p = err_from_is_err_and c.from_residual.result c.from_residual.ensures.1 in
-    rw (p.1, p.2)
-    (stops_left e.counted (agenda_of d e) (created d (world_of e.world) f c.args.to.0 c.args.place.0 c.args.peer) _
-    (created_stops d (world_of e.world) f c.args.to.0 c.args.place.0 c.args.peer _ (c.in_err-new.ensures.stops false)))
+    let w = world_of e.world in
+    let able = made_able d w (frame_view c.args.frame) c.args.to.0 c.args.place.0 c.args.peer (instructed e.counted (agenda_of d e) _ c.requires.able) in
+    record { able = λ held. makes_any d w c.args.place.0 c.args.peer false held able }
 
 pub write_register-requires : goal.write_register-requires
-write_register-requires c = record { counted = c.in_ok-new.ensures.counted.at _ c.requires.counted }
-
-pub returns-in_err-write_register-clause-step : goal.returns-in_err-write_register-clause-step
-returns-in_err-write_register-clause-step c =
+write_register-requires c =
     let d = c.args.definition.now in
     let e = c.args.engine.now in
     let m = c.make.new.engine in
     let new = c.in_ok-new.new in
-    let u = begun new (world_of m.world) in
-    let p = err_from_is_err_and c.from_residual-in_err-write_register.result c.from_residual-in_err-write_register.ensures.1 in
-    rw (p.1, p.2)
-    (create_unwritten d e m (frame_view c.args.frame) c.args.to.0 c.args.place.0 c.args.peer u (Constructing new.object.0 new.steps false) (value_view c.object_value.result)
-    (c.in_ok-new.ensures.made false) (same_agenda d e m c.make.ensures.same.0 c.make.ensures.handlers) c.make.ensures.same.1
-    (c.object_value.ensures ∙ ap (λ n. values.object (Some n)) c.in_ok-new.ensures.identity)
-    _ c.in_err-write_register.ensures.step)
+    record {
+      able = write_able d e m (frame_view c.args.frame) c.args.to.0 c.args.place.0 c.args.peer (begun new (world_of m.world)) (Constructing new.object.0 new.steps false) (value_view c.object_value.result)
+          (c.in_ok-new.ensures.made false) (same_agenda d e m c.make.ensures.same.0 c.make.ensures.handlers) c.make.ensures.same.1
+          (c.object_value.ensures ∙ ap (λ n. values.object (Some n)) c.in_ok-new.ensures.identity) c.requires.able;
+      counted = c.in_ok-new.ensures.counted.at _ c.requires.counted;
+    }
 
 pub returns-in_err-write_register-clause-quiet : goal.returns-in_err-write_register-clause-quiet
 returns-in_err-write_register-clause-quiet c =

@@ -1,6 +1,5 @@
 use Rattle.engine_world.proofs.Counts.{only_list}
 use Rattle.std.proofs.Common.{Ok, ℕ, Option, ap, sym, subst, ◌∙◌}
-use Rattle.std.proofs.lemmas.Result.{err_from_is_err_and}
 use Rattle.ui_machine.specs.State.Config as config
 use Rattle.engine_world.specs.ClosingView.{or_number}
 use Rattle.engine_world.specs.Counting.{KeepsCounts}
@@ -12,13 +11,11 @@ use Rattle.engine_world.specs.declared.engine.Engine.{Engine}
 use Rattle.engine_world.specs.declared.task.Stack.{Stack}
 use Rattle.engine_world.specs.declared.world.World.{World}
 use Rattle.engine_instructions.proofs.Disposing.{keeps_disposed}
-use Rattle.engine_world.proofs.Finalising.{code_gone, disposed_so, disposed_stops, finalised_agenda}
+use Rattle.engine_world.proofs.Finalising.{code_gone, closing_able, disposed_so, finalised_agenda}
 use Rattle.engine_instructions.proofs.objects.dispose.Goals as goal
 
-pub returns-in_err-closed-clause-step : goal.returns-in_err-closed-clause-step
-returns-in_err-closed-clause-step c =
-    let p = err_from_is_err_and c.from_residual-in_err-closed.result c.from_residual-in_err-closed.ensures.1 in
-    rw (p.1, p.2) (disposed_stops c.args.definition.now c.args.engine.now.world c.args.object.0 _ c.in_err-closed.ensures.stops)
+pub closing_with-requires : goal.closing_with-requires
+closing_with-requires c = record { able = closing_able c.args.definition.now c.args.engine.now.world c.args.object.0 c.requires.able }
 
 pub returns-clause-step : goal.returns-clause-step
 returns-clause-step c =

@@ -1,5 +1,4 @@
 use Rattle.std.proofs.Common.{[], ap, sym, ◌∙◌}
-use Rattle.std.proofs.lemmas.Result.{err_from_is_err_and}
 use Rattle.frames.specs.FrameView.{frame_view}
 use Rattle.ui_machine.specs.Instructions.Objects.{freezing}
 use Rattle.ui_machine.specs.Instructions.Registers.{goes_on}
@@ -13,26 +12,28 @@ use Rattle.engine_instructions.proofs.Jumping.{goes_on_left, stuck_left}
 use Rattle.engine_instructions.proofs.ObjectSteps.{freeze_none, freeze_stuck, freezes}
 use Rattle.engine_instructions.proofs.Pushed.{frame_held, freeze_alike, objects_world}
 use Rattle.engine_world.proofs.Registers.{stops_left}
+use Rattle.ui_machine.specs.declared.arm.Halt.TheVariants as halts
+use Rattle.engine_world.proofs.Ableness.{no_arm, none_stops}
 use Rattle.engine_instructions.proofs.objects.freeze_notify.Goals as goal
 
-pub returns-in_err-object-clause-step : goal.returns-in_err-object-clause-step
-returns-in_err-object-clause-step c =
-    let e = c.args.engine.now in
-    let w = world_of e.world in
-    let f = frame_view c.args.frame in
-    let p = err_from_is_err_and c.from_residual.result c.from_residual.ensures.1 in
-    rw (p.1, p.2)
-    (stops_left e.counted (agenda_of c.args.definition.now e) (freezing w f c.args.object.0) _ (freeze_none w f c.args.object.0 _ c.in_err-object.ensures))
+pub object_in-object-requires : goal.object_in-object-requires
+object_in-object-requires c = record {
+  able =
+      let e = c.args.engine.now in
+      let w = world_of e.world in
+      let f = frame_view c.args.frame in
+      none_stops _ (λ arm none. no_arm _ arm c.requires.able
+      (stops_left e.counted (agenda_of c.args.definition.now e) (freezing w f c.args.object.0) (halts.Stuck arm) (freeze_none w f c.args.object.0 (halts.Stuck arm) none)));
+}
 
-pub returns-in_err-freeze-clause-step : goal.returns-in_err-freeze-clause-step
-returns-in_err-freeze-clause-step c =
+pub unreachable-requires : goal.unreachable-requires
+unreachable-requires c =
     let e = c.args.engine.now in
     let w = world_of e.world in
     let f = frame_view c.args.frame in
-    let p = err_from_is_err_and c.from_residual-in_err-freeze.result c.from_residual-in_err-freeze.ensures.1 in
-    rw (p.1, p.2)
+    no_arm _ _ c.requires.able
     (stuck_left c.args.definition.now e (freezing w f c.args.object.0) _
-    (freeze_stuck w f c.args.object.0 c.in_ok-object.object.0 c.in_ok-object.ensures _ c.in_err-freeze.ensures.changes))
+    (freeze_stuck w f c.args.object.0 c.object_in-object.result.0 c.object_in-object.ensures _ c.in_default.ensures.changes))
 
 pub returns-clause-step : goal.returns-clause-step
 returns-clause-step c =
@@ -42,7 +43,7 @@ returns-clause-step c =
     let f = frame_view c.args.frame in
     let t = c.freeze.new.self in
     goes_on_left d (with_table e t) c.push_frame.new.engine f (freezing w f c.args.object.0)
-    (freezes w f c.args.object.0 c.in_ok-object.object.0 c.in_ok-object.ensures t.objects c.in_ok-freeze.ensures.changes
+    (freezes w f c.args.object.0 c.object_in-object.result.0 c.object_in-object.ensures t.objects c.in-Ok.ensures.changes
     ∙ ap (λ (v : World). goes_on v [] f) (sym (objects_world e t c.freeze.ensures.beside)))
     c.push_frame.ensures.beside (c.in_ok-push_frame.ensures.agenda d)
 
@@ -53,4 +54,4 @@ returns-clause-counted c =
     let f = frame_view c.args.frame in
     let t = c.freeze.new.self in
     frame_held d (with_table e t) c.push_frame.new.engine f (c.in_ok-push_frame.ensures.counted d)
-    ((keeps_change d e t c.in_ok-object.object.0 frozen_more tt (freeze_alike d) c.in_ok-freeze.ensures.changes c.freeze.ensures.beside).at (λ o. in_frame o f) c.requires.counted)
+    ((keeps_change d e t c.object_in-object.result.0 frozen_more tt (freeze_alike d) c.in-Ok.ensures.changes c.freeze.ensures.beside).at (λ o. in_frame o f) c.requires.counted)

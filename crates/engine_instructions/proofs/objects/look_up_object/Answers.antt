@@ -7,36 +7,36 @@ use Rattle.ui_machine.specs.Instructions.Registers.{gives}
 use Rattle.frames.specs.FrameView.{frame_view}
 use Rattle.engine_world.specs.View.{world_of}
 use Rattle.engine_instructions.proofs.Jumping.{stuck_left}
-use Rattle.engine_instructions.proofs.ObjectSteps.{name_nowhere, name_prototype, name_unknown, names}
+use Rattle.engine_instructions.proofs.ObjectSteps.{name_unknown, names_able}
+use Rattle.ui_machine.specs.Instructions.{in_front}
+use Rattle.ui_machine.specs.Outcome.{Answer}
+use Rattle.ui_machine.specs.State.Config.{Started}
+use Rattle.ui_machine.specs.Steps.{left}
+use Rattle.engine_world.specs.TaskView.{agenda_of}
+use Rattle.engine_world.proofs.Ableness.{able_as, instructed, no_arm}
 use Rattle.engine_instructions.proofs.objects.look_up_object.Goals as goal
 
-pub returns-in_default-clause-step : goal.returns-in_default-clause-step
-returns-in_default-clause-step c =
+pub unreachable-requires : goal.unreachable-requires
+unreachable-requires c =
     let d = c.args.definition.now in
     let e = c.args.engine.now in
     let w = world_of e.world in
     let f = frame_view c.args.frame in
-    stuck_left d e (look_up_object d w f c.args.to.0 c.args.id.now) _ (name_unknown d w f c.args.to.0 c.args.id.now (sym c.in_default.ensures))
+    no_arm _ _ c.requires.able
+    (stuck_left d e (look_up_object d w f c.args.to.0 c.args.id.now) _ (name_unknown d w f c.args.to.0 c.args.id.now (sym c.in_default.ensures)))
 
-pub returns-in_default-entry_at-clause-step : goal.returns-in_default-entry_at-clause-step
-returns-in_default-entry_at-clause-step c =
+pub write_register-requires-clause-able : goal.write_register-requires-clause-able
+write_register-requires-clause-able c =
     let d = c.args.definition.now in
     let e = c.args.engine.now in
     let w = world_of e.world in
     let f = frame_view c.args.frame in
     let found : place_of d c.args.id.now ≡ Some c.in-Some.place.0 = sym c.in-Some.ensures in
-    stuck_left d e (look_up_object d w f c.args.to.0 c.args.id.now) _
-    (name_nowhere d w f c.args.to.0 c.args.id.now c.in-Some.place.0 found (sym c.in_default-entry_at.ensures))
-
-pub returns-then-entry-clause-step : goal.returns-then-entry-clause-step
-returns-then-entry-clause-step c =
-    let d = c.args.definition.now in
-    let e = c.args.engine.now in
-    let w = world_of e.world in
-    let f = frame_view c.args.frame in
-    let found : place_of d c.args.id.now ≡ Some c.in-Some.place.0 = sym c.in-Some.ensures in
-    stuck_left d e (look_up_object d w f c.args.to.0 c.args.id.now) _
-    (name_prototype d w f c.args.to.0 c.args.id.now c.in-Some.place.0 found _ (sym c.in-Some-entry_at.ensures) c.if-entry.true)
+    let held = c.object_or_null-object.ensures ∙ ap values.object c.built.ensures in
+    able_as
+    (ap (λ (a : Answer Started). left e.counted (in_front (agenda_of d e) a))
+    (names_able d w f c.args.to.0 c.args.id.now c.in-Some.place.0 found (instructed e.counted (agenda_of d e) _ c.requires.able) ∙ ap (λ (v : Value). gives w c.args.to.0 v f) (sym held)))
+    c.requires.able
 
 pub returns-clause-step : goal.returns-clause-step
 returns-clause-step c =
@@ -46,6 +46,6 @@ returns-clause-step c =
     let f = frame_view c.args.frame in
     let found : place_of d c.args.id.now ≡ Some c.in-Some.place.0 = sym c.in-Some.ensures in
     let held = c.object_or_null-object.ensures ∙ ap values.object c.built.ensures in
-    let named = names d w f c.args.to.0 c.args.id.now c.in-Some.place.0 found _ (sym c.in-Some-entry_at.ensures) c.if-entry.false
+    let named = names_able d w f c.args.to.0 c.args.id.now c.in-Some.place.0 found (instructed e.counted (agenda_of d e) _ c.requires.able)
     ∙ ap (λ (v : Value). gives w c.args.to.0 v f) (sym held) in
     rw named c.write_register.ensures.step

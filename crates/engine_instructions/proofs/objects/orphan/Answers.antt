@@ -1,5 +1,4 @@
 use Rattle.std.proofs.Common.{[], ap, ◌∙◌}
-use Rattle.std.proofs.lemmas.Result.{err_from_is_err_and}
 use Rattle.frames.specs.FrameView.{frame_view}
 use Rattle.ui_machine.specs.Instructions.Objects.{orphaning}
 use Rattle.ui_machine.specs.Rules.Children.{orphaned}
@@ -14,17 +13,20 @@ use Rattle.engine_instructions.proofs.ObjectSteps.{orphan_none, orphans}
 use Rattle.engine_instructions.proofs.Pushed.{count_pushed, frame_held, world_pushed}
 use Rattle.engine_world.proofs.Registers.{stops_left}
 use Rattle.engine_instructions.proofs.Starting.{started_left}
+use Rattle.ui_machine.specs.declared.arm.Halt.TheVariants as halts
+use Rattle.engine_world.proofs.Ableness.{no_arm, none_stops}
 use Rattle.engine_instructions.proofs.objects.orphan.Goals as goal
 
-pub returns-in_err-object-clause-step : goal.returns-in_err-object-clause-step
-returns-in_err-object-clause-step c =
-    let d = c.args.definition.now in
-    let e = c.args.engine.now in
-    let w = world_of e.world in
-    let f = frame_view c.args.frame in
-    let p = err_from_is_err_and c.from_residual.result c.from_residual.ensures.1 in
-    rw (p.1, p.2)
-    (stops_left e.counted (agenda_of d e) (orphaning d w f c.args.object.0) _ (orphan_none d w f c.args.object.0 _ c.in_err-object.ensures))
+pub object_in-object-requires : goal.object_in-object-requires
+object_in-object-requires c = record {
+  able =
+      let d = c.args.definition.now in
+      let e = c.args.engine.now in
+      let w = world_of e.world in
+      let f = frame_view c.args.frame in
+      none_stops _ (λ arm none. no_arm _ arm c.requires.able
+      (stops_left e.counted (agenda_of d e) (orphaning d w f c.args.object.0) (halts.Stuck arm) (orphan_none d w f c.args.object.0 (halts.Stuck arm) none)));
+}
 
 pub returns-clause-step : goal.returns-clause-step
 returns-clause-step c =
@@ -33,9 +35,9 @@ returns-clause-step c =
     let w = world_of e.world in
     let f = frame_view c.args.frame in
     let b = c.push_frame.new.engine in
-    let id = c.in_ok-object.object.0 in
+    let id = c.object_in-object.result.0 in
     started_left e.counted (agenda_of d e) (orphaning d w f c.args.object.0) (orphaned d w id (parent_in (living w.objects id))) [] f _ _ _
-    (orphans d w f c.args.object.0 id c.in_ok-object.ensures)
+    (orphans d w f c.args.object.0 id c.object_in-object.ensures)
     (c.in_ok-leave.ensures.ok ∙ ap (λ (v : World). orphaned d v id (parent_in (living v.objects id))) (world_pushed d e b f c.push_frame.ensures.beside))
     (same_agenda d b c.leave.new.engine c.leave.ensures.same.0 c.leave.ensures.handlers ∙ c.in_ok-push_frame.ensures.agenda d)
     (c.leave.ensures.same.1 ∙ count_pushed d e b f c.push_frame.ensures.beside)

@@ -1,5 +1,4 @@
 use Rattle.std.proofs.Common.{List, ℕ, [], ◌∷◌, ap, reverse, ◌∙◌}
-use Rattle.std.proofs.lemmas.Result.{err_from_is_err_and}
 use Rattle.frames.specs.FrameView.{frame_view}
 use Rattle.ui_machine.specs.Instructions.Objects.{thaw_notify}
 use Rattle.ui_machine.specs.Rules.NotifyQueue.{frozen_less}
@@ -14,26 +13,28 @@ use Rattle.engine_instructions.proofs.ObjectSteps.{thaw_none, thaw_stuck, thaws}
 use Rattle.engine_instructions.proofs.Pushed.{count_pushed, frame_held, objects_world, world_pushed}
 use Rattle.engine_world.proofs.Registers.{stops_left}
 use Rattle.engine_instructions.proofs.Starting.{started_left}
+use Rattle.ui_machine.specs.declared.arm.Halt.TheVariants as halts
+use Rattle.engine_world.proofs.Ableness.{no_arm, none_stops}
 use Rattle.engine_instructions.proofs.objects.thaw_notify.Goals as goal
 
-pub returns-in_err-object-clause-step : goal.returns-in_err-object-clause-step
-returns-in_err-object-clause-step c =
-    let e = c.args.engine.now in
-    let w = world_of e.world in
-    let f = frame_view c.args.frame in
-    let p = err_from_is_err_and c.from_residual.result c.from_residual.ensures.1 in
-    rw (p.1, p.2)
-    (stops_left e.counted (agenda_of c.args.definition.now e) (thaw_notify w f c.args.object.0) _ (thaw_none w f c.args.object.0 _ c.in_err-object.ensures))
+pub object_in-object-requires : goal.object_in-object-requires
+object_in-object-requires c = record {
+  able =
+      let e = c.args.engine.now in
+      let w = world_of e.world in
+      let f = frame_view c.args.frame in
+      none_stops _ (λ arm none. no_arm _ arm c.requires.able
+      (stops_left e.counted (agenda_of c.args.definition.now e) (thaw_notify w f c.args.object.0) (halts.Stuck arm) (thaw_none w f c.args.object.0 (halts.Stuck arm) none)));
+}
 
-pub returns-in_err-slots-clause-step : goal.returns-in_err-slots-clause-step
-returns-in_err-slots-clause-step c =
+pub unreachable-requires : goal.unreachable-requires
+unreachable-requires c =
     let e = c.args.engine.now in
     let w = world_of e.world in
     let f = frame_view c.args.frame in
-    let p = err_from_is_err_and c.from_residual-in_err-slots.result c.from_residual-in_err-slots.ensures.1 in
-    rw (p.1, p.2)
+    no_arm _ _ c.requires.able
     (stuck_left c.args.definition.now e (thaw_notify w f c.args.object.0) _
-    (thaw_stuck w f c.args.object.0 c.in_ok-object.object.0 c.in_ok-object.ensures _ c.in_err-slots.ensures.changes))
+    (thaw_stuck w f c.args.object.0 c.object_in-object.result.0 c.object_in-object.ensures _ c.in_default.ensures.changes))
 
 pub returns-clause-step : goal.returns-clause-step
 returns-clause-step c =
@@ -44,10 +45,10 @@ returns-clause-step c =
     let t = c.thaw.new.self in
     let m = with_table e t in
     let b = c.push_frame.new.engine in
-    let id = c.in_ok-object.object.0 in
-    let slots = reverse c.in_ok-slots.slots.items in
+    let id = c.object_in-object.result.0 in
+    let slots = reverse c.in-Ok.slots.items in
     started_left e.counted (agenda_of d e) (thaw_notify w f c.args.object.0) (with_objects w t.objects) (Thawing id slots ∷ []) f _ _ _
-    (thaws w f c.args.object.0 id c.in_ok-object.ensures t.objects slots c.in_ok-slots.ensures.changes)
+    (thaws w f c.args.object.0 id c.object_in-object.ensures t.objects slots c.in-Ok.ensures.changes)
     (c.push_task.ensures.world ∙ world_pushed d m b f c.push_frame.ensures.beside ∙ objects_world e t c.thaw.ensures.beside)
     (c.in_ok-push_task.ensures.agenda d ∙ ap (λ ts. Thawing id c.new.result ∷ ts) (c.in_ok-push_frame.ensures.agenda d) ∙ ap (λ (l : List ℕ). Thawing id l ∷ Running f ∷ agenda_of d e) c.new.ensures)
     (c.push_task.ensures.same ∙ count_pushed d m b f c.push_frame.ensures.beside)
@@ -60,4 +61,4 @@ returns-clause-counted c =
     let t = c.thaw.new.self in
     (c.in_ok-push_task.ensures.counted d).at nothing
     (frame_held d (with_table e t) c.push_frame.new.engine f (c.in_ok-push_frame.ensures.counted d)
-    ((keeps_change d e t c.in_ok-object.object.0 frozen_less _ (frozen_alike d) c.in_ok-slots.ensures.changes c.thaw.ensures.beside).at (λ o. in_frame o f) c.requires.counted))
+    ((keeps_change d e t c.object_in-object.result.0 frozen_less _ (frozen_alike d) c.in-Ok.ensures.changes c.thaw.ensures.beside).at (λ o. in_frame o f) c.requires.counted))

@@ -1,5 +1,4 @@
 use Rattle.std.proofs.Common.{[], ◌∷◌, ap, ◌∙◌}
-use Rattle.std.proofs.lemmas.Result.{err_from_is_err_and}
 use Rattle.g_values.specs.View.{value_view}
 use Rattle.frames.specs.FrameView.{frame_view}
 use Rattle.ui_machine.specs.Instructions.Properties.{set_property}
@@ -7,45 +6,41 @@ use Rattle.ui_machine.specs.State.Tasks.{Setting}
 use Rattle.engine_world.specs.Counting.{nothing}
 use Rattle.engine_world.specs.TaskView.{agenda_of}
 use Rattle.engine_world.specs.View.{world_of}
-use Rattle.engine_instructions.proofs.Jumping.{stuck_left}
-use Rattle.engine_instructions.proofs.PropertySteps.{set_none, set_unknown, set_unset, sets}
+use Rattle.engine_instructions.proofs.PropertySteps.{set_operand, set_slot, set_value, sets, settable_is, settable_named}
 use Rattle.engine_instructions.proofs.Pushed.{count_pushed, frame_held, world_pushed}
-use Rattle.engine_world.proofs.Registers.{stops_left}
+use Rattle.engine_world.proofs.Ableness.{instructed}
 use Rattle.engine_instructions.proofs.Starting.{started_left}
 use Rattle.engine_instructions.proofs.properties.set_property.Goals as goal
 
-pub returns-in_err-object-clause-step : goal.returns-in_err-object-clause-step
-returns-in_err-object-clause-step c =
-    let d = c.args.definition.now in
-    let e = c.args.engine.now in
-    let w = world_of e.world in
-    let f = frame_view c.args.frame in
-    let p = err_from_is_err_and c.from_residual.result c.from_residual.ensures.1 in
-    rw (p.1, p.2)
-    (stops_left e.counted (agenda_of d e) (set_property d w f c.args.object.0 c.args.property.now c.args.from.0) _
-    (set_none d w f c.args.object.0 c.args.property.now c.args.from.0 _ c.in_err-object.ensures))
+pub object_in-object-requires : goal.object_in-object-requires
+object_in-object-requires c = record {
+  able =
+      let e = c.args.engine.now in
+      set_operand c.args.definition.now (world_of e.world) (frame_view c.args.frame) c.args.object.0 c.args.property.now c.args.from.0 (instructed e.counted (agenda_of c.args.definition.now e) _ c.requires.able);
+}
 
-pub returns-in_err-slot-clause-step : goal.returns-in_err-slot-clause-step
-returns-in_err-slot-clause-step c =
-    let d = c.args.definition.now in
-    let e = c.args.engine.now in
-    let w = world_of e.world in
-    let f = frame_view c.args.frame in
-    let p = err_from_is_err_and c.from_residual-in_err-slot.result c.from_residual-in_err-slot.ensures.1 in
-    rw (p.1, p.2)
-    (stuck_left d e (set_property d w f c.args.object.0 c.args.property.now c.args.from.0) _
-    (set_unknown d w f c.args.object.0 c.args.property.now c.args.from.0 c.in_ok-object.object.0 c.in_ok-object.ensures _ c.in_err-slot.ensures))
+pub slot_at-slot-requires : goal.slot_at-slot-requires
+slot_at-slot-requires c = record {
+  able =
+      let d = c.args.definition.now in
+      let e = c.args.engine.now in
+      let id = c.object_in-object.result.0 in
+      settable_named d (world_of e.world) id c.args.property.now
+      (set_slot d (world_of e.world) (frame_view c.args.frame) c.args.object.0 c.args.property.now c.args.from.0 id c.object_in-object.ensures (instructed e.counted (agenda_of d e) _ c.requires.able));
+}
 
-pub returns-in_err-value-clause-step : goal.returns-in_err-value-clause-step
-returns-in_err-value-clause-step c =
-    let d = c.args.definition.now in
-    let e = c.args.engine.now in
-    let w = world_of e.world in
-    let f = frame_view c.args.frame in
-    let p = err_from_is_err_and c.from_residual-in_err-value.result c.from_residual-in_err-value.ensures.1 in
-    rw (p.1, p.2)
-    (stops_left e.counted (agenda_of d e) (set_property d w f c.args.object.0 c.args.property.now c.args.from.0) _
-    (set_unset d w f c.args.object.0 c.args.property.now c.args.from.0 c.in_ok-object.object.0 c.in_ok-object.ensures c.in_ok-slot.slot c.in_ok-slot.ensures _ c.in_err-value.ensures))
+pub value_in-requires : goal.value_in-requires
+value_in-requires c = record {
+  able =
+      let d = c.args.definition.now in
+      let e = c.args.engine.now in
+      let w = world_of e.world in
+      let f = frame_view c.args.frame in
+      let id = c.object_in-object.result.0 in
+      let may = instructed e.counted (agenda_of d e) _ c.requires.able in
+      let is = settable_is d w id c.args.property.now c.slot_at-slot.result c.slot_at-slot.ensures (set_slot d w f c.args.object.0 c.args.property.now c.args.from.0 id c.object_in-object.ensures may) in
+      set_value d w f c.args.object.0 c.args.property.now c.args.from.0 id c.object_in-object.ensures c.slot_at-slot.result is may;
+}
 
 pub returns-clause-step : goal.returns-clause-step
 returns-clause-step c =
@@ -54,11 +49,13 @@ returns-clause-step c =
     let w = world_of e.world in
     let f = frame_view c.args.frame in
     let b = c.push_frame.new.engine in
-    let id = c.in_ok-object.object.0 in
-    let slot = c.in_ok-slot.slot in
+    let id = c.object_in-object.result.0 in
+    let slot = c.slot_at-slot.result in
+    let may = instructed e.counted (agenda_of d e) _ c.requires.able in
+    let is = settable_is d w id c.args.property.now slot c.slot_at-slot.ensures (set_slot d w f c.args.object.0 c.args.property.now c.args.from.0 id c.object_in-object.ensures may) in
     let v = value_view c.in_ok-value.value in
     started_left e.counted (agenda_of d e) (set_property d w f c.args.object.0 c.args.property.now c.args.from.0) w (Setting id slot v ∷ []) f _ _ _
-    (sets d w f c.args.object.0 c.args.property.now c.args.from.0 id c.in_ok-object.ensures slot c.in_ok-slot.ensures v c.in_ok-value.ensures)
+    (sets d w f c.args.object.0 c.args.property.now c.args.from.0 id c.object_in-object.ensures slot is v c.in_ok-value.ensures)
     (c.push_task.ensures.world ∙ world_pushed d e b f c.push_frame.ensures.beside)
     (c.in_ok-push_task.ensures.agenda d ∙ ap (λ ts. Setting id slot v ∷ ts) (c.in_ok-push_frame.ensures.agenda d))
     (c.push_task.ensures.same ∙ count_pushed d e b f c.push_frame.ensures.beside)

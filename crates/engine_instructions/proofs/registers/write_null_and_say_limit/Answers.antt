@@ -1,5 +1,6 @@
 use Rattle.std.proofs.Common.{[], ◌+◌, Some, ap, sym, ◌∙◌, arith}
 use Rattle.std.proofs.lemmas.Result.{err_from_is_err_and}
+use Rattle.ui_machine.specs.declared.arm.Halt.TheVariants as halts
 use Rattle.ui_machine.specs.Instructions.Registers.{goes_on, written_to}
 use Rattle.ui_machine.specs.Output.Lines as lines
 use Rattle.ui_machine.specs.State.Config.{World, said}
@@ -14,20 +15,21 @@ use Rattle.engine_world.proofs.Counts.{taken_alike}
 use Rattle.engine_world.proofs.Left.{same_agenda}
 use Rattle.engine_world.proofs.Quiets.{quiet_same}
 use Rattle.engine_world.proofs.Registers.{going_left, register_moved, stops_left, table_world, write_stops, writes_register}
+use Rattle.engine_world.proofs.Ableness.{no_arm, none_stops}
 use Rattle.engine_instructions.proofs.registers.write_null_and_say_limit.Goals as goal
 
 pub put-requires : goal.put-requires
-put-requires c = record { held = λ o. omega (arith, c.requires.counted.exact o) }
-
-pub returns-in_err-put-clause-step : goal.returns-in_err-put-clause-step
-returns-in_err-put-clause-step c =
-    let d = c.args.definition.now in
-    let e = c.args.engine.now in
-    let w = said d (world_of e.world) (lines.limit c.args.word.now) in
-    let p = err_from_is_err_and c.from_residual.result c.from_residual.ensures.1 in
-    rw (p.1, p.2)
-    (stops_left e.counted (agenda_of d e) (written_to w c.args.to.0 (Some (value_view c.args.value)) (frame_view c.args.frame)) _
-    (write_stops w (frame_view c.args.frame) c.args.to.0 (Some (value_view c.args.value)) _ c.in_err-put.ensures.written))
+put-requires c = record {
+  able =
+      let d = c.args.definition.now in
+      let e = c.args.engine.now in
+      let f = frame_view c.args.frame in
+      let w = said d (world_of e.world) (lines.limit c.args.word.now) in
+      none_stops _ (λ arm none. no_arm _ arm c.requires.able
+      (stops_left e.counted (agenda_of d e) (written_to w c.args.to.0 (Some (value_view c.args.value)) f) (halts.Stuck arm)
+      (write_stops w f c.args.to.0 (Some (value_view c.args.value)) (halts.Stuck arm) none)));
+  held = λ o. omega (arith, c.requires.counted.exact o);
+}
 
 pub returns-clause-step : goal.returns-clause-step
 returns-clause-step c =
@@ -37,9 +39,9 @@ returns-clause-step c =
     let new = frame_view c.put.new.frame in
     let w = said d (world_of e.world) (lines.limit c.args.word.now) in
     let b = c.push_frame.new.engine in
-    let world = ap (λ (x : Engine). world_of x.world) c.push_frame.ensures.beside ∙ table_world e c.put.new.table c.in_ok-put.ensures.only in
+    let world = ap (λ (x : Engine). world_of x.world) c.push_frame.ensures.beside ∙ table_world e c.put.new.table c.put.ensures.only in
     going_left e.counted (agenda_of d e) (written_to w c.args.to.0 (Some (value_view c.args.value)) f) w new _ _ _
-    (writes_register w f c.args.to.0 (Some (value_view c.args.value)) new.registers c.in_ok-put.ensures.written ∙ ap (λ (x : Frame). goes_on w [] x) (sym c.in_ok-put.ensures.beside))
+    (writes_register w f c.args.to.0 (Some (value_view c.args.value)) new.registers c.in_ok-put.ensures.written ∙ ap (λ (x : Frame). goes_on w [] x) (sym c.put.ensures.beside))
     (c.in_ok-say_limit.ensures.ok ∙ ap (λ (v : World). said d v (lines.limit c.args.word.now)) world)
     (same_agenda d b c.say_limit.new.engine c.say_limit.ensures.same.0 c.say_limit.ensures.handlers ∙ c.in_ok-push_frame.ensures.agenda d)
     (c.say_limit.ensures.same.1 ∙ ap (λ (x : Engine). x.counted) c.push_frame.ensures.beside)
@@ -47,7 +49,7 @@ returns-clause-step c =
 pub returns-in_err-say_limit-clause-quiet : goal.returns-in_err-say_limit-clause-quiet
 returns-in_err-say_limit-clause-quiet c =
     let e = c.args.engine.now in
-    let world = ap (λ (x : Engine). world_of x.world) c.push_frame.ensures.beside ∙ table_world e c.put.new.table c.in_ok-put.ensures.only in
+    let world = ap (λ (x : Engine). world_of x.world) c.push_frame.ensures.beside ∙ table_world e c.put.new.table c.put.ensures.only in
     let p = err_from_is_err_and c.from_residual-in_err-say_limit.result c.from_residual-in_err-say_limit.ensures.1 in
     rw p.1 (quiet_same (world_of e.world) (world_of c.say_limit.new.engine.world) (c.in_err-say_limit.ensures.err ∙ world))
 
@@ -59,5 +61,5 @@ returns-clause-counted c =
     let new = frame_view c.put.new.frame in
     c.in_ok-say_limit.ensures.counted.at nothing
     (c.in_ok-push_frame.ensures.counted d nothing
-    (register_moved d e c.put.new.table nothing (λ o. in_frame o f) (λ o. in_frame o new) c.in_ok-put.ensures.only c.in_ok-put.ensures.counts
+    (register_moved d e c.put.new.table nothing (λ o. in_frame o f) (λ o. in_frame o new) c.put.ensures.only c.in_ok-put.ensures.counts
     (taken_alike d e (λ o. in_frame o f) (λ o. nothing o + in_frame o f) (λ o. omega arith) c.requires.counted)))

@@ -1,48 +1,38 @@
 use Rattle.std.proofs.Common.{Ok, option_map, refl, sym, ap, ◌∙◌, arith}
 use Rattle.std.proofs.lemmas.Result.{err_from_is_err_and}
-use Rattle.ui_machine.specs.Instructions.Jumps.{returning}
 use Rattle.ui_machine.specs.Seq.{total}
 use Rattle.ui_machine.specs.State.References.{in_register}
 use Rattle.bytecode.specs.Computing.{registers_of}
 use Rattle.frames.specs.FrameView.{frame_view}
-use Rattle.bytecode.specs.View.{number_of}
+use Rattle.bytecode.specs.View.{number_of, program_view}
 use Rattle.engine_world.specs.Counting.{in_frame}
 use Rattle.engine_world.specs.TaskView.{agenda_of}
 use Rattle.engine_world.specs.View.{world_of}
+use Rattle.engine_world.proofs.Ableness.{able_as, in_left}
 use Rattle.engine_world.proofs.Counts.{config_same, given_back}
 use Rattle.engine_world.proofs.Left.{left_kept}
-use Rattle.engine_instructions.proofs.Programs.{left_stops}
-use Rattle.engine_instructions.proofs.Returning.{returning_gives, returning_stops}
-use Rattle.engine_instructions.proofs.Starting.{stops_as}
+use Rattle.engine_instructions.proofs.Returning.{given_able, returning_gives}
 use Rattle.engine_instructions.proofs.returns.return_from_program.Goals as goal
 
-pub returns-in_err-given-clause-step : goal.returns-in_err-given-clause-step
-returns-in_err-given-clause-step c =
+pub given_by-requires : goal.given_by-requires
+given_by-requires c =
     let d = c.args.definition.now in
     let e = c.args.engine.now in
     let f = frame_view c.args.frame in
-    let from = option_map number_of c.args.from in
-    let p = err_from_is_err_and c.from_residual.result c.from_residual.ensures.1 in
-    rw (p.1, p.2)
-    (left_stops e.counted (returning d (world_of e.world) f (agenda_of d e) from) _ (returning_stops d (world_of e.world) f (agenda_of d e) from _ c.in_err-given.ensures))
+    record { able = given_able d (world_of e.world) f (option_map number_of c.args.from) (program_view c.args.program.now) c.requires.program (agenda_of d e) (in_left e.counted _ c.requires.able) }
 
 pub give_down-requires : goal.give_down-requires
-give_down-requires c = record {
-  held = record { at = λ o. omega (arith, c.requires.counted.exact o) };
-  sources = record { at = λ o. omega (arith, c.requires.counted.exact o) };
-  begun = c.requires.counted.connects.begun;
-}
-
-pub returns-in_err-give_down-clause-step : goal.returns-in_err-give_down-clause-step
-returns-in_err-give_down-clause-step c =
+give_down-requires c =
     let d = c.args.definition.now in
     let e = c.args.engine.now in
     let f = frame_view c.args.frame in
-    let from = option_map number_of c.args.from in
-    let p = err_from_is_err_and c.from_residual-in_err-give_down.result c.from_residual-in_err-give_down.ensures.1 in
-    rw (p.1, p.2)
-    (left_stops e.counted (returning d (world_of e.world) f (agenda_of d e) from) _
-    (stops_as _ _ _ (returning_gives d (world_of e.world) f (agenda_of d e) from _ c.in_ok-given.ensures) c.in_err-give_down.ensures.step))
+    let able = in_left e.counted _ c.requires.able in
+    record {
+      able = able_as (returning_gives d (world_of e.world) f (option_map number_of c.args.from) (program_view c.args.program.now) c.requires.program (agenda_of d e) _ c.in_ok-given.ensures able) able;
+      held = record { at = λ o. omega (arith, c.requires.counted.exact o) };
+      sources = record { at = λ o. omega (arith, c.requires.counted.exact o) };
+      begun = c.requires.counted.connects.begun;
+    }
 
 pub returns-in_err-give_down-clause-quiet : goal.returns-in_err-give_down-clause-quiet
 returns-in_err-give_down-clause-quiet c =
@@ -65,7 +55,7 @@ returns-clause-step c =
     let f = frame_view c.args.frame in
     let from = option_map number_of c.args.from in
     left_kept e.counted _ (world_of b.world) (agenda_of d b) (world_of b.world) (agenda_of d b) b.counted
-    (returning_gives d (world_of e.world) f (agenda_of d e) from _ c.in_ok-given.ensures ∙ c.in_ok-give_down.ensures.step) refl refl c.in_ok-give_down.ensures.same
+    (returning_gives d (world_of e.world) f from (program_view c.args.program.now) c.requires.program (agenda_of d e) _ c.in_ok-given.ensures (in_left e.counted _ c.requires.able) ∙ c.in_ok-give_down.ensures.step) refl refl c.in_ok-give_down.ensures.same
     ∙ ap (λ x. Ok x) (sym (config_same d b c.let_go_registers.new.table c.let_go_registers.ensures.only))
 
 pub returns-clause-counted : goal.returns-clause-counted

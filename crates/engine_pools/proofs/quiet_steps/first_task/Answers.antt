@@ -2,12 +2,14 @@ use Rattle.std.proofs.Common.{Ok, ◌∙◌, ap, sym, subst, arith}
 use Rattle.ui_machine.specs.State.Config.{Config, World}
 use Rattle.engine_world.specs.Counting.{in_subject}
 use Rattle.std.proofs.Common.{List}
+use Rattle.std.proofs.lemmas.Result.{err_from_is_err_and}
 use Rattle.ui_machine.specs.State.Tasks.{Task}
 use Rattle.engine_pools.specs.QuietSteps.{LeavesKnown, QuietlyStepped}
 use Rattle.engine_pools.specs.Safety.{NoneUnheld}
 use Rattle.engine_world.specs.Standing.{with_first}
 use Rattle.engine_world.specs.TaskView.{task_in, tasks_of}
 use Rattle.engine_pools.proofs.LeftClosings.{task_known}
+use Rattle.engine_world.proofs.Ableness.{none_stops}
 use Rattle.engine_world.specs.EngineView.{config_of}
 use Rattle.engine_world.proofs.Counts.{config_same, taken_off, given_back, same_tasks}
 use Rattle.engine_world.specs.View.{world_of}
@@ -37,18 +39,19 @@ returns-in_default-clause-stepped c =
     subst (λ (ts : List Task). QuietlyStepped (Ok c.sink_first_floating.result) d (record (config_of d c.args.engine.now) { agenda = ts }) (config_of d c.sink_first_floating.new.engine)) (none.1 ∙ sym none.0)
     c.sink_first_floating.ensures.stepped
 
-pub returns-in-Err-OutOfMemory-clause-stepped : goal.returns-in-Err-OutOfMemory-clause-stepped
-returns-in-Err-OutOfMemory-clause-stepped c = c.in-Err-OutOfMemory.ensures.quiet
-
-pub unreachable-requires : goal.unreachable-requires
-unreachable-requires c =
-    let d = c.args.definition.now in
-    let stuck = rw c.in-Err-Stuck.field-0-is at c.in-Err-Stuck.ensures.step in
-    first_can d c.args.engine.now.world.handlers.handlers (config_of d c.args.engine.now) (config_of d c.act.new.engine) c.requires.none c.in-Some.task c.pop.new.self (c.in-Some.ensures.tasks d c.args.engine.now.world.handlers.handlers) c.requires.quiet
-    c.requires.safe c.in-Err-Stuck.field-0-0 stuck
+pub returns-in_err-made-clause-stepped : goal.returns-in_err-made-clause-stepped
+returns-in_err-made-clause-stepped c =
+    let p = err_from_is_err_and c.from_residual.result c.from_residual.ensures.1 in
+    rw p.1 c.in_err-made.ensures.quiet
 
 pub act-requires : goal.act-requires
 act-requires c = record {
+  able =
+      let d = c.args.definition.now in
+      let e = c.args.engine.now in
+      let hs = e.world.handlers.handlers in
+      none_stops _
+      (first_can d hs (config_of d e) (config_of d e) c.requires.none c.in-Some.task c.pop.new.self (c.in-Some.ensures.tasks d hs) c.requires.quiet c.requires.safe);
   begun = c.in-Some.ensures.first c.args.engine.now.world.handlers.last c.requires.counted.connects.begun;
   counted =
       let d = c.args.definition.now in
@@ -60,7 +63,7 @@ pub let_go_any-requires : goal.let_go_any-requires
 let_go_any-requires c = record {
   held = λ o.
       let d = c.args.definition.now in
-      omega (arith, c.in-Ok.ensures.counted.exact o, c.object-held.ensures d c.args.engine.now.world.handlers.handlers o);
+      omega (arith, c.in_ok-made.ensures.counted.exact o, c.object-held.ensures d c.args.engine.now.world.handlers.handlers o);
 }
 
 pub returns-clause-counted : goal.returns-clause-counted
@@ -68,20 +71,20 @@ returns-clause-counted c =
     let d = c.args.definition.now in
     let t = task_in d c.args.engine.now c.in-Some.task in
     given_back d c.act.new.engine c.let_go_any.new.table (λ o. in_subject o t) c.let_go_any.ensures.only
-    (λ o. omega (arith, c.let_go_any.ensures.counts o, c.object-held.ensures d c.args.engine.now.world.handlers.handlers o)) c.in-Ok.ensures.counted
+    (λ o. omega (arith, c.let_go_any.ensures.counts o, c.object-held.ensures d c.args.engine.now.world.handlers.handlers o)) c.in_ok-made.ensures.counted
 
 pub returns-clause-stepped : goal.returns-clause-stepped
 returns-clause-stepped c =
     let d = c.args.definition.now in
-    subst (λ (e : Config). QuietlyStepped (Ok c.in-Ok.made) d (config_of d c.args.engine.now) e) (sym (config_same d c.act.new.engine c.let_go_any.new.table c.let_go_any.ensures.only))
+    subst (λ (e : Config). QuietlyStepped (Ok c.in_ok-made.made) d (config_of d c.args.engine.now) e) (sym (config_same d c.act.new.engine c.let_go_any.new.table c.let_go_any.ensures.only))
     (first_stepped d c.args.engine.now.world.handlers.handlers (config_of d c.args.engine.now) (config_of d c.act.new.engine) c.requires.none c.in-Some.task c.pop.new.self (c.in-Some.ensures.tasks d c.args.engine.now.world.handlers.handlers) c.requires.quiet
-    c.in-Ok.made c.in-Ok.ensures.step c.in-Ok.ensures.made)
+    c.in_ok-made.made c.in_ok-made.ensures.step c.in_ok-made.ensures.made)
 
 pub returns-clause-grows : goal.returns-clause-grows
 returns-clause-grows c =
     let d = c.args.definition.now in
     first_grows d c.args.engine.now.world.handlers.handlers (config_of d c.args.engine.now) (config_of d c.act.new.engine) c.requires.none c.in-Some.task c.pop.new.self (c.in-Some.ensures.tasks d c.args.engine.now.world.handlers.handlers) c.requires.quiet
-    c.in-Ok.made c.in-Ok.ensures.step
+    c.in_ok-made.made c.in_ok-made.ensures.step
 
 pub returns-in_default-clause-known : goal.returns-in_default-clause-known
 returns-in_default-clause-known c = c.sink_first_floating.ensures.known
@@ -94,6 +97,6 @@ returns-clause-known c =
     let hs = e.world.handlers.handlers in
     let rest = tasks_of d hs c.pop.new.self in
     let none = subst (λ (ts : List Task). NoneUnheld d (record (config_of d e) { agenda = with_first w ts })) (c.in-Some.ensures.tasks d hs) (first_none d (config_of d e) c.requires.none) in
-    let goes = c.in-Ok.ensures.step in
+    let goes = c.in_ok-made.ensures.step in
     subst (λ (v : World). LeavesKnown w v c.act.new.engine.closing) (ap (λ (x : Config). x.world) goes.2)
-    (task_known d w rest e.counted (task_in d e c.in-Some.task) goes.0 e.closing c.act.new.engine.closing none goes.1 c.in-Ok.ensures.closing)
+    (task_known d w rest e.counted (task_in d e c.in-Some.task) goes.0 e.closing c.act.new.engine.closing none goes.1 c.in_ok-made.ensures.closing)

@@ -8,6 +8,8 @@ use Rattle.engine_world.specs.TaskView.{agenda_of}
 use Rattle.engine_world.specs.View.{world_of}
 use Rattle.engine_world.proofs.Counts.{finds_mentioned}
 use Rattle.ui_machine.specs.Steps.{asked_after}
+use Rattle.std.proofs.lemmas.Result.{err_from_is_err_and}
+use Rattle.engine_world.proofs.Ableness.{none_stops}
 use Rattle.engine_pools.proofs.LeftClosings.{finalised_known}
 use Rattle.engine_pools.proofs.Stepping.{finalise_can, finalise_stepped}
 use Rattle.engine_pools.proofs.quiet_steps.step_quietly.Goals as goal
@@ -19,11 +21,11 @@ first_task-requires-clause-none c =
     let none : next_unheld (count_of e.world.table.counts) e.world.table.objects ≡ None = sym c.next_unheld.ensures.found ∙ ap id_of c.in_default.is in
     sym (finds_mentioned d e c.requires.counted) ∙ none
 
-pub returns-in-Ok-clause-counted : goal.returns-in-Ok-clause-counted
-returns-in-Ok-clause-counted c = c.in-Ok.ensures.counted.at nothing c.requires.counted
+pub returns-clause-counted : goal.returns-clause-counted
+returns-clause-counted c = c.in_ok-finalise.ensures.counted.at nothing c.requires.counted
 
-pub returns-in-Ok-clause-stepped : goal.returns-in-Ok-clause-stepped
-returns-in-Ok-clause-stepped c =
+pub returns-clause-stepped : goal.returns-clause-stepped
+returns-clause-stepped c =
     let d = c.args.definition.now in
     let e = c.args.engine.now in
     let new = c.finalise.new.engine in
@@ -31,30 +33,31 @@ returns-in-Ok-clause-stepped c =
     let one : next_unheld (count_of e.world.table.counts) e.world.table.objects ≡ Some id = sym c.next_unheld.ensures.found ∙ ap id_of c.in-Some.is in
     let unheld : next_unheld (mentions d (config_of d e)) e.world.table.objects ≡ Some id = sym (finds_mentioned d e c.requires.counted) ∙ one in
     let rest = agenda_of d e in
-    finalise_stepped d (config_of d e) id unheld (config_of d new) (record { world = world_of new.world; agenda = rest; counted = new.counted }) (c.in-Ok.ensures.step rest)
-    (ap (λ (ts : List Task). record (config_of d new) { agenda = ts }) (sym c.in-Ok.ensures.agenda)) c.in-Ok.ensures.counts
+    finalise_stepped d (config_of d e) id unheld (config_of d new) (record { world = world_of new.world; agenda = rest; counted = new.counted }) (c.in_ok-finalise.ensures.step rest)
+    (ap (λ (ts : List Task). record (config_of d new) { agenda = ts }) (sym c.in_ok-finalise.ensures.agenda)) c.in_ok-finalise.ensures.counts
 
-pub returns-in-Err-OutOfMemory-clause-stepped : goal.returns-in-Err-OutOfMemory-clause-stepped
-returns-in-Err-OutOfMemory-clause-stepped c = c.in-Err-OutOfMemory.ensures.quiet
+pub returns-in_err-finalise-clause-stepped : goal.returns-in_err-finalise-clause-stepped
+returns-in_err-finalise-clause-stepped c =
+    let p = err_from_is_err_and c.from_residual.result c.from_residual.ensures.1 in
+    rw p.1 c.in_err-finalise.ensures.quiet
 
-pub unreachable-requires : goal.unreachable-requires
-unreachable-requires c =
+pub finalise-requires-clause-able : goal.finalise-requires-clause-able
+finalise-requires-clause-able c =
     let d = c.args.definition.now in
     let e = c.args.engine.now in
     let id = c.in-Some.object.0 in
     let one : next_unheld (count_of e.world.table.counts) e.world.table.objects ≡ Some id = sym c.next_unheld.ensures.found ∙ ap id_of c.in-Some.is in
     let unheld : next_unheld (mentions d (config_of d e)) e.world.table.objects ≡ Some id = sym (finds_mentioned d e c.requires.counted) ∙ one in
-    let stuck = rw c.in-Err-Stuck.field-0-is at (c.in-Err-Stuck.ensures.step (agenda_of d e)) in
-    finalise_can d (config_of d e) id unheld c.requires.safe c.in-Err-Stuck.field-0-0 stuck
+    none_stops _ (finalise_can d (config_of d e) id unheld c.requires.safe)
 
-pub returns-in-Ok-clause-known : goal.returns-in-Ok-clause-known
-returns-in-Ok-clause-known c =
+pub returns-clause-known : goal.returns-clause-known
+returns-clause-known c =
     let d = c.args.definition.now in
     let w = world_of c.args.engine.now.world in
     let new = c.finalise.new.engine in
     let rest = agenda_of d c.args.engine.now in
     finalised_known d w c.in-Some.object.0 rest c.args.engine.now.counted (record { world = world_of new.world; agenda = rest; counted = new.counted }) c.args.engine.now.closing new.closing
-    (c.in-Ok.ensures.step rest) c.in-Ok.ensures.closing
+    (c.in_ok-finalise.ensures.step rest) c.in_ok-finalise.ensures.closing
 
 pub first_task-requires-clause-quiet : goal.first_task-requires-clause-quiet
 first_task-requires-clause-quiet c =

@@ -1,7 +1,64 @@
-use Rattle.std.proofs.Common.{Ok, refl}
+use Rattle.std.proofs.Common.{Result, Ok, refl}
+use Rattle.std.specs.declared.alloc.AllocError.{AllocError}
 use Rattle.engine_world.proofs.Counts.{done_plain}
-use Rattle.engine_instructions.proofs.Whole.{goes_whole}
+use Rattle.engine_instructions.proofs.Whole.{leads_whole}
 use Rattle.engine_pools.proofs.tasks.act.Goals as goal
+
+-- what was done
+abbrev done : Result (Unit {0}) AllocError
+done = Ok tt
+
+-- ** the machine is not stuck there
+
+pub validate_and_set-requires : goal.validate_and_set-requires
+validate_and_set-requires c = record { able = rw c.in-Setting.is at c.requires.able }
+
+pub notify-requires : goal.notify-requires
+notify-requires c = record { able = rw c.in-Notifying.is at c.requires.able }
+
+pub begin_emission-requires-clause-able : goal.begin_emission-requires-clause-able
+begin_emission-requires-clause-able c = rw c.in-Beginning.is at c.requires.able
+
+pub emit-requires-clause-able : goal.emit-requires-clause-able
+emit-requires-clause-able c = rw c.in-Emitting.is at c.requires.able
+
+pub transfer-requires : goal.transfer-requires
+transfer-requires c = record { able = rw c.in-Transferring.is at c.requires.able }
+
+pub run_program-requires-clause-able : goal.run_program-requires-clause-able
+run_program-requires-clause-able c = rw c.in-Running.is at c.requires.able
+
+pub notify_thawed-requires : goal.notify_thawed-requires
+notify_thawed-requires c = record { able = rw c.in-Thawing.is at c.requires.able }
+
+pub construct-requires : goal.construct-requires
+construct-requires c = record { able = rw c.in-Constructing.is at c.requires.able }
+
+pub build-requires-clause-able : goal.build-requires-clause-able
+build-requires-clause-able c = rw c.in-Building.is at c.requires.able
+
+pub adopt_from_build-requires : goal.adopt_from_build-requires
+adopt_from_build-requires c = record { able = rw c.in-Adopting.is at c.requires.able }
+
+pub bind_from_build-requires-clause-able : goal.bind_from_build-requires-clause-able
+bind_from_build-requires-clause-able c = rw c.in-Binding.is at c.requires.able
+
+pub connect_from_build-requires-clause-able : goal.connect_from_build-requires-clause-able
+connect_from_build-requires-clause-able c = rw c.in-Connecting.is at c.requires.able
+
+pub pass_over-requires-clause-able : goal.pass_over-requires-clause-able
+pass_over-requires-clause-able c = rw c.in-Calling.is at c.requires.able
+
+pub run_source-requires : goal.run_source-requires
+run_source-requires c = record { able = rw c.in-Due.is at c.requires.able }
+
+pub handle_event-requires-clause-able : goal.handle_event-requires-clause-able
+handle_event-requires-clause-able c = rw c.in-Handling.is at c.requires.able
+
+pub unreachable-requires : goal.unreachable-requires
+unreachable-requires c = rw c.in-Answering.is at c.requires.able
+
+-- ** what is counted, and what was done
 
 pub returns-in-Setting-clause-counted : goal.returns-in-Setting-clause-counted
 returns-in-Setting-clause-counted c =
@@ -32,66 +89,66 @@ returns-in-Handling-clause-counted c =
     done_plain c.args.definition.now c.args.engine.now c.handle_event.new.engine c.args.task _ c.in-Handling.is (λ o. refl) c.in_ok-handle_event-in-Handling.ensures.counted c.requires.counted
 
 pub returns-in-Setting-clause-step : goal.returns-in-Setting-clause-step
-returns-in-Setting-clause-step c = rw c.in-Setting.is (goes_whole c.args.definition.now c.validate_and_set.new.engine (Ok (tt {0})) _ c.in_ok-validate_and_set-in-Setting.ensures.step)
+returns-in-Setting-clause-step c = rw c.in-Setting.is (leads_whole c.args.definition.now c.validate_and_set.new.engine done _ c.in_ok-validate_and_set-in-Setting.ensures.step)
 
 pub returns-in-Notifying-clause-step : goal.returns-in-Notifying-clause-step
-returns-in-Notifying-clause-step c = rw c.in-Notifying.is (goes_whole c.args.definition.now c.notify.new.engine (Ok (tt {0})) _ c.in_ok-notify-in-Notifying.ensures.step)
+returns-in-Notifying-clause-step c = rw c.in-Notifying.is (leads_whole c.args.definition.now c.notify.new.engine done _ c.in_ok-notify-in-Notifying.ensures.step)
 
 pub returns-in-Beginning-clause-step : goal.returns-in-Beginning-clause-step
-returns-in-Beginning-clause-step c = rw c.in-Beginning.is (goes_whole c.args.definition.now c.begin_emission.new.engine (Ok (tt {0})) _ c.in_ok-begin_emission-in-Beginning.ensures.step)
+returns-in-Beginning-clause-step c = rw c.in-Beginning.is (leads_whole c.args.definition.now c.begin_emission.new.engine done _ c.in_ok-begin_emission-in-Beginning.ensures.step)
 
 pub returns-in-Emitting-clause-step : goal.returns-in-Emitting-clause-step
-returns-in-Emitting-clause-step c = rw c.in-Emitting.is (goes_whole c.args.definition.now c.emit.new.engine (Ok (tt {0})) _ c.in_ok-emit-in-Emitting.ensures.step)
+returns-in-Emitting-clause-step c = rw c.in-Emitting.is (leads_whole c.args.definition.now c.emit.new.engine done _ c.in_ok-emit-in-Emitting.ensures.step)
 
 pub returns-in-Thawing-clause-step : goal.returns-in-Thawing-clause-step
-returns-in-Thawing-clause-step c = rw c.in-Thawing.is (goes_whole c.args.definition.now c.notify_thawed.new.engine (Ok (tt {0})) _ c.in_ok-notify_thawed-in-Thawing.ensures.step)
+returns-in-Thawing-clause-step c = rw c.in-Thawing.is (leads_whole c.args.definition.now c.notify_thawed.new.engine done _ c.in_ok-notify_thawed-in-Thawing.ensures.step)
 
 pub returns-in-Constructing-clause-step : goal.returns-in-Constructing-clause-step
-returns-in-Constructing-clause-step c = rw c.in-Constructing.is (goes_whole c.args.definition.now c.construct.new.engine (Ok (tt {0})) _ c.in_ok-construct-in-Constructing.ensures.step)
+returns-in-Constructing-clause-step c = rw c.in-Constructing.is (leads_whole c.args.definition.now c.construct.new.engine done _ c.in_ok-construct-in-Constructing.ensures.step)
 
 pub returns-in-Building-clause-step : goal.returns-in-Building-clause-step
-returns-in-Building-clause-step c = rw c.in-Building.is (goes_whole c.args.definition.now c.build.new.engine (Ok (tt {0})) _ c.in_ok-build-in-Building.ensures.step)
+returns-in-Building-clause-step c = rw c.in-Building.is (leads_whole c.args.definition.now c.build.new.engine done _ c.in_ok-build-in-Building.ensures.step)
 
 pub returns-in-Adopting-clause-step : goal.returns-in-Adopting-clause-step
-returns-in-Adopting-clause-step c = rw c.in-Adopting.is (goes_whole c.args.definition.now c.adopt_from_build.new.engine (Ok (tt {0})) _ c.in_ok-adopt_from_build-in-Adopting.ensures.step)
+returns-in-Adopting-clause-step c = rw c.in-Adopting.is (leads_whole c.args.definition.now c.adopt_from_build.new.engine done _ c.in_ok-adopt_from_build-in-Adopting.ensures.step)
 
 pub returns-in-Handling-clause-step : goal.returns-in-Handling-clause-step
-returns-in-Handling-clause-step c = rw c.in-Handling.is (goes_whole c.args.definition.now c.handle_event.new.engine (Ok (tt {0})) _ c.in_ok-handle_event-in-Handling.ensures.step)
+returns-in-Handling-clause-step c = rw c.in-Handling.is (leads_whole c.args.definition.now c.handle_event.new.engine done _ c.in_ok-handle_event-in-Handling.ensures.step)
 
 pub returns-in-Connecting-clause-counted : goal.returns-in-Connecting-clause-counted
 returns-in-Connecting-clause-counted c =
     done_plain c.args.definition.now c.args.engine.now c.connect_from_build.new.engine c.args.task _ c.in-Connecting.is (λ o. refl) c.in_ok-connect_from_build-in-Connecting.ensures.counted c.requires.counted
 
 pub returns-in-Connecting-clause-step : goal.returns-in-Connecting-clause-step
-returns-in-Connecting-clause-step c = rw c.in-Connecting.is (goes_whole c.args.definition.now c.connect_from_build.new.engine (Ok (tt {0})) _ c.in_ok-connect_from_build-in-Connecting.ensures.step)
+returns-in-Connecting-clause-step c = rw c.in-Connecting.is (leads_whole c.args.definition.now c.connect_from_build.new.engine done _ c.in_ok-connect_from_build-in-Connecting.ensures.step)
 
 pub returns-in-Due-clause-counted : goal.returns-in-Due-clause-counted
 returns-in-Due-clause-counted c =
     done_plain c.args.definition.now c.args.engine.now c.run_source.new.engine c.args.task _ c.in-Due.is (λ o. refl) c.in_ok-run_source-in-Due.ensures.counted c.requires.counted
 
 pub returns-in-Due-clause-step : goal.returns-in-Due-clause-step
-returns-in-Due-clause-step c = rw c.in-Due.is (goes_whole c.args.definition.now c.run_source.new.engine (Ok (tt {0})) _ c.in_ok-run_source-in-Due.ensures.step)
+returns-in-Due-clause-step c = rw c.in-Due.is (leads_whole c.args.definition.now c.run_source.new.engine done _ c.in_ok-run_source-in-Due.ensures.step)
 
 pub returns-in-Transferring-clause-counted : goal.returns-in-Transferring-clause-counted
 returns-in-Transferring-clause-counted c =
     done_plain c.args.definition.now c.args.engine.now c.transfer.new.engine c.args.task _ c.in-Transferring.is (λ o. refl) c.in_ok-transfer-in-Transferring.ensures.counted c.requires.counted
 
 pub returns-in-Transferring-clause-step : goal.returns-in-Transferring-clause-step
-returns-in-Transferring-clause-step c = rw c.in-Transferring.is (goes_whole c.args.definition.now c.transfer.new.engine (Ok (tt {0})) _ c.in_ok-transfer-in-Transferring.ensures.step)
+returns-in-Transferring-clause-step c = rw c.in-Transferring.is (leads_whole c.args.definition.now c.transfer.new.engine done _ c.in_ok-transfer-in-Transferring.ensures.step)
 
 pub returns-in-Unsetting-clause-counted : goal.returns-in-Unsetting-clause-counted
 returns-in-Unsetting-clause-counted c =
     done_plain c.args.definition.now c.args.engine.now c.unset.new.engine c.args.task _ c.in-Unsetting.is (λ o. refl) c.unset.ensures.counted c.requires.counted
 
 pub returns-in-Unsetting-clause-step : goal.returns-in-Unsetting-clause-step
-returns-in-Unsetting-clause-step c = rw c.in-Unsetting.is (goes_whole c.args.definition.now c.unset.new.engine (Ok (tt {0})) _ c.unset.ensures.step)
+returns-in-Unsetting-clause-step c = rw c.in-Unsetting.is (leads_whole c.args.definition.now c.unset.new.engine done _ c.unset.ensures.step)
 
 pub returns-in-Binding-clause-counted : goal.returns-in-Binding-clause-counted
 returns-in-Binding-clause-counted c =
     done_plain c.args.definition.now c.args.engine.now c.bind_from_build.new.engine c.args.task _ c.in-Binding.is (λ o. refl) c.in_ok-bind_from_build-in-Binding.ensures.counted c.requires.counted
 
 pub returns-in-Binding-clause-step : goal.returns-in-Binding-clause-step
-returns-in-Binding-clause-step c = rw c.in-Binding.is (goes_whole c.args.definition.now c.bind_from_build.new.engine (Ok (tt {0})) _ c.in_ok-bind_from_build-in-Binding.ensures.step)
+returns-in-Binding-clause-step c = rw c.in-Binding.is (leads_whole c.args.definition.now c.bind_from_build.new.engine done _ c.in_ok-bind_from_build-in-Binding.ensures.step)
 
 pub returns-in-Calling-clause-step : goal.returns-in-Calling-clause-step
-returns-in-Calling-clause-step c = rw c.in-Calling.is (goes_whole c.args.definition.now c.pass_over.new.engine (Ok (tt {0})) _ c.in_ok-pass_over-in-Calling.ensures.step)
+returns-in-Calling-clause-step c = rw c.in-Calling.is (leads_whole c.args.definition.now c.pass_over.new.engine done _ c.in_ok-pass_over-in-Calling.ensures.step)

@@ -1,5 +1,4 @@
 use Rattle.std.proofs.Common.{◌≡◌, ◌∙◌, ◌+◌, ◌<◌, suc, ℕ, append_assoc, ◌++◌, [], ◌∷◌, List, length, option_map, refl, sym, ap, arith}
-use Rattle.std.proofs.lemmas.Result.{err_from_is_err_and}
 use Rattle.ui_machine.specs.Rules.Build.{building, first_transfer, new_binding, with_binding}
 use Rattle.ui_machine.specs.State.Config.{World}
 use Rattle.ui_machine.specs.State.Tasks.{Building, Item, Task}
@@ -9,22 +8,23 @@ use Rattle.engine_world.specs.TaskView.{agenda_of, binds_from}
 use Rattle.engine_world.specs.View.{world_of}
 use Rattle.engine_world.proofs.Counts.{keeps_on}
 use Rattle.engine_world.proofs.Left.{same_agenda}
-use Rattle.engine_tasks.specs.BindView.{ends_of}
-use Rattle.engine_tasks.proofs.Binding.{bound, next_there, not_held, too_late}
+use Rattle.engine_tasks.specs.BindView.{ends_of, ends_at}
+use Rattle.engine_tasks.proofs.Binding.{bound, next_there, too_late, by_found, between}
+use Rattle.engine_world.proofs.Ableness.{able_as, first, in_uncounted}
 use Rattle.engine_tasks.proofs.binds.bind_from_build.Goals as goal
 
-pub returns-in_err-ends-clause-step : goal.returns-in_err-ends-clause-step
-returns-in_err-ends-clause-step c =
-    let p = err_from_is_err_and c.from_residual.result c.from_residual.ensures.1 in
+pub ends_of-ends-requires : goal.ends_of-ends-requires
+ends_of-ends-requires c =
     let d = c.args.definition.now in
     let e = c.args.engine.now in
     let w = world_of e.world in
     let number = c.args.number in
+    let b = bind_view c.in-Some.meant.now in
+    let items = binds_from d (suc number) in
     let within : number < length d.bindings = omega (arith, c.binding_count.ensures, c.if-number-binding_count.false) in
     let found = sym c.binding.ensures ∙ ap (option_map (λ b. bind_view b.now)) c.in-Some.is in
-    rw (p.1, p.2)
-    (ap (λ (items : List Item). uncounted (agenda_of d e) e.counted (building d w items)) (next_there d number within)
-    ∙ ap (uncounted (agenda_of d e) e.counted) (not_held d w number (binds_from d (suc number)) (bind_view c.in-Some.meant.now) found _ c.in_err-ends.ensures))
+    let is = ap (λ (items : List Item). building d w items) (next_there d number within) ∙ by_found d w number items b found in
+    record { able = first (ends_at w b) (between d w number items b) (able_as is (in_uncounted _ _ _ c.requires.able)) }
 
 pub returns-then-is_late-clause-step : goal.returns-then-is_late-clause-step
 returns-then-is_late-clause-step c =
@@ -38,7 +38,7 @@ returns-then-is_late-clause-step c =
     let late = sym c.is_any_disposed-is_late.ensures ∙ c.if-is_late.true in
     let agenda = c.in_ok-push_task.ensures.agenda d ∙ ap (λ (n : ℕ). Building (binds_from d n) ∷ agenda_of d e) (let more : number + 1 ≡ suc number = omega arith in more) in
     ap (λ (its : List Item). uncounted (agenda_of d e) e.counted (building d w its)) (next_there d number within)
-    ∙ ap (uncounted (agenda_of d e) e.counted) (too_late d w number items (bind_view c.in-Some.meant.now) found (ends_of c.in_ok-ends.ends) c.in_ok-ends.ensures late)
+    ∙ ap (uncounted (agenda_of d e) e.counted) (too_late d w number items (bind_view c.in-Some.meant.now) found (ends_of c.ends_of-ends.result) c.ends_of-ends.ensures late)
     ∙ rw (c.push_task.ensures.world, c.push_task.ensures.same, agenda) refl
 
 pub returns-then-is_late-clause-counted : goal.returns-then-is_late-clause-counted
@@ -51,7 +51,7 @@ returns-clause-step c =
     let w = world_of e.world in
     let number = c.args.number in
     let b = bind_view c.in-Some.meant.now in
-    let ends = c.in_ok-ends.ends in
+    let ends = c.ends_of-ends.result in
     let items = binds_from d (suc number) in
     let within : number < length d.bindings = omega (arith, c.binding_count.ensures, c.if-number-binding_count.false) in
     let found = sym c.binding.ensures ∙ ap (option_map (λ b. bind_view b.now)) c.in-Some.is in
@@ -62,7 +62,7 @@ returns-clause-step c =
     let world = c.in_ok-bind.ensures.world ∙ ap (λ (v : World). with_binding v (new_binding number b ends.source.0 ends.target.0)) (c.push_first_transfer.ensures.world ∙ c.push_task.ensures.world) in
     let count = c.bind.ensures.same.1 ∙ c.push_first_transfer.ensures.same ∙ c.push_task.ensures.same in
     ap (λ (its : List Item). uncounted (agenda_of d e) e.counted (building d w its)) (next_there d number within)
-    ∙ ap (uncounted (agenda_of d e) e.counted) (bound d w number items b found (ends_of ends) c.in_ok-ends.ensures early)
+    ∙ ap (uncounted (agenda_of d e) e.counted) (bound d w number items b found (ends_of ends) c.ends_of-ends.ensures early)
     ∙ rw (world, count, agenda, append_assoc (first_transfer number b) (Building items ∷ []) (agenda_of d e)) refl
 
 pub returns-clause-counted : goal.returns-clause-counted

@@ -1,6 +1,5 @@
-use Rattle.std.proofs.Common.{◌≡◌, true, false, refl, sym, ap, ◌∙◌}
-use Rattle.std.proofs.lemmas.Result.{err_from_is_err_and}
-use Rattle.ui_machine.specs.State.Config.{builder_entry, is_unbuilt}
+use Rattle.std.proofs.Common.{◌≡◌, true, false, refl, ap, ◌∙◌, Ok, Bool}
+use Rattle.ui_machine.specs.State.Config.{builder_entry, is_unbuilt, World}
 use Rattle.ui_machine.specs.Steps.{uncounted}
 use Rattle.engine_world.specs.View.{world_of}
 use Rattle.engine_world.specs.TaskView.{agenda_of}
@@ -14,30 +13,36 @@ use Rattle.engine_world.specs.View.{held_of}
 use Rattle.engine_world.proofs.Lists.{total-written}
 use Rattle.engine_world.proofs.Floats.{holds_nothing}
 use Rattle.engine_world.proofs.Counts.{keeps_by, holder_more, sunk_exact, stays}
+use Rattle.ui_machine.specs.declared.arm.Arm.TheVariants as arms
+use Rattle.ui_machine.specs.Rules.Construction.{constructed}
+use Rattle.engine_world.specs.Able.{Able}
+use Rattle.ui_machine.specs.State.Objects.{asked}
+use Rattle.engine_world.proofs.Ableness.{in_uncounted, no_arm}
 use Rattle.engine_tasks.proofs.builds.hold_made.Goals as goal
 
-pub returns-in_err-place-clause-step : goal.returns-in_err-place-clause-step
-returns-in_err-place-clause-step c =
-    let p = err_from_is_err_and c.from_residual.result c.from_residual.ensures.1 in
-    let rest = agenda_of c.args.definition.now c.args.engine.now in
-    rw (p.1, p.2) (ap (uncounted rest c.args.engine.now.counted) (no_object (world_of c.args.engine.now.world) c.args.object.0 _ c.in_err-place.ensures))
+module _ (w : World) (id place : ℕ) (at : asked w.objects id (λ o. Ok o.place) ≡ Ok place) (able : Able (constructed w id true)) where
+  -- nothing was built at its place
+  unbuilt_there : is_unbuilt (builder_entry w place) ≡ true
+  unbuilt_there = by (is_unbuilt (builder_entry w place)) refl
+    where
+      by : (b : Bool) → is_unbuilt (builder_entry w place) ≡ b → is_unbuilt (builder_entry w place) ≡ true
+      by true h = h
+      by false h = absurd (no_arm (constructed w id true) arms.Code able (held_before w id place at h))
 
-pub returns-then-not-is_unbuilt-clause-step : goal.returns-then-not-is_unbuilt-clause-step
-returns-then-not-is_unbuilt-clause-step c =
+pub unreachable-requires : goal.unreachable-requires
+unreachable-requires c =
     let w = world_of c.args.engine.now.world in
-    let rest = agenda_of c.args.definition.now c.args.engine.now in
-    let there : is_unbuilt (builder_entry w c.in_ok-place.place.0) ≡ false = ap is_unbuilt (sym c.held.ensures) ∙ sym c.is_unbuilt.ensures ∙ c.if-not-is_unbuilt.true in
-    ap (uncounted rest c.args.engine.now.counted) (held_before w c.args.object.0 c.in_ok-place.place.0 c.in_ok-place.ensures there)
+    let id = c.args.object.0 in
+    no_arm (constructed w id true) _ (in_uncounted _ _ _ c.requires.able) (no_object w id _ c.in_default.ensures)
 
 pub returns-clause-step : goal.returns-clause-step
 returns-clause-step c =
     let w = world_of c.args.engine.now.world in
     let rest = agenda_of c.args.definition.now c.args.engine.now in
-    let there : is_unbuilt (builder_entry w c.in_ok-place.place.0) ≡ true =
-    ap is_unbuilt (sym c.held.ensures) ∙ sym c.is_unbuilt.ensures ∙ c.if-not-is_unbuilt.false in
+    let there = unbuilt_there w c.args.object.0 c.in-Ok.place.0 c.in-Ok.ensures (in_uncounted _ _ _ c.requires.able) in
     let floats = ap (λ (s : Store). s.floating) c.sink.ensures.beside in
     let objects = ap (λ (s : Store). s.objects) c.sink.ensures.beside in
-    ap (uncounted rest c.args.engine.now.counted) (held_now w c.args.object.0 c.in_ok-place.place.0 c.in_ok-place.ensures there)
+    ap (uncounted rest c.args.engine.now.counted) (held_now w c.args.object.0 c.in-Ok.place.0 c.in-Ok.ensures there)
     ∙ rw (floats, objects, c.hold_any.ensures.only.floating, c.hold_any.ensures.only.objects, c.in_ok-set_builder_entry.ensures) refl
 
 pub returns-clause-counted : goal.returns-clause-counted
@@ -46,12 +51,11 @@ returns-clause-counted c =
     let e = c.args.engine.now in
     let w = world_of e.world in
     let id = c.args.object.0 in
-    let place = c.in_ok-place.place.0 in
+    let place = c.in-Ok.place.0 in
     let b = map held_of e.world.builder.items in
     let n = map held_of c.set_builder_entry.new.builder.items in
     let a = agenda_of d e in
-    let there : is_unbuilt (builder_entry w place) ≡ true =
-    ap is_unbuilt (sym c.held.ensures) ∙ sym c.is_unbuilt.ensures ∙ c.if-not-is_unbuilt.false in
+    let there = unbuilt_there w c.args.object.0 c.in-Ok.place.0 c.in-Ok.ensures (in_uncounted _ _ _ c.requires.able) in
     let more : (o : ℕ) → total (in_held o) n ≡ total (in_held o) b + same o id =
     λ o. ap (λ (hs : List BuilderEntry). total (in_held o) hs) c.in_ok-set_builder_entry.ensures ∙ total-written (in_held o) unbuilt b place (built id) refl (holds_nothing o (builder_entry w place) there) in
     keeps_by d e _ refl (λ g. g) refl (stays d e _ refl refl) (λ taken _ h.

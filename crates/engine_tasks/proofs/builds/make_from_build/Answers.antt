@@ -1,21 +1,15 @@
-use Rattle.std.proofs.Common.{true, Ok, List, ◌∷◌, ap, ◌∙◌}
-use Rattle.std.proofs.lemmas.Result.{err_from_is_err_and}
-use Rattle.ui_machine.specs.Rules.Construction.{making}
+use Rattle.std.proofs.Common.{true, List, ◌∷◌, ap, ◌∙◌}
 use Rattle.ui_machine.specs.State.Tasks.{Constructing, Task}
-use Rattle.ui_machine.specs.Steps.{before}
 use Rattle.engine_world.specs.View.{world_of}
 use Rattle.engine_world.specs.TaskView.{agenda_of}
 use Rattle.engine_world.proofs.Counts.{keeps_on}
-use Rattle.engine_world.proofs.Emits.{stops_on}
 use Rattle.engine_world.proofs.Left.{left_with, same_agenda}
+use Rattle.engine_world.proofs.Ableness.{in_uncounted}
+use Rattle.engine_world.proofs.Building.{makes_any}
 use Rattle.engine_tasks.proofs.builds.make_from_build.Goals as goal
 
-pub returns-in_err-new-clause-step : goal.returns-in_err-new-clause-step
-returns-in_err-new-clause-step c =
-    let d = c.args.definition.now in
-    let e = c.args.engine.now in
-    let p = err_from_is_err_and c.from_residual.result c.from_residual.ensures.1 in
-    rw (p.1, p.2) (stops_on _ (making d (world_of e.world) c.args.place.0 c.args.peer true) (λ s. Ok (before (agenda_of d e) e.counted s)) (c.in_err-new.ensures.stops true))
+pub make-requires : goal.make-requires
+make-requires c = record { able = λ held. makes_any c.args.definition.now (world_of c.args.engine.now.world) c.args.place.0 c.args.peer true held (in_uncounted _ _ _ c.requires.able) }
 
 pub returns-clause-step : goal.returns-clause-step
 returns-clause-step c =

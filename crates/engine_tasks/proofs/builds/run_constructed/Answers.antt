@@ -1,6 +1,6 @@
 use Rattle.std.proofs.Common.{◌∷◌, ◌++◌, [], Some, List, ap, refl, sym, subst, map, ◌∙◌}
 use Rattle.ui_machine.specs.Definition.Values as values
-use Rattle.ui_machine.specs.Outcome.{Answer, Goes}
+use Rattle.ui_machine.specs.Outcome.{Answer}
 use Rattle.ui_machine.specs.State.Config.{Config}
 use Rattle.ui_machine.specs.State.Tasks.{Constructing}
 use Rattle.g_values.specs.View.{value_view}
@@ -12,7 +12,22 @@ use Rattle.engine_world.proofs.Counts.{keeps_on}
 use Rattle.engine_world.proofs.Registers.{on_ok}
 use Rattle.engine_tasks.proofs.TurnTaking.{begins_as}
 use Rattle.engine_tasks.proofs.ProgramStarts.{begins_before}
+use Rattle.engine_world.proofs.Ableness.{able_as}
+use Rattle.engine_world.specs.Able.{Leads}
 use Rattle.engine_tasks.proofs.builds.run_constructed.Goals as goal
+
+pub begin_program-requires : goal.begin_program-requires
+begin_program-requires c =
+    let d = c.args.definition.now in
+    let e = c.args.engine.now in
+    let b = c.push_task.new.engine in
+    let tasks = Constructing c.args.object.0 c.args.steps c.args.held ∷ [] in
+    let given = ap (λ (vs : List Value). map value_view vs) c.in_ok-push.ensures.items
+    ∙ ap (λ (vs : List Value). map value_view (vs ++ c.object_value.result ∷ [])) c.new-args.ensures.items ∙ ap (λ (v : values.Value). v ∷ []) c.object_value.ensures in
+    let begins = begins_as d (agenda_of d b) _ b.counted e.counted (world_of b.world) (world_of e.world) c.args.program c.args.program (map value_view c.push.new.self.items) (values.object (Some c.args.object.0) ∷ [])
+    (c.in_ok-push_task.ensures.agenda d) c.push_task.ensures.same c.push_task.ensures.world refl given
+    ∙ sym (begins_before d (world_of e.world) c.args.program (values.object (Some c.args.object.0) ∷ []) tasks (agenda_of d e) e.counted) in
+    record { able = able_as (sym begins) c.requires.able }
 
 pub returns-clause-step : goal.returns-clause-step
 returns-clause-step c =
@@ -22,11 +37,10 @@ returns-clause-step c =
     let tasks = Constructing c.args.object.0 c.args.steps c.args.held ∷ [] in
     let given = ap (λ (vs : List Value). map value_view vs) c.in_ok-push.ensures.items
     ∙ ap (λ (vs : List Value). map value_view (vs ++ c.object_value.result ∷ [])) c.new-args.ensures.items ∙ ap (λ (v : values.Value). v ∷ []) c.object_value.ensures in
-    subst (λ (a : Answer Config). Goes c.begin_program.result a (config_of d c.begin_program.new.engine))
-    (begins_as d (agenda_of d b) _ b.counted e.counted (world_of b.world) (world_of e.world) c.args.program c.args.program (map value_view c.push.new.self.items) (values.object (Some c.args.object.0) ∷ [])
+    let begins = begins_as d (agenda_of d b) _ b.counted e.counted (world_of b.world) (world_of e.world) c.args.program c.args.program (map value_view c.push.new.self.items) (values.object (Some c.args.object.0) ∷ [])
     (c.in_ok-push_task.ensures.agenda d) c.push_task.ensures.same c.push_task.ensures.world refl given
-    ∙ sym (begins_before d (world_of e.world) c.args.program (values.object (Some c.args.object.0) ∷ []) tasks (agenda_of d e) e.counted))
-    c.begin_program.ensures.step
+    ∙ sym (begins_before d (world_of e.world) c.args.program (values.object (Some c.args.object.0) ∷ []) tasks (agenda_of d e) e.counted) in
+    subst (λ (a : Answer Config). Leads c.begin_program.result a (config_of d c.begin_program.new.engine)) begins c.begin_program.ensures.step
 
 pub returns-clause-counted : goal.returns-clause-counted
 returns-clause-counted c =

@@ -9,10 +9,10 @@ unfolding thawing_made
 returns-clause-step c =
     let first = c.in_ok-push_task.ensures.agenda c.args.definition.now in
     let second = c.in_ok-push_task-2.ensures.agenda c.args.definition.now in
-    rw (c.in_ok-push_task-2.ensures.world, c.in_ok-push_task.ensures.world, c.in_ok-push_task-2.ensures.same, c.in_ok-push_task.ensures.same, second, first, c.in_ok-slots.ensures) (search rules)
+    rw (c.in_ok-push_task-2.ensures.world, c.in_ok-push_task.ensures.world, c.in_ok-push_task-2.ensures.same, c.in_ok-push_task.ensures.same, second, first, c.in-Ok.ensures.changes) (search rules)
 
 pub returns-clause-counted : goal.returns-clause-counted
 returns-clause-counted c =
     let d = c.args.definition.now in
-    keeps_on d _ _ _ (keeps_change d c.args.engine.now c.thaw.new.self c.args.object.0 frozen_less _ (frozen_alike d) c.in_ok-slots.ensures.changes c.thaw.ensures.beside)
+    keeps_on d _ _ _ (keeps_change d c.args.engine.now c.thaw.new.self c.args.object.0 frozen_less _ (frozen_alike d) c.in-Ok.ensures.changes c.thaw.ensures.beside)
     (keeps_on d _ _ _ (c.in_ok-push_task.ensures.counted d) (c.in_ok-push_task-2.ensures.counted d))

@@ -1,7 +1,6 @@
-use Rattle.std.proofs.Common.{◌∙◌, sym, ap, subst, Some}
+use Rattle.std.proofs.Common.{◌∙◌, sym, ap, subst, Some, None}
 use Rattle.std.specs.Option.{option_map}
-use Rattle.std.proofs.lemmas.Result.{err_from_is_err_and}
-use Rattle.ui_machine.specs.Outcome.{Answer, Goes, ◌>>=◌}
+use Rattle.ui_machine.specs.Outcome.{Answer, ◌>>=◌}
 use Rattle.ui_machine.specs.State.Config.{Left}
 use Rattle.ui_machine.specs.Steps.{left}
 use Rattle.g_values.specs.View.{value_view}
@@ -9,7 +8,9 @@ use Rattle.engine_world.specs.EngineView.{config_of}
 use Rattle.engine_world.specs.TaskView.{agenda_of, call_of}
 use Rattle.engine_world.specs.View.{world_of}
 use Rattle.engine_tasks.specs.CallView.{answered, reply_of}
-use Rattle.engine_tasks.proofs.CallSteps.{asks, call_stops, goes_on_so}
+use Rattle.engine_tasks.proofs.CallSteps.{asks, goes_on_so, able_to_go_on, able_to_conclude, is_closed}
+use Rattle.engine_world.proofs.Ableness.{able_as}
+use Rattle.engine_world.specs.Able.{Leads}
 use Rattle.engine_tasks.proofs.calls.answer.Goals as goal
 
 pub returns-then-not-is_asked-clause-step : goal.returns-then-not-is_asked-clause-step
@@ -17,16 +18,38 @@ returns-then-not-is_asked-clause-step c =
     let w = world_of c.args.engine.now.world in
     c.pass_over.ensures.closed (sym c.is_asked.ensures ∙ c.if-not-is_asked.true) (Some (reply_of w (call_of c.args.call) (option_map value_view c.args.answer)))
 
-pub returns-in_err-conclusion-clause-step : goal.returns-in_err-conclusion-clause-step
-returns-in_err-conclusion-clause-step c =
+pub pass_over-requires-clause-able : goal.pass_over-requires-clause-able
+pass_over-requires-clause-able c =
     let d = c.args.definition.now in
     let e = c.args.engine.now in
     let w = world_of e.world in
     let call = call_of c.args.call in
+    let rest = agenda_of d e in
+    let so = sym c.is_asked.ensures ∙ c.if-not-is_asked.true in
+    let reply = Some (reply_of w call (option_map value_view c.args.answer)) in
+    able_as (ap (left e.counted) (is_closed d w call rest reply so ∙ sym (is_closed d w call rest None so))) c.requires.able
+
+pub answered-requires : goal.answered-requires
+answered-requires c =
+    let d = c.args.definition.now in
+    let e = c.args.engine.now in
+    let w = world_of e.world in
+    let call = call_of c.args.call in
+    let rest = agenda_of d e in
     let answer = option_map value_view c.args.answer in
-    let p = err_from_is_err_and c.from_residual.result c.from_residual.ensures.1 in
-    rw (p.1, p.2)
-    (call_stops d w call (agenda_of d e) e.counted _ _ (answered d w call answer) (asks d w call (agenda_of d e) answer (sym c.is_asked.ensures ∙ c.if-not-is_asked.false)) c.in_err-conclusion.ensures)
+    let is = asks d w call rest answer (sym c.is_asked.ensures ∙ c.if-not-is_asked.false) in
+    record { able = able_to_conclude d w call rest e.counted _ (answered d w call answer) is c.requires.able }
+
+pub conclude-requires-clause-able : goal.conclude-requires-clause-able
+conclude-requires-clause-able c =
+    let d = c.args.definition.now in
+    let e = c.args.engine.now in
+    let w = world_of e.world in
+    let call = call_of c.args.call in
+    let rest = agenda_of d e in
+    let answer = option_map value_view c.args.answer in
+    let is = asks d w call rest answer (sym c.is_asked.ensures ∙ c.if-not-is_asked.false) in
+    able_to_go_on d w call rest e.counted _ (answered d w call answer) is c.requires.able _ c.in_ok-conclusion.ensures
 
 pub returns-clause-step : goal.returns-clause-step
 returns-clause-step c =
@@ -37,4 +60,4 @@ returns-clause-step c =
     let rest = agenda_of d e in
     let answer = option_map value_view c.args.answer in
     let is = asks d w call rest answer (sym c.is_asked.ensures ∙ c.if-not-is_asked.false) ∙ ap (λ a. a >>= goes_on_so d w call rest) c.in_ok-conclusion.ensures in
-    subst (λ (a : Answer Left). Goes c.conclude.result (left e.counted a) (config_of d c.conclude.new.engine)) (sym is) c.conclude.ensures.step
+    subst (λ (a : Answer Left). Leads c.conclude.result (left e.counted a) (config_of d c.conclude.new.engine)) (sym is) c.conclude.ensures.step

@@ -12,7 +12,7 @@ use Rattle.engine_world.specs.declared.engine.Engine.{Engine}
 use Rattle.engine_world.proofs.Counts.{config_same, keeps_said, less_held}
 use Rattle.engine_world.proofs.Quiets.{quiet_same}
 use Rattle.engine_world.proofs.Registers.{tasks_world}
-use Rattle.engine_tasks.proofs.CallSteps.{concludes, concludes_not}
+use Rattle.engine_tasks.proofs.CallSteps.{concludes, able_to_receive}
 use Rattle.engine_tasks.proofs.calls.conclude.Goals as goal
 
 -- what the arguments hold, as a slice
@@ -20,31 +20,27 @@ slice : (vs now : List Value) → now ≡ vs → (o : ℕ) → total (in_value o
 slice vs now is o = ap (λ (xs : List Value). total (in_value o) (map value_view xs)) is
 
 pub pass_answer-requires : goal.pass_answer-requires
-pass_answer-requires c = record { held = record { at = λ o. omega (arith, c.requires.counted.exact o) } }
-
-pub returns-in_err-pass_answer-clause-step : goal.returns-in_err-pass_answer-clause-step
-returns-in_err-pass_answer-clause-step c =
-    let d = c.args.definition.now in
-    let e = c.args.engine.now in
-    let p = err_from_is_err_and c.from_residual.result c.from_residual.ensures.1 in
-    rw (p.1, p.2)
-    (concludes_not e.counted (with_line (string_bytes c.args.conclusion.line) (world_of e.world)) (agenda_of d e) c.args.call.to.0 (value_view c.args.conclusion.value) _ c.in_err-pass_answer.ensures.agenda)
+pass_answer-requires c = record {
+  able = able_to_receive c.args.engine.now.counted _ (agenda_of c.args.definition.now c.args.engine.now) c.args.call.to.0 (value_view c.args.conclusion.value) c.requires.able;
+  held = record { at = λ o. omega (arith, c.requires.counted.exact o) };
+}
 
 pub returns-in_err-pass_answer-clause-quiet : goal.returns-in_err-pass_answer-clause-quiet
 returns-in_err-pass_answer-clause-quiet c =
     let p = err_from_is_err_and c.from_residual.result c.from_residual.ensures.1 in
-    rw p.1 (quiet_same (world_of c.args.engine.now.world) (world_of c.pass_answer.new.engine.world) (tasks_world c.args.engine.now c.pass_answer.new.engine c.in_err-pass_answer.ensures.only))
+    rw p.1 (quiet_same (world_of c.args.engine.now.world) (world_of c.pass_answer.new.engine.world) (tasks_world c.args.engine.now c.pass_answer.new.engine c.pass_answer.ensures.only))
 
 pub returns-in_err-say-clause-quiet : goal.returns-in_err-say-clause-quiet
 returns-in_err-say-clause-quiet c =
     let p = err_from_is_err_and c.from_residual-in_err-say.result c.from_residual-in_err-say.ensures.1 in
-    rw p.1 (quiet_same (world_of c.args.engine.now.world) (world_of c.say.new.self) (c.in_err-say.ensures.err ∙ tasks_world c.args.engine.now c.pass_answer.new.engine c.in_ok-pass_answer.ensures.only))
+    rw p.1 (quiet_same (world_of c.args.engine.now.world) (world_of c.say.new.self) (c.in_err-say.ensures.err ∙ tasks_world c.args.engine.now c.pass_answer.new.engine c.pass_answer.ensures.only))
 
 pub let_go_values-requires : goal.let_go_values-requires
 let_go_values-requires c = record {
   held = λ o.
       let d = c.args.definition.now in
-      let kept = (keeps_said d c.pass_answer.new.engine c.say.new.self c.say.ensures.beside).at _ (c.in_ok-pass_answer.ensures.counted.at _ c.requires.counted) in
+      let counted = c.in_ok-pass_answer.ensures.counted in
+      let kept = (keeps_said d c.pass_answer.new.engine c.say.new.self c.say.ensures.beside).at _ (counted.at _ c.requires.counted) in
       omega (arith, kept.exact o, slice c.args.call.args.items c.as_slice.result.now c.as_slice.ensures.value o);
 }
 
@@ -53,11 +49,12 @@ returns-clause-step c =
     let d = c.args.definition.now in
     let e = c.args.engine.now in
     let b = c.pass_answer.new.engine in
-    let only = c.in_ok-pass_answer.ensures.only in
+    let only = c.pass_answer.ensures.only in
+    let passed = c.in_ok-pass_answer.ensures.agenda in
     let x = c.say.new.self in
     let text = string_bytes c.args.conclusion.line in
     let said = c.in_ok-say.ensures.ok ∙ ap (λ (w : World). with_line text w) (tasks_world e b only) in
-    let agenda = c.in_ok-pass_answer.ensures.agenda ∙ ap (λ (h : Connected). Ok (tasks_of d h.handlers b.stack)) (sym c.say.ensures.handlers) in
+    let agenda = passed ∙ ap (λ (h : Connected). Ok (tasks_of d h.handlers b.stack)) (sym c.say.ensures.handlers) in
     concludes e.counted (with_line text (world_of e.world)) (agenda_of d e) c.args.call.to.0 (value_view c.args.conclusion.value) (world_of x) (tasks_of d x.handlers.handlers b.stack) b.counted
     agenda said (ap (λ (f : Engine). f.counted) only.beside)
     ∙ ap (λ y. Ok y) (sym (config_same d (record b { world = x }) c.let_go_values.new.table c.let_go_values.ensures.only))
@@ -67,6 +64,7 @@ returns-clause-counted c =
     let d = c.args.definition.now in
     let b = c.pass_answer.new.engine in
     let x = c.say.new.self in
+    let counted = c.in_ok-pass_answer.ensures.counted in
     less_held d (record b { world = x }) c.let_go_values.new.table _ (λ o. same o c.args.call.object.0) (λ o. total (in_value o) (map value_view c.args.call.args.items)) c.let_go_values.ensures.only
     (λ o. omega (arith, c.let_go_values.ensures.counts o, slice c.args.call.args.items c.as_slice.result.now c.as_slice.ensures.value o)) (λ o. refl)
-    ((keeps_said d b x c.say.ensures.beside).at _ (c.in_ok-pass_answer.ensures.counted.at _ c.requires.counted))
+    ((keeps_said d b x c.say.ensures.beside).at _ (counted.at _ c.requires.counted))

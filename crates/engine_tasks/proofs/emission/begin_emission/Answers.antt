@@ -1,5 +1,4 @@
 use Rattle.std.proofs.Common.{[], ℕ, suc, List, ◌∷◌, option_map, sym, ap, subst, ◌∙◌, arith}
-use Rattle.std.proofs.lemmas.Result.{err_from_is_err_and}
 use Rattle.ui_machine.specs.Definition.Types.{GType}
 use Rattle.ui_machine.specs.Definition.Signals.{Signal}
 use Rattle.ui_machine.specs.Output.Lines as lines
@@ -7,7 +6,7 @@ use Rattle.ui_machine.specs.Output.Text.{text_of_line}
 use Rattle.ui_machine.specs.Rules.EmissionPlan.{beginning_emission}
 use Rattle.ui_machine.specs.State.References.{same}
 use Rattle.ui_machine.specs.State.Tasks.{Emitting, Task}
-use Rattle.ui_machine.specs.Steps.{counted, uncounted}
+use Rattle.ui_machine.specs.Steps.{counted}
 use Rattle.signal_core.specs.Connected.{Numbered}
 use Rattle.signal_core.specs.Emission.{begun}
 use Rattle.signal_core.specs.Laws.{walk_for}
@@ -21,59 +20,41 @@ use Rattle.engine_world.specs.declared.engine.Engine.{Engine}
 use Rattle.engine_world.specs.declared.task.Transfers.{Transfers}
 use Rattle.engine_world.specs.declared.task.Transfers.TheVariants as at
 use Rattle.engine_world.proofs.Counts.{keeps_same, taken_alike}
-use Rattle.engine_tasks.proofs.Emitted.{begin_misfit, begin_unheard, begin_unknown, beginning_starts, begun_as, begun_none}
+use Rattle.engine_tasks.proofs.Emitted.{beginning_starts, begun_as, begin_unheard, begin_fit, begun_none, begin_unknown}
 use Rattle.engine_world.proofs.Left.{left_with}
 use Rattle.engine_world.proofs.Notified.{counted_on}
+use Rattle.engine_world.proofs.Ableness.{in_counted, able_as, no_arm}
 use Rattle.engine_tasks.proofs.emission.begin_emission.Goals as goal
 
-pub returns-in_err-class-clause-step : goal.returns-in_err-class-clause-step
-returns-in_err-class-clause-step c =
-    let p = err_from_is_err_and c.from_residual-in_err-class.result c.from_residual-in_err-class.ensures.1 in
-    let rest = agenda_of c.args.definition.now c.args.engine.now in
-    let n = c.args.engine.now.counted in
-    rw (p.1, p.2) (counted_on rest n _ c.in_ok-count.ensures.ok.0
-    ∙ ap (uncounted rest (suc n)) (begin_unheard c.args.definition.now (world_of c.args.engine.now.world) (new_of c.args.emission) _ (rw c.in_ok-count.ensures.ok.1 at c.in_err-class.ensures)))
+pub count-requires : goal.count-requires
+count-requires c = record { few = (in_counted (agenda_of c.args.definition.now c.args.engine.now) c.args.engine.now.counted _ c.requires.able).0 }
 
-pub returns-in_default-clause-step : goal.returns-in_default-clause-step
-returns-in_default-clause-step c =
-    let rest = agenda_of c.args.definition.now c.args.engine.now in
-    let n = c.args.engine.now.counted in
-    counted_on rest n _ c.in_ok-count.ensures.ok.0
-    ∙ ap (uncounted rest (suc n)) (begin_unknown c.args.definition.now (world_of c.args.engine.now.world) (new_of c.args.emission) _ (rw c.in_ok-count.ensures.ok.1 at c.in_ok-class.ensures)
-    (sym c.signal.ensures ∙ ap (option_map declared_view) c.in_default.is))
-
-pub all_fit-requires : goal.all_fit-requires
-all_fit-requires c = record {
-  known =
-      let d = c.args.definition.now in
-      let declared = sym c.signal.ensures ∙ ap (option_map declared_view) c.in-Some.is in
-      rw c.types-types.ensures.types (c.types-types.ensures.basic.signal_kinds c.in_ok-class.class c.args.emission.signal (declared_view c.in-Some.declared) declared).params;
-}
-
-pub returns-then-not-all_fit-clause-step : goal.returns-then-not-all_fit-clause-step
-returns-then-not-all_fit-clause-step c =
+pub unreachable-requires : goal.unreachable-requires
+unreachable-requires c =
     let d = c.args.definition.now in
-    let e = c.args.engine.now in
-    let is = c.in_ok-count.ensures.ok.1 in
-    let w = world_of c.count.new.engine.world in
-    let rest = agenda_of d e in
-    let n = e.counted in
-    let declared = sym c.signal.ensures ∙ ap (option_map declared_view) c.in-Some.is in
-    let misfit = rw (c.types-types.ensures.types, c.as_slice-args.ensures.value) at (sym c.if-not-all_fit.ensures) in
-    ap (λ (h : Engine). counted rest n (beginning_emission d (world_of h.world) (new_of c.args.emission))) (sym is)
-    ∙ counted_on rest n _ c.in_ok-count.ensures.ok.0
-    ∙ ap (uncounted rest (suc n)) (begin_misfit d w (new_of c.args.emission) _ c.in_ok-class.ensures _ declared misfit)
-
-pub returns-in_default-emission-clause-step : goal.returns-in_default-emission-clause-step
-returns-in_default-emission-clause-step c =
-    let d = c.args.definition.now in
+    let w = world_of c.args.engine.now.world in
     let m = c.args.emission in
-    let rest = agenda_of d c.args.engine.now in
-    let n = c.args.engine.now.counted in
-    let g = λ (s : Signal). walk_for 0 s.accumulator (planned d c.in_ok-class.class m.object.0 m.signal (new_of m).detail s) in
+    let able = (in_counted (agenda_of d c.args.engine.now) c.args.engine.now.counted _ c.requires.able).1 in
+    no_arm (beginning_emission d w (new_of m)) _ able (begin_unheard d w (new_of m) _ (rw c.count.ensures at c.in_default.ensures))
+
+pub unreachable-requires-in_default-signal : goal.unreachable-requires-in_default-signal
+unreachable-requires-in_default-signal c =
+    let d = c.args.definition.now in
+    let w = world_of c.args.engine.now.world in
+    let m = c.args.emission in
+    let able = (in_counted (agenda_of d c.args.engine.now) c.args.engine.now.counted _ c.requires.able).1 in
+    let none = sym c.signal.ensures ∙ ap (option_map declared_view) c.in_default-signal.is in
+    no_arm (beginning_emission d w (new_of m)) _ able (begin_unknown d w (new_of m) _ (rw c.count.ensures at c.in-Ok.ensures) none)
+
+pub unreachable-requires-in_default-emission : goal.unreachable-requires-in_default-emission
+unreachable-requires-in_default-emission c =
+    let d = c.args.definition.now in
+    let w = world_of c.args.engine.now.world in
+    let m = c.args.emission in
+    let able = (in_counted (agenda_of d c.args.engine.now) c.args.engine.now.counted _ c.requires.able).1 in
+    let g = λ (s : Signal). walk_for 0 s.accumulator (planned d c.in-Ok.class m.object.0 m.signal (new_of m).detail s) in
     let none = begun_none (λ (x : Emission). begun x 0) g _ (ap (option_map (λ (x : Emission). begun x 0)) (sym c.in_default-emission.is) ∙ c.emission.ensures 0) in
-    counted_on rest n _ c.in_ok-count.ensures.ok.0
-    ∙ ap (uncounted rest (suc n)) (begin_unknown d (world_of c.args.engine.now.world) (new_of m) _ (rw c.in_ok-count.ensures.ok.1 at c.in_ok-class.ensures) none)
+    no_arm (beginning_emission d w (new_of m)) _ able (begin_unknown d w (new_of m) _ (rw c.count.ensures at c.in-Ok.ensures) none)
 
 pub returns-clause-step : goal.returns-clause-step
 returns-clause-step c =
@@ -81,27 +62,28 @@ returns-clause-step c =
     let e = c.args.engine.now in
     let f = c.count.new.engine in
     let m = c.args.emission in
-    let is = c.in_ok-count.ensures.ok.1 in
+    let is = c.count.ensures in
     let w = world_of f.world in
-    let class = c.in_ok-class.class in
+    let class = c.in-Ok.class in
     let rest = agenda_of d e in
     let n = e.counted in
     let last = f.world.handlers.last in
     let s = declared_view c.in-Some.declared in
     let declared = sym c.signal.ensures ∙ ap (option_map declared_view) c.in-Some.is in
-    let fit = rw (c.types-types.ensures.types, c.as_slice-args.ensures.value) at (sym c.if-not-all_fit.ensures) in
+    let able = able_as (ap (λ (h : Engine). beginning_emission d (world_of h.world) (new_of m)) (sym is)) (in_counted rest n _ c.requires.able).1 in
+    let fit = begin_fit d w (new_of m) class c.in-Ok.ensures s declared able in
     let g = λ (s : Signal). walk_for last s.accumulator (planned d class m.object.0 m.signal (new_of m).detail s) in
     let found = ap (option_map (λ (x : Emission). begun x last)) (sym c.in-Some-emission.is) ∙ c.emission.ensures last in
     let walk = begun_as (λ (x : Emission). begun x last) g c.in-Some-emission.planned _ s found declared in
     let rises = subst (λ (h : Engine). Numbered 0 h.world.handlers.handlers h.world.handlers.last) (sym is) c.last-last.ensures.rises in
-    let starts_so = beginning_starts d w rises m class c.in_ok-class.ensures s declared fit (begun c.in-Some-emission.planned last) walk in
+    let starts_so = beginning_starts d w rises m class c.in-Ok.ensures s declared fit (begun c.in-Some-emission.planned last) walk in
     let line = c.in_ok-line.ensures ∙ ap (λ (types : List GType). text_of_line types (lines.emit m.object.0 s.name (new_of m).detail (new_of m).args)) c.types-types.ensures.types in
     let world = c.in_ok-start_emission.ensures.world ∙ ap (λ (text : List ℕ). with_line text w) line in
     let agenda = c.in_ok-start_emission.ensures.agenda d
     ∙ ap (λ (ts : Transfers). Emitting (emission_of (begun c.in-Some-emission.planned last) m.args.items m.by_event) (entries_to_come (begun c.in-Some-emission.planned last) f.world.handlers.handlers ts) ∷ agenda_of d f) c.new-transfers.ensures
     ∙ ap (λ (ts : List Task). Emitting (emission_of (begun c.in-Some-emission.planned last) m.args.items m.by_event) (entries_to_come (begun c.in-Some-emission.planned last) f.world.handlers.handlers (at.Due [])) ∷ ts) (ap (λ (h : Engine). agenda_of d h) is) in
     ap (λ (h : Engine). counted rest n (beginning_emission d (world_of h.world) (new_of m))) (sym is)
-    ∙ counted_on rest n _ c.in_ok-count.ensures.ok.0
+    ∙ counted_on rest n _ (in_counted rest n _ c.requires.able).0
     ∙ left_with (world_of c.start_emission.new.engine.world) (agenda_of d c.start_emission.new.engine) (suc n) c.start_emission.new.engine.counted rest (beginning_emission d w (new_of m)) _ _ starts_so world agenda
     (c.start_emission.ensures.same ∙ ap (λ (h : Engine). h.counted) is)
 
@@ -109,7 +91,7 @@ pub returns-clause-counted : goal.returns-clause-counted
 returns-clause-counted c =
     let d = c.args.definition.now in
     let e = c.args.engine.now in
-    let is = c.in_ok-count.ensures.ok.1 in
+    let is = c.count.ensures in
     let kept = keeps_same d e c.count.new.engine (ap (λ (f : Engine). f.world.table) is) (ap (λ (f : Engine). f.world.weak) is) (subst (λ (f : Engine). PassesGot d f) (sym is)) (ap (λ (f : Engine). f.world.context) is) (ap (λ (f : Engine). f.world.builder) is) (ap (λ (f : Engine). f.stack) is)
     (ap (λ (f : Engine). f.world.handlers) is) in
     c.in_ok-start_emission.ensures.counted d (λ o. same o c.args.emission.object.0) (taken_alike d c.count.new.engine _ _ (λ o. omega arith) (kept.at _ c.requires.counted))

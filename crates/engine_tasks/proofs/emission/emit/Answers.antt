@@ -1,38 +1,56 @@
 use Rattle.std.proofs.Common.{◌≡◌, ◌∙◌, None, true, false, List, ◌∷◌, subst, sym, ap}
-use Rattle.ui_machine.specs.Outcome.{Goes}
+use Rattle.ui_machine.specs.Outcome.{Answer}
 use Rattle.ui_machine.specs.State.Tasks.{Emitting, PlanEntry}
-use Rattle.ui_machine.specs.Steps.{act, uncounted}
-use Rattle.ui_machine.specs.Rules.Programs.{beginning_program}
+use Rattle.ui_machine.specs.Steps.{act}
 use Rattle.signal_core.specs.Emission.{is_transfers}
 use Rattle.signal_core.specs.declared.turn.Turn.{Turn}
 use Rattle.engine_world.specs.View.{world_of}
-use Rattle.engine_world.specs.TaskView.{agenda_of, emission_of, entries_to_come}
+use Rattle.engine_world.specs.TaskView.{agenda_of, emission_of}
 use Rattle.engine_world.specs.TransferView.{due_now}
 use Rattle.engine_world.specs.EngineView.{config_of}
-use Rattle.engine_tasks.specs.TurnView.{given_by, program_of_turn}
 use Rattle.engine_tasks.proofs.EmissionTurns.{ready_free}
 use Rattle.engine_tasks.proofs.EmissionSteps.{at_before, bindings_with, due_of, ends_with, no_due, of_program, transfer_first, turns_with}
+use Rattle.ui_machine.specs.State.Config.{Config}
+use Rattle.engine_world.proofs.Ableness.{able_as}
+use Rattle.engine_world.specs.Able.{Leads}
 use Rattle.engine_tasks.proofs.emission.emit.Goals as goal
 
 pub take_transfer-requires-clause-free : goal.take_transfer-requires-clause-free
 take_transfer-requires-clause-free c = ready_free c.args.engine.now.world.bindings.bindings (due_now c.args.transfers) c.in-Some.due _ c.in-Some.ensures.next
+
+pub take_transfer-requires-clause-able : goal.take_transfer-requires-clause-able
+take_transfer-requires-clause-able c =
+    let d = c.args.definition.now in
+    let e = c.args.engine.now in
+    let m = emission_of c.args.cursor c.args.args.items c.args.by_event in
+    able_as (ap (λ (es : List PlanEntry). act d (world_of e.world) None (Emitting m es ∷ agenda_of d e) e.counted)
+    (transfer_first (world_of e.world) c.args.cursor c.args.transfers c.next_transfer.new.transfers c.next_transfer.ensures.later c.in-Some.due c.in-Some.ensures.next)) c.requires.able
 
 pub returns-in-Some-clause-step : goal.returns-in-Some-clause-step
 returns-in-Some-clause-step c =
     let d = c.args.definition.now in
     let e = c.args.engine.now in
     let m = emission_of c.args.cursor c.args.args.items c.args.by_event in
-    subst (λ (es : List PlanEntry). Goes c.take_transfer.result (act d (world_of e.world) None (Emitting m es ∷ agenda_of d e) e.counted) (config_of d c.take_transfer.new.engine))
+    subst (λ (es : List PlanEntry). Leads c.take_transfer.result (act d (world_of e.world) None (Emitting m es ∷ agenda_of d e) e.counted) (config_of d c.take_transfer.new.engine))
     (sym (transfer_first (world_of e.world) c.args.cursor c.args.transfers c.next_transfer.new.transfers c.next_transfer.ensures.later c.in-Some.due c.in-Some.ensures.next)) c.take_transfer.ensures.step
+
+pub end_emission-requires-clause-able : goal.end_emission-requires-clause-able
+end_emission-requires-clause-able c =
+    let d = c.args.definition.now in
+    let e = c.args.engine.now in
+    let none = no_due c.args.cursor e.world.handlers.handlers (sym c.next.ensures.turn ∙ c.in_default-next.is) in
+    let ends = ends_with (world_of e.world) c.args.cursor c.args.transfers c.next_transfer.new.transfers c.next_transfer.ensures.later c.in_default.ensures.next.0 c.in_default.ensures.next.1 d (agenda_of d e) e.counted
+    e.world.handlers.last c.last-last.ensures.rises c.args.args.items c.args.by_event c.next.new.cursor c.next.ensures.stage none in
+    able_as ends c.requires.able
 
 pub returns-in_default-next-clause-step : goal.returns-in_default-next-clause-step
 returns-in_default-next-clause-step c =
     let d = c.args.definition.now in
     let e = c.args.engine.now in
-    let hs = e.world.handlers.handlers in
-    let none = no_due c.args.cursor hs (sym c.next.ensures.turn ∙ c.in_default-next.is) in
-    ends_with (world_of e.world) c.args.cursor c.args.transfers c.next_transfer.new.transfers c.next_transfer.ensures.later c.in_default.ensures.next.0 c.in_default.ensures.next.1 d (agenda_of d e) e.counted
-    e.world.handlers.last c.last-last.ensures.rises c.args.args.items c.args.by_event c.next.new.cursor c.next.ensures.stage none c.end_emission.result (config_of d c.end_emission.new.engine) c.end_emission.ensures.step
+    let none = no_due c.args.cursor e.world.handlers.handlers (sym c.next.ensures.turn ∙ c.in_default-next.is) in
+    let ends = ends_with (world_of e.world) c.args.cursor c.args.transfers c.next_transfer.new.transfers c.next_transfer.ensures.later c.in_default.ensures.next.0 c.in_default.ensures.next.1 d (agenda_of d e) e.counted
+    e.world.handlers.last c.last-last.ensures.rises c.args.args.items c.args.by_event c.next.new.cursor c.next.ensures.stage none in
+    subst (λ (a : Answer Config). Leads c.end_emission.result a (config_of d c.end_emission.new.engine)) (sym ends) c.end_emission.ensures.step
 
 pub emit_transfers-requires-clause-behind : goal.emit_transfers-requires-clause-behind
 emit_transfers-requires-clause-behind c =
@@ -43,6 +61,19 @@ emit_transfers-requires-clause-behind c =
     let so : is_transfers next.0.step.turn ≡ true = ap (λ (t : Turn). is_transfers t) (next.2 ∙ c.in-Transfers.is) in
     at_before v w c.args.transfers c.next_transfer.new.transfers c.next_transfer.ensures.later c.in_default.ensures.next.0 c.in_default.ensures.next.1 last c.last-last.ensures.rises c.next.new.cursor c.next.ensures.stage next.0 next.1 so
 
+pub emit_transfers-requires-clause-able : goal.emit_transfers-requires-clause-able
+emit_transfers-requires-clause-able c =
+    let d = c.args.definition.now in
+    let e = c.args.engine.now in
+    let v = world_of e.world in
+    let w = c.args.cursor in
+    let last = e.world.handlers.last in
+    let next = due_of w v.handlers c.in-Some-next.turn (sym c.next.ensures.turn ∙ c.in-Some-next.is) in
+    let so : is_transfers next.0.step.turn ≡ true = ap (λ (t : Turn). is_transfers t) (next.2 ∙ c.in-Transfers.is) in
+    let begins = bindings_with v w c.args.transfers c.next_transfer.new.transfers c.next_transfer.ensures.later c.in_default.ensures.next.0 c.in_default.ensures.next.1 d (agenda_of d e) e.counted last c.last-last.ensures.rises
+    c.args.args.items c.args.by_event c.next.new.cursor c.next.ensures.stage next.0 next.1 so c.begin_transfers-due.result c.begin_transfers-due.ensures in
+    able_as begins c.requires.able
+
 pub returns-in-Transfers-clause-step : goal.returns-in-Transfers-clause-step
 returns-in-Transfers-clause-step c =
     let d = c.args.definition.now in
@@ -52,9 +83,22 @@ returns-in-Transfers-clause-step c =
     let last = e.world.handlers.last in
     let next = due_of w v.handlers c.in-Some-next.turn (sym c.next.ensures.turn ∙ c.in-Some-next.is) in
     let so : is_transfers next.0.step.turn ≡ true = ap (λ (t : Turn). is_transfers t) (next.2 ∙ c.in-Transfers.is) in
-    bindings_with v w c.args.transfers c.next_transfer.new.transfers c.next_transfer.ensures.later c.in_default.ensures.next.0 c.in_default.ensures.next.1 d (agenda_of d e) e.counted last c.last-last.ensures.rises
-    c.args.args.items c.args.by_event c.next.new.cursor c.next.ensures.stage next.0 next.1 so c.emit_transfers.result (config_of d c.emit_transfers.new.engine) c.begin_transfers-due.result c.begin_transfers-due.ensures
-    c.emit_transfers.ensures.step
+    let begins = bindings_with v w c.args.transfers c.next_transfer.new.transfers c.next_transfer.ensures.later c.in_default.ensures.next.0 c.in_default.ensures.next.1 d (agenda_of d e) e.counted last c.last-last.ensures.rises
+    c.args.args.items c.args.by_event c.next.new.cursor c.next.ensures.stage next.0 next.1 so c.begin_transfers-due.result c.begin_transfers-due.ensures in
+    subst (λ (a : Answer Config). Leads c.emit_transfers.result a (config_of d c.emit_transfers.new.engine)) (sym begins) c.emit_transfers.ensures.step
+
+pub take_turn-requires-clause-able : goal.take_turn-requires-clause-able
+take_turn-requires-clause-able c =
+    let d = c.args.definition.now in
+    let e = c.args.engine.now in
+    let v = world_of e.world in
+    let w = c.args.cursor in
+    let last = e.world.handlers.last in
+    let next = due_of w v.handlers c.in-Some-next.turn (sym c.next.ensures.turn ∙ c.in-Some-next.is) in
+    let plain : is_transfers next.0.step.turn ≡ false = ap (λ (t : Turn). is_transfers t) next.2 ∙ of_program c.in-Some-next.turn c.in_default-turn.not-Transfers in
+    let turns = turns_with v w c.args.transfers c.next_transfer.new.transfers c.next_transfer.ensures.later c.in_default.ensures.next.0 c.in_default.ensures.next.1 d (agenda_of d e) e.counted last c.last-last.ensures.rises
+    c.args.args.items c.args.by_event c.next.new.cursor c.next.ensures.stage next.0 next.1 plain c.in-Some-next.turn next.2 in
+    able_as turns c.requires.able
 
 pub returns-in_default-turn-clause-step : goal.returns-in_default-turn-clause-step
 returns-in_default-turn-clause-step c =
@@ -62,13 +106,9 @@ returns-in_default-turn-clause-step c =
     let e = c.args.engine.now in
     let v = world_of e.world in
     let w = c.args.cursor in
-    let u = c.next.new.cursor in
-    let args = c.args.args.items in
-    let ts = c.next_transfer.new.transfers in
     let last = e.world.handlers.last in
     let next = due_of w v.handlers c.in-Some-next.turn (sym c.next.ensures.turn ∙ c.in-Some-next.is) in
     let plain : is_transfers next.0.step.turn ≡ false = ap (λ (t : Turn). is_transfers t) next.2 ∙ of_program c.in-Some-next.turn c.in_default-turn.not-Transfers in
-    turns_with v w c.args.transfers ts c.next_transfer.ensures.later c.in_default.ensures.next.0 c.in_default.ensures.next.1 d (agenda_of d e) e.counted last c.last-last.ensures.rises args c.args.by_event
-    u c.next.ensures.stage next.0 next.1 plain c.take_turn.result (config_of d c.take_turn.new.engine)
-    (subst (λ (t : Turn). Goes c.take_turn.result (uncounted (Emitting (emission_of u args c.args.by_event) (entries_to_come u v.handlers ts) ∷ agenda_of d e) e.counted (beginning_program d v (program_of_turn t) (given_by (emission_of u args c.args.by_event) t))) (config_of d c.take_turn.new.engine))
-    (sym next.2) c.take_turn.ensures.step)
+    let turns = turns_with v w c.args.transfers c.next_transfer.new.transfers c.next_transfer.ensures.later c.in_default.ensures.next.0 c.in_default.ensures.next.1 d (agenda_of d e) e.counted last c.last-last.ensures.rises
+    c.args.args.items c.args.by_event c.next.new.cursor c.next.ensures.stage next.0 next.1 plain c.in-Some-next.turn next.2 in
+    subst (λ (a : Answer Config). Leads c.take_turn.result a (config_of d c.take_turn.new.engine)) (sym turns) c.take_turn.ensures.step

@@ -1,74 +1,71 @@
 use Rattle.std.proofs.Common.{◌≡◌, ℕ, ◌+◌, List, map, Option, option_map, Ok, refl, sym, ap, ◌∙◌, arith}
 use Rattle.std.proofs.lemmas.Result.{err_from_is_err_and}
 use Rattle.ui_machine.specs.Definition.Values as values
-use Rattle.ui_machine.specs.Rules.Accumulation.{result_of, told}
+use Rattle.ui_machine.specs.Rules.Accumulation.{result_of, told, ending}
 use Rattle.ui_machine.specs.State.References.{in_register, in_value, same}
 use Rattle.ui_machine.specs.Seq.{total}
-use Rattle.ui_machine.specs.Steps.{left}
 use Rattle.g_values.specs.View.{kind_view, value_view}
 use Rattle.g_values.specs.declared.value.Value.{Value}
 use Rattle.signal_core.specs.SignalView.{declared_view}
 use Rattle.engine_world.specs.View.{world_of}
 use Rattle.engine_world.specs.TaskView.{agenda_of, emission_of}
 use Rattle.engine_world.proofs.Counts.{both_only, config_same, less_held}
-use Rattle.engine_tasks.proofs.Emitted.{end_known, end_stops, end_unheard, end_unknown}
+use Rattle.engine_tasks.proofs.Emitted.{end_known, able_to_pass, end_unheard, end_unknown}
 use Rattle.engine_world.proofs.Left.{left_kept, same_agenda}
 use Rattle.engine_world.proofs.Quiets.{quiet_on, quiet_same}
 use Rattle.engine_world.proofs.Registers.{tasks_world}
 use Rattle.ui_machine.specs.State.Config.{World}
 use Rattle.engine_world.specs.declared.engine.Engine.{Engine}
+use Rattle.engine_world.proofs.Ableness.{in_left, no_arm}
 use Rattle.engine_tasks.proofs.emission.end_emission.Goals as goal
 
 -- what the arguments hold, as a slice
 slice : (vs now : List Value) → now ≡ vs → (o : ℕ) → total (in_value o) (map value_view now) ≡ total (in_value o) (map value_view vs)
 slice vs now is o = ap (λ (xs : List Value). total (in_value o) (map value_view xs)) is
 
-pub returns-in_err-class-clause-step : goal.returns-in_err-class-clause-step
-unfolding left
-returns-in_err-class-clause-step c =
+pub unreachable-requires : goal.unreachable-requires
+unreachable-requires c =
     let d = c.args.definition.now in
     let e = c.args.engine.now in
-    let p = err_from_is_err_and c.from_residual.result c.from_residual.ensures.1 in
-    rw (p.1, p.2) (ap (left e.counted)
-    (end_unheard d (world_of e.world) (emission_of c.args.cursor c.args.args.items c.args.by_event) (agenda_of d e) _ (rw c.object-object.ensures at c.in_err-class.ensures)))
+    let m = emission_of c.args.cursor c.args.args.items c.args.by_event in
+    no_arm (ending d (world_of e.world) m (agenda_of d e)) _ (in_left e.counted _ c.requires.able)
+    (end_unheard d (world_of e.world) m (agenda_of d e) _ (rw c.object-object.ensures at c.in_default.ensures))
 
-pub returns-in_default-clause-step : goal.returns-in_default-clause-step
-unfolding left
-returns-in_default-clause-step c =
+pub unreachable-requires-in_default-signal : goal.unreachable-requires-in_default-signal
+unreachable-requires-in_default-signal c =
     let d = c.args.definition.now in
     let e = c.args.engine.now in
-    let none = sym c.signal.ensures ∙ ap (option_map declared_view) c.in_default.is in
-    ap (left e.counted)
-    (end_unknown d (world_of e.world) (emission_of c.args.cursor c.args.args.items c.args.by_event) (agenda_of d e) _ (rw c.object-object.ensures at c.in_ok-class.ensures) (rw c.signal-number.ensures at none))
+    let m = emission_of c.args.cursor c.args.args.items c.args.by_event in
+    let none = sym c.signal.ensures ∙ ap (option_map declared_view) c.in_default-signal.is in
+    no_arm (ending d (world_of e.world) m (agenda_of d e)) _ (in_left e.counted _ c.requires.able)
+    (end_unknown d (world_of e.world) m (agenda_of d e) _ (rw c.object-object.ensures at c.in-Ok.ensures) (rw c.signal-number.ensures at none))
 
 pub result_of-value-requires : goal.result_of-value-requires
 result_of-value-requires c = record {
   known =
       let d = c.args.definition.now in
       let declared = sym c.signal.ensures ∙ ap (option_map declared_view) c.in-Some.is in
-      (c.types-types.ensures.basic.signal_kinds c.in_ok-class.class c.signal-number.result (declared_view c.in-Some.signal) declared).result;
+      (c.types-types.ensures.basic.signal_kinds c.in-Ok.class c.signal-number.result (declared_view c.in-Some.signal) declared).result;
 }
 
 pub pass_down-requires : goal.pass_down-requires
-pass_down-requires c = record { held = record { at = λ o. omega (arith, c.requires.counted.exact o) } }
-
-pub returns-in_err-pass_down-clause-step : goal.returns-in_err-pass_down-clause-step
-returns-in_err-pass_down-clause-step c =
+pass_down-requires c =
     let d = c.args.definition.now in
     let e = c.args.engine.now in
-    let p = err_from_is_err_and c.from_residual-in_err-pass_down.result c.from_residual-in_err-pass_down.ensures.1 in
     let m = emission_of c.args.cursor c.args.args.items c.args.by_event in
     let declared = sym c.signal.ensures ∙ ap (option_map declared_view) c.in-Some.is in
     let v = option_map value_view c.result_of-value.result in
     let is = c.result_of-value.ensures ∙ ap (λ (x : Option values.Value). result_of d (option_map kind_view c.in-Some.signal.result) x) c.value.ensures in
-    rw (p.1, p.2)
-    (end_stops d (world_of e.world) m (agenda_of d e) _ (rw c.object-object.ensures at c.in_ok-class.ensures) (declared_view c.in-Some.signal) (rw c.signal-number.ensures at declared) v is
-    _ c.in_err-pass_down.ensures.agenda e.counted)
+    record {
+      able = able_to_pass d (world_of e.world) m (agenda_of d e) _ (rw c.object-object.ensures at c.in-Ok.ensures) (declared_view c.in-Some.signal) (rw c.signal-number.ensures at declared) v is
+          (in_left e.counted _ c.requires.able);
+      held = record { at = λ o. omega (arith, c.requires.counted.exact o) };
+    }
 
 pub returns-in_err-pass_down-clause-quiet : goal.returns-in_err-pass_down-clause-quiet
 returns-in_err-pass_down-clause-quiet c =
-    let p = err_from_is_err_and c.from_residual-in_err-pass_down.result c.from_residual-in_err-pass_down.ensures.1 in
-    rw p.1 (quiet_same (world_of c.args.engine.now.world) (world_of c.pass_down.new.engine.world) (tasks_world c.args.engine.now c.pass_down.new.engine c.in_err-pass_down.ensures.only))
+    let p = err_from_is_err_and c.from_residual.result c.from_residual.ensures.1 in
+    rw p.1 (quiet_same (world_of c.args.engine.now.world) (world_of c.pass_down.new.engine.world) (tasks_world c.args.engine.now c.pass_down.new.engine c.pass_down.ensures.only))
 
 pub returns-in_err-say_result_if-clause-quiet : goal.returns-in_err-say_result_if-clause-quiet
 returns-in_err-say_result_if-clause-quiet c =
@@ -76,14 +73,15 @@ returns-in_err-say_result_if-clause-quiet c =
     let e = world_of c.args.engine.now.world in
     let m = world_of c.pass_down.new.engine.world in
     rw p.1
-    (quiet_on e m (world_of c.say_result_if.new.engine.world) (quiet_same e m (tasks_world c.args.engine.now c.pass_down.new.engine c.in_ok-pass_down.ensures.only))
+    (quiet_on e m (world_of c.say_result_if.new.engine.world) (quiet_same e m (tasks_world c.args.engine.now c.pass_down.new.engine c.pass_down.ensures.only))
     c.in_err-say_result_if.ensures.quiet)
 
 pub let_go_values-requires : goal.let_go_values-requires
 let_go_values-requires c = record {
   held = λ o.
       let d = c.args.definition.now in
-      let kept = c.in_ok-say_result_if.ensures.counted.at _ (c.in_ok-pass_down.ensures.counted.at _ c.requires.counted) in
+      let passed = c.in_ok-pass_down.ensures.counted in
+      let kept = c.in_ok-say_result_if.ensures.counted.at _ (passed.at _ c.requires.counted) in
       omega (arith, kept.exact o, slice c.args.args.items c.as_slice.result.now c.as_slice.ensures.value o);
 }
 
@@ -91,7 +89,8 @@ pub let_go_any-requires : goal.let_go_any-requires
 let_go_any-requires c = record {
   held = λ o.
       let d = c.args.definition.now in
-      let kept = c.in_ok-say_result_if.ensures.counted.at _ (c.in_ok-pass_down.ensures.counted.at _ c.requires.counted) in
+      let passed = c.in_ok-pass_down.ensures.counted in
+      let kept = c.in_ok-say_result_if.ensures.counted.at _ (passed.at _ c.requires.counted) in
       omega (arith, kept.exact o, c.let_go_values.ensures.counts o, c.accumulated-held.ensures o, slice c.args.args.items c.as_slice.result.now c.as_slice.ensures.value o);
 }
 
@@ -100,13 +99,13 @@ returns-clause-step c =
     let d = c.args.definition.now in
     let e = c.args.engine.now in
     let b = c.pass_down.new.engine in
-    let only_tasks = c.in_ok-pass_down.ensures.only in
+    let only_tasks = c.pass_down.ensures.only in
     let g = c.say_result_if.new.engine in
     let m = emission_of c.args.cursor c.args.args.items c.args.by_event in
     let declared = sym c.signal.ensures ∙ ap (option_map declared_view) c.in-Some.is in
     let v = option_map value_view c.result_of-value.result in
     let is = c.result_of-value.ensures ∙ ap (λ (x : Option values.Value). result_of d (option_map kind_view c.in-Some.signal.result) x) c.value.ensures in
-    let ends = end_known d (world_of e.world) m (agenda_of d e) _ (rw c.object-object.ensures at c.in_ok-class.ensures) (declared_view c.in-Some.signal) (rw c.signal-number.ensures at declared) v is
+    let ends = end_known d (world_of e.world) m (agenda_of d e) _ (rw c.object-object.ensures at c.in-Ok.ensures) (declared_view c.in-Some.signal) (rw c.signal-number.ensures at declared) v is
     (agenda_of d b) c.in_ok-pass_down.ensures.agenda in
     let only = both_only g.world.table c.let_go_values.new.table c.let_go_any.new.table c.let_go_values.ensures.only c.let_go_any.ensures.only in
     left_kept e.counted _ _ (agenda_of d b) (world_of g.world) (agenda_of d g) g.counted ends
@@ -117,8 +116,9 @@ returns-clause-step c =
 pub returns-clause-counted : goal.returns-clause-counted
 returns-clause-counted c =
     let d = c.args.definition.now in
+    let passed = c.in_ok-pass_down.ensures.counted in
     let g = c.say_result_if.new.engine in
     let only = both_only g.world.table c.let_go_values.new.table c.let_go_any.new.table c.let_go_values.ensures.only c.let_go_any.ensures.only in
     less_held d g c.let_go_any.new.table _ (λ o. same o c.args.cursor.object) (λ o. total (in_value o) (map value_view c.args.args.items) + in_register o c.args.cursor.value) only
     (λ o. omega (arith, c.let_go_any.ensures.counts o, c.let_go_values.ensures.counts o, c.accumulated-held.ensures o, slice c.args.args.items c.as_slice.result.now c.as_slice.ensures.value o)) (λ o. refl)
-    (c.in_ok-say_result_if.ensures.counted.at _ (c.in_ok-pass_down.ensures.counted.at _ c.requires.counted))
+    (c.in_ok-say_result_if.ensures.counted.at _ (passed.at _ c.requires.counted))

@@ -1,5 +1,5 @@
 use Rattle.std.proofs.Common.{List, map, sym, ap, subst, ◌∙◌}
-use Rattle.ui_machine.specs.Outcome.{Answer, Goes}
+use Rattle.ui_machine.specs.Outcome.{Answer}
 use Rattle.ui_machine.specs.State.Config.{Config}
 use Rattle.ui_machine.specs.State.References.{same}
 use Rattle.g_values.specs.View.{value_view}
@@ -10,6 +10,7 @@ use Rattle.engine_tasks.specs.TurnView.{given_around}
 use Rattle.engine_world.specs.View.{world_of}
 use Rattle.engine_world.proofs.Registers.{on_ok}
 use Rattle.engine_tasks.proofs.TurnTaking.{begins_as}
+use Rattle.engine_world.specs.Able.{Leads}
 use Rattle.engine_tasks.proofs.emission.take_turn.Goals as goal
 
 pub push_rest-requires : goal.push_rest-requires
@@ -24,7 +25,7 @@ returns-clause-step c =
     let runs = c.new-runs.result in
     let given = c.in_ok-given.ensures ∙ ap (λ (vs : List Value). given_around runs (map value_view vs)) c.as_slice.ensures.value
     ∙ c.new-runs.ensures.given m (sym c.object.ensures) in
-    subst (λ (a : Answer Config). Goes c.begin_program.result a (config_of d c.begin_program.new.engine))
+    subst (λ (a : Answer Config). Leads c.begin_program.result a (config_of d c.begin_program.new.engine))
     (begins_as d (agenda_of d b) _ b.counted e.counted (world_of b.world) (world_of e.world) runs.program _ (map value_view c.in_ok-given.given.items) _
     (c.in_ok-push_rest.ensures.agenda d) c.push_rest.ensures.same c.push_rest.ensures.world c.new-runs.ensures.program given)
     c.begin_program.ensures.step

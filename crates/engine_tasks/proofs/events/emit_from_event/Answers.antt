@@ -1,34 +1,40 @@
-use Rattle.std.proofs.lemmas.Result.{err_from_is_err_and}
 use Rattle.engine_world.specs.View.{world_of}
 use Rattle.engine_world.specs.TaskView.{agenda_of}
-use Rattle.engine_world.proofs.Emits.{args_stop, detail_stops, emits, not_held}
+use Rattle.engine_world.proofs.Emits.{not_held, args_stop, detail_stops, emits}
+use Rattle.engine_world.proofs.Ableness.{no_arm, none_stops}
+use Rattle.ui_machine.specs.declared.arm.Halt.TheVariants as halts
 use Rattle.engine_world.proofs.Left.{left_with}
 use Rattle.engine_tasks.proofs.events.emit_from_event.Goals as goal
 
-pub returns-in_err-object-clause-step : goal.returns-in_err-object-clause-step
-returns-in_err-object-clause-step c =
+pub held_object-object-requires : goal.held_object-object-requires
+held_object-object-requires c =
     let d = c.args.definition.now in
     let e = c.args.engine.now in
-    let p = err_from_is_err_and c.from_residual.result c.from_residual.ensures.1 in
-    rw (p.1, p.2) (not_held d (world_of e.world) c.args.place.0 c.args.signal _ _ (agenda_of d e) e.counted _ c.in_err-object.ensures)
+    record { able = none_stops _ (λ arm none. no_arm _ arm c.requires.able (not_held d (world_of e.world) c.args.place.0 c.args.signal _ _ (agenda_of d e) e.counted arm none)) }
 
-pub returns-in_err-detail-clause-step : goal.returns-in_err-detail-clause-step
-returns-in_err-detail-clause-step c =
+pub detail_in-requires : goal.detail_in-requires
+detail_in-requires c =
     let d = c.args.definition.now in
     let e = c.args.engine.now in
-    let p = err_from_is_err_and c.from_residual-in_err-detail.result c.from_residual-in_err-detail.ensures.1 in
-    rw (p.1, p.2) (detail_stops d (world_of e.world) c.args.place.0 c.args.signal _ _ (agenda_of d e) e.counted _ c.in_ok-object.ensures _ c.in_err-detail.ensures)
+    record {
+      able = none_stops _ (λ arm none.
+          no_arm _ arm c.requires.able
+          (detail_stops d (world_of e.world) c.args.place.0 c.args.signal _ _ (agenda_of d e) e.counted _ c.held_object-object.ensures (halts.Stuck arm) none));
+    }
 
-pub returns-in_err-args-clause-step : goal.returns-in_err-args-clause-step
-returns-in_err-args-clause-step c =
+pub operands-requires : goal.operands-requires
+operands-requires c =
     let d = c.args.definition.now in
     let e = c.args.engine.now in
-    let p = err_from_is_err_and c.from_residual-in_err-args.result c.from_residual-in_err-args.ensures.1 in
-    rw (p.1, p.2) (args_stop d (world_of e.world) c.args.place.0 c.args.signal _ _ (agenda_of d e) e.counted _ c.in_ok-object.ensures _ c.in_ok-detail.ensures _ c.in_err-args.ensures)
+    record {
+      able = none_stops _ (λ arm none.
+          no_arm _ arm c.requires.able
+          (args_stop d (world_of e.world) c.args.place.0 c.args.signal _ _ (agenda_of d e) e.counted _ c.held_object-object.ensures _ c.in_ok-detail.ensures (halts.Stuck arm) none));
+    }
 
 pub returns-clause-step : goal.returns-clause-step
 returns-clause-step c =
     let d = c.args.definition.now in
     let e = c.args.engine.now in
-    let is = emits d (world_of e.world) c.args.place.0 c.args.signal _ _ (agenda_of d e) e.counted _ c.in_ok-object.ensures _ c.in_ok-detail.ensures _ c.in_ok-args.ensures in
+    let is = emits d (world_of e.world) c.args.place.0 c.args.signal _ _ (agenda_of d e) e.counted _ c.held_object-object.ensures _ c.in_ok-detail.ensures _ c.in_ok-args.ensures in
     left_with (world_of c.push_task.new.engine.world) (agenda_of d c.push_task.new.engine) e.counted c.push_task.new.engine.counted (agenda_of d e) _ _ _ is c.push_task.ensures.world (c.in_ok-push_task.ensures.agenda d) c.push_task.ensures.same

@@ -19,7 +19,7 @@ let_go_any-requires c = record {
         arith,
         c.requires.holds.at o,
         read-within (in_held o) unbuilt w.builder place refl,
-        holds_built o (builder_entry w place) c.in_ok-object.object.0 c.in_ok-object.ensures,
+        holds_built o (builder_entry w place) c.held_object-object.result.0 c.held_object-object.ensures,
       );
 }
 
@@ -27,7 +27,7 @@ pub returns-clause-counted : goal.returns-clause-counted
 returns-clause-counted c =
     let d = c.args.definition.now in
     let e = c.args.engine.now in
-    let id = c.in_ok-object.object.0 in
+    let id = c.held_object-object.result.0 in
     let place = c.args.place.0 in
     let b = map held_of e.world.builder.items in
     let n = map held_of c.set_builder_entry.new.builder.items in
@@ -38,7 +38,7 @@ returns-clause-counted c =
       arith,
       ap (λ (hs : List BuilderEntry). total (in_held o) hs) c.in_ok-set_builder_entry.ensures,
       total-exchanged (in_held o) unbuilt b place released refl,
-      holds_built o (read unbuilt b place) id c.in_ok-object.ensures,
+      holds_built o (read unbuilt b place) id c.held_object-object.ensures,
     ) in
     keeps_on d e f (record e { world = c.say.new.self })
     (keeps_by d e f refl (λ g. g) refl (stays d e f refl refl) (λ taken _ h.

@@ -2,7 +2,7 @@ use Rattle.std.proofs.Common.{◌≡◌, ℕ, List, [], ◌∷◌, refl, sym, ap
 use Rattle.ui_machine.specs.Definition.Values.{Value}
 use Rattle.ui_machine.specs.State.Tasks.{Item, Task, Setting, Building}
 use Rattle.ui_machine.specs.State.Config.{starts}
-use Rattle.ui_machine.specs.Outcome.{Answer, Goes, ◌>>=◌}
+use Rattle.ui_machine.specs.Outcome.{◌>>=◌}
 use Rattle.engine_world.specs.EngineView.{config_of}
 use Rattle.ui_machine.specs.Rules.Build.{held_object, building, building_forward, set_forward}
 use Rattle.ui_machine.specs.Rules.Sets.{spec_at}
@@ -12,8 +12,11 @@ use Rattle.engine_world.specs.declared.task.ForwardReference.{ForwardReference}
 use Rattle.engine_world.specs.View.{world_of}
 use Rattle.engine_world.specs.TaskView.{agenda_of, build_end}
 use Rattle.engine_world.proofs.Building.{only_forwards}
-use Rattle.engine_world.proofs.Forwarded.{settable_then, held_then}
+use Rattle.engine_world.proofs.Forwarded.{held_then}
 use Rattle.engine_world.proofs.Counts.{keeps_on}
+use Rattle.engine_world.specs.Able.{Leads}
+use Rattle.engine_world.proofs.Ableness.{able_as, in_uncounted}
+use Rattle.engine_tasks.proofs.Settable.{sets_on}
 use Rattle.engine_tasks.proofs.forward_references.set_forward_reference.Goals as goal
 
 -- no reference is left: the bindings come next
@@ -24,7 +27,7 @@ returns-in_default-clause-step c =
     let rest = agenda_of d c.args.engine.now in
     let n = c.args.engine.now.counted in
     let items = ap (λ (fs : List ForwardReference). build_end d fs) c.in_default.ensures.0 in
-    subst (λ (its : List Item). Goes c.bind_from_build.result (uncounted rest n (building d w its)) (config_of d c.bind_from_build.new.engine)) (sym items) c.bind_from_build.ensures.step
+    subst (λ (its : List Item). Leads c.bind_from_build.result (uncounted rest n (building d w its)) (config_of d c.bind_from_build.new.engine)) (sym items) c.bind_from_build.ensures.step
 
 pub returns-clause-step : goal.returns-clause-step
 unfolding building_forward set_forward
@@ -36,14 +39,14 @@ returns-clause-step c =
     let n = a.engine.now.counted in
     let f = c.in-Some.forward in
     let items = build_end d c.take.new.self in
-    let object = c.in_ok-object.object.0 in
-    let v = value_view c.in_ok-value.value in
+    let object = c.held_object-object.result.0 in
+    let v = value_view c.held_value-value.result in
     let set = λ (id : ℕ). set_forward w id f.slot f.to.0 items in
-    let to = c.in_ok-value.ensures in
+    let to = c.held_value-value.ensures in
+    let first = ap (λ (fs : List ForwardReference). building d w (build_end d fs)) c.in-Some.ensures in
     let is : building d w (build_end d a.forwards) ≡ starts w (Setting object f.slot v ∷ Building items ∷ []) =
-    ap (λ (fs : List ForwardReference). building d w (build_end d fs)) c.in-Some.ensures
-    ∙ settable_then (held_object w f.object.0) (λ (id : ℕ). spec_at d w.objects id f.slot) set
-    ∙ ap (λ (r : Answer ℕ). r >>= set) c.in_ok-object.ensures
+    first
+    ∙ sets_on (held_object w f.object.0) (λ (id : ℕ). spec_at d w.objects id f.slot) set object c.held_object-object.ensures (able_as first (in_uncounted _ _ _ c.requires.able))
     ∙ held_then (held_object w f.to.0) (λ (x : Value). starts w (Setting object f.slot x ∷ Building items ∷ [])) v to in
     let left = c.in_ok-push_task-2.ensures.agenda d
     ∙ ap (λ (rest : List Task). Setting object f.slot v ∷ rest) (c.in_ok-push_task.ensures.agenda d

@@ -1,12 +1,11 @@
 use Rattle.std.proofs.Common.{ℕ, suc, List, [], ◌∷◌, map, false, Some, Bor, option_map, string_bytes, sym, ap, subst, ◌∙◌, arith}
-use Rattle.std.proofs.lemmas.Result.{err_from_is_err_and}
 use Rattle.ui_machine.specs.Definition.Types.{GType}
 use Rattle.ui_machine.specs.Definition.Signals.{Signal}
 use Rattle.ui_machine.specs.Output.Lines as lines
 use Rattle.ui_machine.specs.Output.Text.{text_of_line}
 use Rattle.ui_machine.specs.Rules.EmissionPlan.{notifying}
 use Rattle.ui_machine.specs.State.Tasks.{Emitting, Task}
-use Rattle.ui_machine.specs.Steps.{counted, uncounted}
+use Rattle.ui_machine.specs.Steps.{counted}
 use Rattle.ui_machine.specs.Seq.{total}
 use Rattle.ui_machine.specs.State.References.{in_value}
 use Rattle.g_values.specs.View.{value_view}
@@ -24,47 +23,52 @@ use Rattle.engine_world.specs.TaskView.{agenda_of, emission_of, entries_to_come}
 use Rattle.engine_world.specs.declared.engine.Engine.{Engine}
 use Rattle.engine_world.specs.declared.task.Transfers.TheVariants as at
 use Rattle.engine_world.proofs.Counts.{keeps_same, taken_alike}
-use Rattle.engine_tasks.proofs.Emitted.{begun_as, begun_none, begun_some, notifying_starts}
+use Rattle.engine_tasks.proofs.Emitted.{begun_as, begun_some, notifying_starts, begun_none}
 use Rattle.engine_world.proofs.Left.{left_with}
-use Rattle.engine_world.proofs.Notified.{counted_on, unheard, unnamed, unknown}
+use Rattle.engine_world.proofs.Notified.{counted_on, unnamed, unknown, unheard}
+use Rattle.engine_world.proofs.Ableness.{in_counted, no_arm}
 use Rattle.engine_tasks.proofs.notifications.notify.Goals as goal
 
-pub returns-in_err-class-clause-step : goal.returns-in_err-class-clause-step
-returns-in_err-class-clause-step c =
-    let p = err_from_is_err_and c.from_residual-in_err-class.result c.from_residual-in_err-class.ensures.1 in
-    let rest = agenda_of c.args.definition.now c.args.engine.now in
-    let n = c.args.engine.now.counted in
-    rw (p.1, p.2) (counted_on rest n _ c.in_ok-count.ensures.ok.0
-    ∙ ap (uncounted rest (suc n)) (unheard c.args.definition.now (world_of c.args.engine.now.world) c.args.object.0 c.args.slot _ (rw c.in_ok-count.ensures.ok.1 at c.in_err-class.ensures)))
+pub count-requires : goal.count-requires
+count-requires c = record { few = (in_counted (agenda_of c.args.definition.now c.args.engine.now) c.args.engine.now.counted _ c.requires.able).0 }
 
-pub returns-in_default-clause-step : goal.returns-in_default-clause-step
-returns-in_default-clause-step c =
-    let rest = agenda_of c.args.definition.now c.args.engine.now in
-    let n = c.args.engine.now.counted in
-    counted_on rest n _ c.in_ok-count.ensures.ok.0
-    ∙ ap (uncounted rest (suc n)) (unnamed c.args.definition.now (world_of c.args.engine.now.world) c.args.object.0 c.args.slot _ (rw c.in_ok-count.ensures.ok.1 at c.in_ok-class.ensures)
-    (sym c.spec.ensures ∙ ap (option_map (λ (s : Bor Spec). spec_view s.now)) c.in_default.is))
-
-pub returns-in_default-emission-clause-step : goal.returns-in_default-emission-clause-step
-returns-in_default-emission-clause-step c =
+pub unreachable-requires : goal.unreachable-requires
+unreachable-requires c =
     let d = c.args.definition.now in
-    let rest = agenda_of d c.args.engine.now in
-    let n = c.args.engine.now.counted in
+    let w = world_of c.args.engine.now.world in
+    let id = c.args.object.0 in
+    let able = (in_counted (agenda_of d c.args.engine.now) c.args.engine.now.counted _ c.requires.able).1 in
+    no_arm (notifying d w id c.args.slot) _ able (unheard d w id c.args.slot _ (rw c.count.ensures at c.in_default.ensures))
+
+pub unreachable-requires-in_default-spec : goal.unreachable-requires-in_default-spec
+unreachable-requires-in_default-spec c =
+    let d = c.args.definition.now in
+    let w = world_of c.args.engine.now.world in
+    let id = c.args.object.0 in
+    let able = (in_counted (agenda_of d c.args.engine.now) c.args.engine.now.counted _ c.requires.able).1 in
+    let none = sym c.spec.ensures ∙ ap (option_map (λ (s : Bor Spec). spec_view s.now)) c.in_default-spec.is in
+    no_arm (notifying d w id c.args.slot) _ able (unnamed d w id c.args.slot _ (rw c.count.ensures at c.in-Ok.ensures) none)
+
+pub unreachable-requires-in_default-emission : goal.unreachable-requires-in_default-emission
+unreachable-requires-in_default-emission c =
+    let d = c.args.definition.now in
+    let w = world_of c.args.engine.now.world in
+    let id = c.args.object.0 in
+    let able = (in_counted (agenda_of d c.args.engine.now) c.args.engine.now.counted _ c.requires.able).1 in
     let some = sym c.spec.ensures ∙ ap (option_map (λ (s : Bor Spec). spec_view s.now)) c.in-Some.is in
-    let g = λ (s : Signal). walk_for 0 s.accumulator (planned d c.in_ok-class.class c.args.object.0 0 (Some (string_bytes c.in_ok-name.name)) s) in
+    let g = λ (s : Signal). walk_for 0 s.accumulator (planned d c.in-Ok.class id 0 (Some (string_bytes c.in_ok-name.name)) s) in
     let none = begun_none (λ (m : Emission). begun m 0) g _ (ap (option_map (λ (m : Emission). begun m 0)) (sym c.in_default-emission.is) ∙ c.emission.ensures 0) in
-    counted_on rest n _ c.in_ok-count.ensures.ok.0
-    ∙ ap (uncounted rest (suc n)) (unknown d (world_of c.args.engine.now.world) c.args.object.0 c.args.slot _ (rw c.in_ok-count.ensures.ok.1 at c.in_ok-class.ensures) _ some none)
+    no_arm (notifying d w id c.args.slot) _ able (unknown d w id c.args.slot _ (rw c.count.ensures at c.in-Ok.ensures) _ some none)
 
 pub returns-clause-step : goal.returns-clause-step
 returns-clause-step c =
     let d = c.args.definition.now in
     let e = c.args.engine.now in
     let f = c.count.new.engine in
-    let is = c.in_ok-count.ensures.ok.1 in
+    let is = c.count.ensures in
     let w = world_of f.world in
     let id = c.args.object.0 in
-    let class = c.in_ok-class.class in
+    let class = c.in-Ok.class in
     let rest = agenda_of d e in
     let n = e.counted in
     let p = spec_view c.in-Some.spec.now in
@@ -77,14 +81,14 @@ returns-clause-step c =
     let walk = begun_as (λ (m : Emission). begun m last) (g (string_bytes c.in_ok-name.name)) c.in-Some-emission.emission _ declared.0 found declared.1 ∙ ap (λ (detail : List ℕ). g detail declared.0) name in
     let rises = subst (λ (h : Engine). Numbered 0 h.world.handlers.handlers h.world.handlers.last) (sym is) c.last-last.ensures.rises in
     let due = c.in_ok-due.ensures in
-    let starts_so = notifying_starts d w rises id c.args.slot class c.in_ok-due.due due c.in_ok-class.ensures p some declared.0 declared.1 (begun c.in-Some-emission.emission last) walk in
+    let starts_so = notifying_starts d w rises id c.args.slot class c.in_ok-due.due due c.in-Ok.ensures p some declared.0 declared.1 (begun c.in-Some-emission.emission last) walk in
     let line = (rw c.as_str-2.ensures.value at c.in_ok-line.ensures) ∙ ap (λ (types : List GType). text_of_line types (lines.notify id p.name)) c.types.ensures.types in
     let world = c.in_ok-start_emission.ensures.world ∙ ap (λ (text : List ℕ). with_line text w) line in
     let agenda = c.in_ok-start_emission.ensures.agenda d
     ∙ ap (λ (vs : List Value). Emitting (emission_of (begun c.in-Some-emission.emission last) vs false) (entries_to_come (begun c.in-Some-emission.emission last) f.world.handlers.handlers (at.Ahead c.in_ok-due.due)) ∷ agenda_of d f) c.new-args.ensures.items
     ∙ ap (λ (ts : List Task). Emitting (emission_of (begun c.in-Some-emission.emission last) [] false) (entries_to_come (begun c.in-Some-emission.emission last) f.world.handlers.handlers (at.Ahead c.in_ok-due.due)) ∷ ts) (ap (λ (h : Engine). agenda_of d h) is) in
     ap (λ (h : Engine). counted rest n (notifying d (world_of h.world) id c.args.slot)) (sym is)
-    ∙ counted_on rest n _ c.in_ok-count.ensures.ok.0
+    ∙ counted_on rest n _ (in_counted rest n _ c.requires.able).0
     ∙ left_with (world_of c.start_emission.new.engine.world) (agenda_of d c.start_emission.new.engine) (suc n) c.start_emission.new.engine.counted rest (notifying d w id c.args.slot) _ _ starts_so world agenda
     (c.start_emission.ensures.same ∙ ap (λ (h : Engine). h.counted) is)
 
@@ -92,7 +96,7 @@ pub returns-clause-counted : goal.returns-clause-counted
 returns-clause-counted c =
     let d = c.args.definition.now in
     let e = c.args.engine.now in
-    let is = c.in_ok-count.ensures.ok.1 in
+    let is = c.count.ensures in
     let same = keeps_same d e c.count.new.engine (ap (λ (f : Engine). f.world.table) is) (ap (λ (f : Engine). f.world.weak) is) (subst (λ (f : Engine). PassesGot d f) (sym is)) (ap (λ (f : Engine). f.world.context) is) (ap (λ (f : Engine). f.world.builder) is) (ap (λ (f : Engine). f.stack) is)
     (ap (λ (f : Engine). f.world.handlers) is) in
     record { at = λ taken h. c.in_ok-start_emission.ensures.counted d taken (taken_alike d c.count.new.engine _ _ (λ o. omega (arith, ap (λ (vs : List Value). total (in_value o) (map value_view vs)) c.new-args.ensures.items)) (same.at taken h)) }

@@ -17,11 +17,11 @@ returns-then-branch-clause-step c =
 pub returns-then-branch-clause-counted : goal.returns-then-branch-clause-counted
 returns-then-branch-clause-counted c =
     let d = c.args.definition.now in
-    keeps_on d _ _ _ (keeps_change d c.args.engine.now c.add.new.self c.args.object.0 (raised c.args.slot) _ (raised_alike d c.args.slot) c.in_ok-add.ensures.changes c.add.ensures.beside)
+    keeps_on d _ _ _ (keeps_change d c.args.engine.now c.add.new.self c.args.object.0 (raised c.args.slot) _ (raised_alike d c.args.slot) (rw c.in_ok-rule_out_stuck.ensures.ok at c.add.ensures.changes) c.add.ensures.beside)
     (keeps_on d _ _ _ (c.in_ok-push_task.ensures.counted d) (keeps_said d c.push_task.new.engine c.say-then-branch.new.self c.say-then-branch.ensures.beside))
 
 pub returns-clause-counted : goal.returns-clause-counted
 returns-clause-counted c =
     let d = c.args.definition.now in
-    keeps_on d _ _ _ (keeps_change d c.args.engine.now c.add.new.self c.args.object.0 (raised c.args.slot) _ (raised_alike d c.args.slot) c.in_ok-add.ensures.changes c.add.ensures.beside)
+    keeps_on d _ _ _ (keeps_change d c.args.engine.now c.add.new.self c.args.object.0 (raised c.args.slot) _ (raised_alike d c.args.slot) (rw c.in_ok-rule_out_stuck.ensures.ok at c.add.ensures.changes) c.add.ensures.beside)
     (keeps_said d _ c.say-2.new.self c.say-2.ensures.beside)

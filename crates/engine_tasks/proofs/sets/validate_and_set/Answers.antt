@@ -1,88 +1,84 @@
-use Rattle.std.proofs.Common.{◌≡◌, true, false, Err, refl, sym, ap, subst, ◌∙◌}
-use Rattle.std.proofs.lemmas.Result.{err_from_is_err_and}
-use Rattle.ui_machine.specs.Definition.Values.{Value}
+use Rattle.std.proofs.Common.{sym, ap, ◌∙◌}
 use Rattle.ui_machine.specs.State.Objects.{class_in}
-use Rattle.ui_machine.specs.Rules.Sets.{has_kind, lives, without_disposed}
+use Rattle.ui_machine.specs.Rules.Sets.{without_disposed, setting, spec_at}
 use Rattle.ui_machine.specs.Steps.{uncounted}
 use Rattle.g_values.specs.View.{value_view}
 use Rattle.param_specs.specs.View.{spec_view}
 use Rattle.param_specs.specs.Validation.{Takes}
 use Rattle.engine_world.specs.View.{world_of}
 use Rattle.engine_world.specs.TaskView.{agenda_of}
-use Rattle.engine_tasks.proofs.PlainSets.{no_spec_set, other_kind_set, dead_set, refused_by_flag, written_by_flag, only_ok, only_err, takes}
+use Rattle.engine_tasks.proofs.PlainSets.{no_spec_set, set_fits, written_so, refused_so, taken_so}
 use Rattle.engine_world.proofs.Left.{left_alone}
+use Rattle.engine_world.proofs.Ableness.{able_as, in_uncounted, no_arm, none_stops}
 use Rattle.engine_tasks.proofs.sets.validate_and_set.Goals as goal
 
-pub returns-in_err-spec-clause-step : goal.returns-in_err-spec-clause-step
-returns-in_err-spec-clause-step c =
-    let p = err_from_is_err_and c.from_residual.result c.from_residual.ensures.1 in
-    rw (p.1, p.2) (ap (uncounted (agenda_of c.args.definition.now c.args.engine.now) c.args.engine.now.counted)
-    (no_spec_set c.args.definition.now (world_of c.args.engine.now.world) c.args.object.0 c.args.slot (value_view c.args.value) _ c.in_err-spec.ensures.spec))
-
-pub returns-then-not-has_kind-clause-step : goal.returns-then-not-has_kind-clause-step
-returns-then-not-has_kind-clause-step c =
-    ap (uncounted (agenda_of c.args.definition.now c.args.engine.now) c.args.engine.now.counted)
-    (other_kind_set c.args.definition.now (world_of c.args.engine.now.world) c.args.object.0 c.args.slot (value_view c.args.value) (spec_view c.in_ok-spec.spec.now) c.in_ok-spec.ensures.spec (sym c.if-not-has_kind.ensures))
-
-pub returns-in_err-known-clause-step : goal.returns-in_err-known-clause-step
-returns-in_err-known-clause-step c =
+pub spec_of-spec-requires : goal.spec_of-spec-requires
+spec_of-spec-requires c =
     let d = c.args.definition.now in
     let w = world_of c.args.engine.now.world in
-    let s = spec_view c.in_ok-spec.spec.now in
-    let v = value_view c.args.value in
-    let kind : has_kind v s.kind ≡ true = sym c.if-not-has_kind.ensures in
-    let dead = only_err (lives w.objects v) v _ c.in_err-known.ensures.value in
-    let p = err_from_is_err_and c.from_residual-in_err-known.result c.from_residual-in_err-known.ensures.1 in
-    rw (p.1, p.2) (ap (uncounted (agenda_of d c.args.engine.now) c.args.engine.now.counted)
-    (dead_set d w c.args.object.0 c.args.slot v s c.in_ok-spec.ensures.spec kind dead.0 ∙ ap Err (sym dead.1)))
+    record {
+      able = none_stops (spec_at d w.objects c.args.object.0 c.args.slot) (λ arm none.
+          no_arm (setting d w c.args.object.0 c.args.slot (value_view c.args.value)) arm (in_uncounted _ _ _ c.requires.able)
+          (no_spec_set d w c.args.object.0 c.args.slot (value_view c.args.value) arm none));
+    }
 
-pub returns-in_err-refuse-clause-step : goal.returns-in_err-refuse-clause-step
-returns-in_err-refuse-clause-step c =
-    let p = err_from_is_err_and c.from_residual-in_err-refuse.result c.from_residual-in_err-refuse.ensures.1 in
-    rw (p.1, p.2) tt
+pub with_own_class-known-requires : goal.with_own_class-known-requires
+with_own_class-known-requires c = record {
+  lives =
+      let d = c.args.definition.now in
+      let w = world_of c.args.engine.now.world in
+      (set_fits d w c.args.object.0 c.args.slot (value_view c.args.value) (spec_view c.spec_of-spec.result.now) c.spec_of-spec.ensures.spec (in_uncounted _ _ _ c.requires.able)).1;
+}
+
+pub write_and_notify-requires : goal.write_and_notify-requires
+write_and_notify-requires c =
+    let d = c.args.definition.now in
+    let w = world_of c.args.engine.now.world in
+    let id = c.args.object.0 in
+    let slot = c.args.slot in
+    let s = c.spec_of-spec.result.now in
+    let is = c.spec_of-spec.ensures.spec in
+    let plain = c.spec_of-spec.ensures.plain in
+    let x = c.with_own_class-known.result in
+    let knows = c.with_own_class-known.ensures.class in
+    let same = c.with_own_class-known.ensures.value in
+    let able = able_as (ap (setting d w id slot) (sym same)) (in_uncounted _ _ _ c.requires.able) in
+    let taken : Takes c.types.result.now s x = rw c.types.ensures.types (taken_so d w id slot s is plain x able) in
+    let valid = c.without_disposed-without_disposed.ensures ∙ ap (without_disposed w.objects (spec_view s)) (rw c.types.ensures.types at (c.validate-valid.ensures.value taken (class_in w.objects) knows)) in
+    let told = written_so d w id slot s is plain x able _ (value_view c.without_disposed-without_disposed.result) c.if-refuses.ensures (rw c.types.ensures.types at (c.validate-valid.ensures.changed taken (class_in w.objects) knows)) valid in
+    record { able = able_as (ap (uncounted (agenda_of d c.args.engine.now) c.args.engine.now.counted) (ap (setting d w id slot) (sym same) ∙ told)) c.requires.able }
 
 pub returns-then-refuses-clause-step : goal.returns-then-refuses-clause-step
 returns-then-refuses-clause-step c =
     let d = c.args.definition.now in
     let w = world_of c.args.engine.now.world in
-    let s = spec_view c.in_ok-spec.spec.now in
-    let x = value_view c.in_ok-known.known in
-    let plain = c.in_ok-spec.ensures.plain in
-    let live = only_ok (lives w.objects (value_view c.args.value)) (value_view c.args.value) x c.in_ok-known.ensures.value in
-    let kind : has_kind x s.kind ≡ true = subst (λ (v : Value). has_kind v s.kind ≡ true) (sym live.1) (sym c.if-not-has_kind.ensures) in
-    let taken : Takes c.types.result.now c.in_ok-spec.spec.now c.in_ok-known.known = rw c.types.ensures.types (takes d.types c.in_ok-spec.spec.now c.in_ok-known.known plain kind) in
-    let alive : lives w.objects x ≡ true = subst (λ (v : Value). lives w.objects v ≡ true) (sym live.1) live.0 in
-    let knows = c.in_ok-known.ensures.class in
-    let told = refused_by_flag d w c.args.object.0 c.args.slot x s c.in_ok-spec.ensures.spec plain kind alive true _ (value_view c.in_ok-original.original) refl c.if-refuses.ensures (rw c.types.ensures.types at (c.validate-valid.ensures.changed taken (class_in w.objects) knows)) c.in_ok-original.ensures.value in
-    rw (← live.1) (left_alone d c.args.engine.now c.refuse.new.engine _ _ told (rw c.as_str.ensures.value at c.in_ok-refuse.ensures.ok) c.in_ok-refuse.ensures.same.0 c.in_ok-refuse.ensures.same.1 c.in_ok-refuse.ensures.handlers)
-
-pub returns-in_err-write_and_notify-clause-step : goal.returns-in_err-write_and_notify-clause-step
-returns-in_err-write_and_notify-clause-step c =
-    let d = c.args.definition.now in
-    let w = world_of c.args.engine.now.world in
-    let s = spec_view c.in_ok-spec.spec.now in
-    let x = value_view c.in_ok-known.known in
-    let plain = c.in_ok-spec.ensures.plain in
-    let live = only_ok (lives w.objects (value_view c.args.value)) (value_view c.args.value) x c.in_ok-known.ensures.value in
-    let kind : has_kind x s.kind ≡ true = subst (λ (v : Value). has_kind v s.kind ≡ true) (sym live.1) (sym c.if-not-has_kind.ensures) in
-    let taken : Takes c.types.result.now c.in_ok-spec.spec.now c.in_ok-known.known = rw c.types.ensures.types (takes d.types c.in_ok-spec.spec.now c.in_ok-known.known plain kind) in
-    let alive : lives w.objects x ≡ true = subst (λ (v : Value). lives w.objects v ≡ true) (sym live.1) live.0 in
-    let knows = c.in_ok-known.ensures.class in
-    let told = written_by_flag d w c.args.object.0 c.args.slot x s c.in_ok-spec.ensures.spec plain kind alive false _ (value_view c.without_disposed-without_disposed.result) refl c.if-refuses.ensures (rw c.types.ensures.types at (c.validate-valid.ensures.changed taken (class_in w.objects) knows)) (c.without_disposed-without_disposed.ensures ∙ ap (without_disposed w.objects s) (rw c.types.ensures.types at (c.validate-valid.ensures.value taken (class_in w.objects) knows))) in
-    let p = err_from_is_err_and c.from_residual-in_err-write_and_notify.result c.from_residual-in_err-write_and_notify.ensures.1 in
-    rw (p.1, p.2, ← live.1, told) c.in_err-write_and_notify.ensures.step
+    let id = c.args.object.0 in
+    let slot = c.args.slot in
+    let s = c.spec_of-spec.result.now in
+    let is = c.spec_of-spec.ensures.spec in
+    let plain = c.spec_of-spec.ensures.plain in
+    let x = c.with_own_class-known.result in
+    let knows = c.with_own_class-known.ensures.class in
+    let same = c.with_own_class-known.ensures.value in
+    let able = able_as (ap (setting d w id slot) (sym same)) (in_uncounted _ _ _ c.requires.able) in
+    let taken : Takes c.types.result.now s x = rw c.types.ensures.types (taken_so d w id slot s is plain x able) in
+    let told = refused_so d w id slot s is plain x able _ (value_view c.in_ok-original.original) c.if-refuses.ensures (rw c.types.ensures.types at (c.validate-valid.ensures.changed taken (class_in w.objects) knows)) c.in_ok-original.ensures.value in
+    rw (← same) (left_alone d c.args.engine.now c.refuse.new.engine _ _ told (rw c.as_str.ensures.value at c.in_ok-refuse.ensures.ok) c.in_ok-refuse.ensures.same.0 c.in_ok-refuse.ensures.same.1 c.in_ok-refuse.ensures.handlers)
 
 pub returns-clause-step : goal.returns-clause-step
 returns-clause-step c =
     let d = c.args.definition.now in
     let w = world_of c.args.engine.now.world in
-    let s = spec_view c.in_ok-spec.spec.now in
-    let x = value_view c.in_ok-known.known in
-    let plain = c.in_ok-spec.ensures.plain in
-    let live = only_ok (lives w.objects (value_view c.args.value)) (value_view c.args.value) x c.in_ok-known.ensures.value in
-    let kind : has_kind x s.kind ≡ true = subst (λ (v : Value). has_kind v s.kind ≡ true) (sym live.1) (sym c.if-not-has_kind.ensures) in
-    let taken : Takes c.types.result.now c.in_ok-spec.spec.now c.in_ok-known.known = rw c.types.ensures.types (takes d.types c.in_ok-spec.spec.now c.in_ok-known.known plain kind) in
-    let alive : lives w.objects x ≡ true = subst (λ (v : Value). lives w.objects v ≡ true) (sym live.1) live.0 in
-    let knows = c.in_ok-known.ensures.class in
-    let told = written_by_flag d w c.args.object.0 c.args.slot x s c.in_ok-spec.ensures.spec plain kind alive false _ (value_view c.without_disposed-without_disposed.result) refl c.if-refuses.ensures (rw c.types.ensures.types at (c.validate-valid.ensures.changed taken (class_in w.objects) knows)) (c.without_disposed-without_disposed.ensures ∙ ap (without_disposed w.objects s) (rw c.types.ensures.types at (c.validate-valid.ensures.value taken (class_in w.objects) knows))) in
-    rw (← live.1) (ap (uncounted (agenda_of d c.args.engine.now) c.args.engine.now.counted) told ∙ c.in_ok-write_and_notify.ensures.step)
+    let id = c.args.object.0 in
+    let slot = c.args.slot in
+    let s = c.spec_of-spec.result.now in
+    let is = c.spec_of-spec.ensures.spec in
+    let plain = c.spec_of-spec.ensures.plain in
+    let x = c.with_own_class-known.result in
+    let knows = c.with_own_class-known.ensures.class in
+    let same = c.with_own_class-known.ensures.value in
+    let able = able_as (ap (setting d w id slot) (sym same)) (in_uncounted _ _ _ c.requires.able) in
+    let taken : Takes c.types.result.now s x = rw c.types.ensures.types (taken_so d w id slot s is plain x able) in
+    let valid = c.without_disposed-without_disposed.ensures ∙ ap (without_disposed w.objects (spec_view s)) (rw c.types.ensures.types at (c.validate-valid.ensures.value taken (class_in w.objects) knows)) in
+    let told = written_so d w id slot s is plain x able _ (value_view c.without_disposed-without_disposed.result) c.if-refuses.ensures (rw c.types.ensures.types at (c.validate-valid.ensures.changed taken (class_in w.objects) knows)) valid in
+    rw (← same) (ap (uncounted (agenda_of d c.args.engine.now) c.args.engine.now.counted) told ∙ c.in_ok-write_and_notify.ensures.step)

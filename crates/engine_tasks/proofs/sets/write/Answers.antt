@@ -12,4 +12,4 @@ returns-clause-counted c =
     let room = sym c.if-not-can_hold_named.ensures in
     keeps_by d e _ refl (λ g. g) refl (stays d e _ refl refl) (λ taken knows h.
     written_exact d e.world.weak e.world.table c.write.new.self c.args.object.0 c.args.slot (value_view c.args.value) taken (map held_of e.world.builder.items) (agenda_of d e) _ knows
-    c.in_ok-old.ensures.changes c.write.ensures.beside (λ was is. c.write.ensures.moves was is room) h)
+    c.in-Ok.ensures.changes c.write.ensures.beside (λ was is. c.write.ensures.moves was is room) h)

@@ -1,5 +1,4 @@
 use Rattle.std.proofs.Common.{◌≡◌, suc, ◌+◌, [], ◌∷◌, refl, ap, ◌∙◌, arith}
-use Rattle.std.proofs.lemmas.Result.{err_from_is_err_and}
 use Rattle.ui_machine.specs.Outcome.{Answer, ◌>>=◌}
 use Rattle.ui_machine.specs.Rules.Build.{building, with_signal}
 use Rattle.ui_machine.specs.Rules.Connections.{Connection}
@@ -10,17 +9,20 @@ use Rattle.signal_core.specs.Connected.{connection_of}
 use Rattle.engine_world.specs.TaskView.{agenda_of, connects_from}
 use Rattle.engine_world.specs.View.{world_of}
 use Rattle.engine_world.proofs.Counts.{keeps_on}
-use Rattle.engine_world.proofs.Signals.{attached_stops, connects_attached}
+use Rattle.engine_world.proofs.Signals.{connects_attached}
+use Rattle.engine_world.specs.ConnectView.{attached_at}
+use Rattle.engine_world.proofs.Ableness.{able_as, first, in_uncounted}
 use Rattle.engine_tasks.proofs.signals.connect_from_build.Goals as goal
 
-pub returns-in_err-connection-clause-step : goal.returns-in_err-connection-clause-step
-returns-in_err-connection-clause-step c =
-    let p = err_from_is_err_and c.from_residual.result c.from_residual.ensures.1 in
+pub attached-requires : goal.attached-requires
+attached-requires c =
     let d = c.args.definition.now in
+    let w = world_of c.args.engine.now.world in
     let at = c.in-Some.at in
-    rw (p.1, p.2)
-    (attached_stops d (world_of c.args.engine.now.world) at.place.0 at.number _ (connects_from d at.place.0 (suc at.number)) (agenda_of d c.args.engine.now) c.args.engine.now.counted
-    c.in-Some.ensures.next _ c.in_err-connection.ensures)
+    let items = connects_from d at.place.0 (suc at.number) in
+    let start : Connection → Answer Started = λ (x : Connection). starts (with_signal w x) (Building items ∷ []) in
+    let is = ap (building d w) c.in-Some.ensures.next ∙ connects_attached d w at.place.0 at.number items in
+    record { able = first (attached_at d w at.place.0 at.number) start (able_as is (in_uncounted _ _ _ c.requires.able)) }
 
 pub returns-clause-step : goal.returns-clause-step
 returns-clause-step c =

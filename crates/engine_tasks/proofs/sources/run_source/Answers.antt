@@ -1,6 +1,6 @@
 use Rattle.std.proofs.Common.{◌∷◌, [], ap, refl, sym, subst, map, ◌∙◌}
-use Rattle.ui_machine.specs.Outcome.{Answer, Goes}
-use Rattle.ui_machine.specs.Rules.MainLoop.{source_data}
+use Rattle.ui_machine.specs.Outcome.{Answer}
+use Rattle.ui_machine.specs.Rules.MainLoop.{source_data, sourcing}
 use Rattle.ui_machine.specs.State.Config.{Config, Started}
 use Rattle.ui_machine.specs.State.Tasks.{Answering}
 use Rattle.ui_machine.specs.Steps.{uncounted}
@@ -16,14 +16,30 @@ use Rattle.engine_world.proofs.Registers.{on_ok}
 use Rattle.engine_tasks.proofs.TurnTaking.{begins_as}
 use Rattle.engine_tasks.proofs.ProgramStarts.{begins_before}
 use Rattle.engine_tasks.proofs.Sourcing.{source_absent, source_begins}
+use Rattle.engine_world.specs.Able.{Leads}
+use Rattle.engine_world.proofs.Ableness.{able_as, in_uncounted, no_arm}
 use Rattle.engine_tasks.proofs.sources.run_source.Goals as goal
 
-pub returns-in_default-clause-step : goal.returns-in_default-clause-step
-returns-in_default-clause-step c =
+pub unreachable-requires : goal.unreachable-requires
+unreachable-requires c =
     let d = c.args.definition.now in
     let e = c.args.engine.now in
     let none = found_none (source_of c.args.source e.world.context.sources) c.find.result c.find.ensures c.in_default.not-Some in
-    ap (λ (a : Answer Started). uncounted (agenda_of d e) e.counted a) (source_absent d (world_of e.world) c.args.source none)
+    no_arm (sourcing d (world_of e.world) c.args.source) _ (in_uncounted _ _ _ c.requires.able) (source_absent d (world_of e.world) c.args.source none)
+
+pub begin_program-requires : goal.begin_program-requires
+begin_program-requires c =
+    let d = c.args.definition.now in
+    let e = c.args.engine.now in
+    let b = c.push_task.new.engine in
+    let due = c.in-Some.due in
+    let given = source_data (id_of due.arg) in
+    let so = ap (λ (a : Answer Started). uncounted (agenda_of d e) e.counted a) (source_begins d (world_of e.world) c.args.source due c.in-Some.ensures) in
+    let begins = begins_as d (agenda_of d b) _ b.counted e.counted (world_of b.world) (world_of e.world) due.program due.program (map value_view c.in_ok-args.args.items) given
+    (c.in_ok-push_task.ensures.agenda d) c.push_task.ensures.same c.push_task.ensures.world refl c.in_ok-args.ensures
+    ∙ sym (begins_before d (world_of e.world) due.program given (Answering c.args.source ∷ []) (agenda_of d e) e.counted)
+    ∙ sym so in
+    record { able = able_as (sym begins) c.requires.able }
 
 pub returns-clause-step : goal.returns-clause-step
 returns-clause-step c =
@@ -33,12 +49,11 @@ returns-clause-step c =
     let due = c.in-Some.due in
     let given = source_data (id_of due.arg) in
     let so = ap (λ (a : Answer Started). uncounted (agenda_of d e) e.counted a) (source_begins d (world_of e.world) c.args.source due c.in-Some.ensures) in
-    subst (λ (a : Answer Config). Goes c.begin_program.result a (config_of d c.begin_program.new.engine))
-    (begins_as d (agenda_of d b) _ b.counted e.counted (world_of b.world) (world_of e.world) due.program due.program (map value_view c.in_ok-args.args.items) given
+    let begins = begins_as d (agenda_of d b) _ b.counted e.counted (world_of b.world) (world_of e.world) due.program due.program (map value_view c.in_ok-args.args.items) given
     (c.in_ok-push_task.ensures.agenda d) c.push_task.ensures.same c.push_task.ensures.world refl c.in_ok-args.ensures
     ∙ sym (begins_before d (world_of e.world) due.program given (Answering c.args.source ∷ []) (agenda_of d e) e.counted)
-    ∙ sym so)
-    c.begin_program.ensures.step
+    ∙ sym so in
+    subst (λ (a : Answer Config). Leads c.begin_program.result a (config_of d c.begin_program.new.engine)) begins c.begin_program.ensures.step
 
 pub returns-clause-counted : goal.returns-clause-counted
 returns-clause-counted c =

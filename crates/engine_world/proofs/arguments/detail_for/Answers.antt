@@ -1,15 +1,30 @@
-use Rattle.std.proofs.Common.{option_map, sym, ap, subst, refl, ◌∙◌}
-use Rattle.signal_core.specs.SignalView.{declared_view}
-use Rattle.engine_world.specs.GivenView.{Finds, detail_of}
-use Rattle.engine_world.proofs.Details.{detail_known, detail_unknown}
+use Rattle.std.proofs.Common.{◌≡◌, ℕ, List, Bor, true, false, Some, Ok, nat_eq, option_map, arith, sym, ap, ◌∙◌}
+use Rattle.std.proofs.lemmas.Bool.Decides.{nat_tests}
+use Rattle.engine_world.proofs.Details.{names_property, stands_none, stands_notify, stands_other, stands_so}
 use Rattle.engine_world.proofs.arguments.detail_for.Goals as goal
 
 pub returns-in_default : goal.returns-in_default
 returns-in_default c =
-    detail_unknown c.args.definition.now c.args.class c.args.signal _ (sym c.signal.ensures ∙ ap (option_map declared_view) c.in_default.is)
+    let so = stands_so c.args.definition.now c.args.class c.args.signal _ c.requires.able in
+    rw c.in_default.is (rw c.in_default.is at so ∙ ap (λ o. Ok o) (stands_none c.args.signal))
+
+pub returns-then-signal-ne0 : goal.returns-then-signal-ne0
+returns-then-signal-ne0 c =
+    let other : nat_eq c.args.signal 0 ≡ false = grind (arith, nat_tests, c.if-signal-ne0.true) in
+    let same = ap (option_map (λ (text : Bor (List ℕ)). text.now)) c.in-Some.is ∙ ap (λ (text : List ℕ). Some text) (sym c.in_ok-from_str.ensures.ok) in
+    stands_so c.args.definition.now c.args.class c.args.signal _ c.requires.able ∙ ap (λ o. Ok o) (stands_other c.args.signal _ other ∙ same)
+
+pub property_named-requires : goal.property_named-requires
+property_named-requires c = record {
+  able =
+      let first : nat_eq c.args.signal 0 ≡ true = grind (arith, nat_tests, c.if-signal-ne0.false) in
+      names_property c.args.definition.now c.args.class c.args.signal _ first (rw c.in-Some.is at c.requires.able);
+}
 
 pub returns : goal.returns
 returns c =
-    let declared = sym c.signal.ensures ∙ ap (option_map declared_view) c.in-Some.is in
-    let known = detail_known c.args.definition.now c.args.class c.args.signal _ _ declared in
-    subst (λ a. Finds detail_of c.detail_at.result a) (sym known) (c.detail_at.ensures (declared_view c.in-Some.declared) refl)
+    let d = c.args.definition.now in
+    let first : nat_eq c.args.signal 0 ≡ true = grind (arith, nat_tests, c.if-signal-ne0.false) in
+    let named = stands_notify d c.args.class c.args.signal c.in-Some.detail.now _ first c.in_ok-name.ensures in
+    let so = stands_so d c.args.class c.args.signal _ c.requires.able in
+    rw c.in-Some.is (rw c.in-Some.is at so ∙ ap (λ o. Ok o) named)

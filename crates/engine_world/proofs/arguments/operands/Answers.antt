@@ -6,15 +6,16 @@ use Rattle.g_values.specs.declared.value.Value.{Value}
 use Rattle.ui_machine.specs.Definition.Values as values
 use Rattle.definition_format.specs.Meaning.{given_view}
 use Rattle.engine_world.specs.View.{world_of}
+use Rattle.engine_world.proofs.Ableness.{no_arm}
 use Rattle.engine_world.proofs.Operands.{Onward, fails, goes_on, is_done}
 use Rattle.engine_world.proofs.arguments.operands.Goals as goal
 
-pub returns-in_default : goal.returns-in_default
-returns-in_default c =
+pub unreachable-requires : goal.unreachable-requires
+unreachable-requires c =
     let w = world_of c.args.engine.now.world in
     let gs = c.args.given.now in
-    fails w gs c.loop-one.one-index (map value_view c.loop-one.values.items) (given_values w (map given_view gs)) c.one-item.result c.loop-one-test.true c.one-item.is
-    (sym c.in_ok-value.ensures ∙ ap (option_map value_view) c.in_default.is) c.loop-one.invariant
+    no_arm _ _ c.requires.able (fails w gs c.loop-one.one-index (map value_view c.loop-one.values.items) (given_values w (map given_view gs)) c.one-item.result c.loop-one-test.true c.one-item.is
+    (sym c.in_ok-value.ensures ∙ ap (option_map value_view) c.in_default.is) c.loop-one.invariant)
 
 pub loop-one-preserved : goal.loop-one-preserved
 loop-one-preserved c =

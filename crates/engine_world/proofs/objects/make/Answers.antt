@@ -13,9 +13,14 @@ use Rattle.instance_tables.specs.Store.{made_object}
 use Rattle.instance_tables.proofs.Created.{made_holds}
 use Rattle.engine_world.specs.NewObjects.{before_lent}
 use Rattle.engine_world.specs.View.{with_line, world_of}
+use Rattle.engine_world.proofs.Ableness.{no_arm}
 use Rattle.engine_world.proofs.Counts.{keeps_by, keeps_on, stays}
-use Rattle.engine_world.proofs.Building.{made_there, valid_defaults}
+use Rattle.engine_world.proofs.Building.{made_nowhere, made_there, makes_concrete, valid_defaults}
 use Rattle.engine_world.proofs.objects.make.Goals as goal
+
+pub unreachable-requires : goal.unreachable-requires
+unreachable-requires c =
+    no_arm _ _ (c.requires.able false) (made_nowhere c.args.definition.now (world_of c.args.engine.now.world) c.args.place.0 c.args.peer false (sym c.in_default.ensures))
 
 pub returns-clause-made : goal.returns-clause-made
 returns-clause-made c held =
@@ -24,7 +29,7 @@ returns-clause-made c held =
     let class = c.in-Some.entry.class in
     let place = entry_view c.in-Some.entry in
     let at : slice_get d.places c.args.place.0 ≡ Some place = sym c.in-Some.ensures in
-    let concrete : (type_of d class).is_abstract ≡ false = search rules in
+    let concrete = makes_concrete d w c.args.place.0 place at c.args.peer held (c.requires.able held) in
     let id = c.in_ok-object.object in
     let o = new_object d c.args.place.0 place c.args.peer in
     let object : world_of c.create_object.new.engine.world ≡ before_lent w (with_object d w o) =

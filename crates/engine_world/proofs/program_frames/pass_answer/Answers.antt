@@ -1,5 +1,5 @@
 use Rattle.std.proofs.Common.{List, ◌∷◌, Some, sym, subst, ap, ◌∙◌, arith}
-use Rattle.ui_machine.specs.Outcome.{Goes}
+use Rattle.engine_world.specs.Able.{Leads}
 use Rattle.ui_machine.specs.Rules.Accumulation.{received}
 use Rattle.ui_machine.specs.Seq.{total}
 use Rattle.ui_machine.specs.State.References.{in_task}
@@ -8,23 +8,31 @@ use Rattle.g_values.specs.View.{value_view}
 use Rattle.frames.specs.FrameView.{frame_view}
 use Rattle.engine_world.specs.TaskView.{agenda_of, task_of, tasks_of}
 use Rattle.engine_world.specs.declared.task.Task as code
-use Rattle.engine_world.proofs.Registers.{not_received, on_ok, popped_frame}
+use Rattle.engine_world.proofs.Ableness.{able_as, no_arm}
+use Rattle.engine_world.proofs.Registers.{not_received, on_ok, popped_frame, receives_able}
 use Rattle.engine_world.proofs.program_frames.pass_answer.Goals as goal
 
-pub returns-in_default-clause-agenda : goal.returns-in_default-clause-agenda
-returns-in_default-clause-agenda c =
+pub unreachable-requires : goal.unreachable-requires
+unreachable-requires c =
     let none = c.in_default.ensures.tasks c.args.definition.now c.args.engine.now.world.handlers.handlers in
-    ap (λ (ts : List Task). received ts c.args.to.0 (Some (value_view c.args.value))) none.0
+    no_arm _ _ c.requires.able (ap (λ (ts : List Task). received ts c.args.to.0 (Some (value_view c.args.value))) none.0)
 
-pub returns-in_default-task-clause-agenda : goal.returns-in_default-task-clause-agenda
-returns-in_default-task-clause-agenda c =
+pub unreachable-requires-in_default-task : goal.unreachable-requires-in_default-task
+unreachable-requires-in_default-task c =
     let d = c.args.definition.now in
     let hs = c.args.engine.now.world.handlers.handlers in
-    ap (λ (ts : List Task). received ts c.args.to.0 (Some (value_view c.args.value))) (c.in-Some.ensures.tasks d hs)
-    ∙ not_received d hs c.in-Some.task (tasks_of d hs c.pop.new.self) c.args.to.0 (Some (value_view c.args.value)) c.in_default-task.not-Running
+    no_arm _ _ c.requires.able (ap (λ (ts : List Task). received ts c.args.to.0 (Some (value_view c.args.value))) (c.in-Some.ensures.tasks d hs)
+    ∙ not_received d hs c.in-Some.task (tasks_of d hs c.pop.new.self) c.args.to.0 (Some (value_view c.args.value)) c.in_default-task.not-Running)
 
 pub receive-requires : goal.receive-requires
 receive-requires c = record {
+  able =
+      let d = c.args.definition.now in
+      let hs = c.args.engine.now.world.handlers.handlers in
+      let rest = tasks_of d hs c.pop.new.self in
+      let first = c.in-Some.ensures.tasks d hs ∙ ap (λ (t : code.Task). task_of d hs t ∷ rest) c.in-Running.is in
+      receives_able (frame_view c.in-Running.frame) rest c.args.to.0 (Some (value_view c.args.value))
+      (able_as (ap (λ (ts : List Task). received ts c.args.to.0 (Some (value_view c.args.value))) first) c.requires.able);
   held = λ o.
       let d = c.args.definition.now in
       let hs = c.args.engine.now.world.handlers.handlers in
@@ -39,7 +47,7 @@ returns-clause-agenda c =
     let hs = c.args.engine.now.world.handlers.handlers in
     let rest = tasks_of d hs c.pop.new.self in
     let first = c.in-Some.ensures.tasks d hs ∙ ap (λ (t : code.Task). task_of d hs t ∷ rest) c.in-Running.is in
-    subst (λ (ts : List Task). Goes c.receive.result (received ts c.args.to.0 (Some (value_view c.args.value))) (agenda_of d c.receive.new.engine)) (sym first) (c.receive.ensures.agenda d)
+    subst (λ (ts : List Task). Leads c.receive.result (received ts c.args.to.0 (Some (value_view c.args.value))) (agenda_of d c.receive.new.engine)) (sym first) (c.receive.ensures.agenda d)
 
 pub returns-clause-counted : goal.returns-clause-counted
 returns-clause-counted c =

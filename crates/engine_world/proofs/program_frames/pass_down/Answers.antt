@@ -1,5 +1,5 @@
 use Rattle.std.proofs.Common.{List, ◌∷◌, Ok, refl, sym, subst, ap, ◌∙◌, option_map, arith}
-use Rattle.ui_machine.specs.Outcome.{Goes}
+use Rattle.engine_world.specs.Able.{Leads}
 use Rattle.ui_machine.specs.Rules.Accumulation.{passed_down}
 use Rattle.ui_machine.specs.Seq.{total}
 use Rattle.ui_machine.specs.State.References.{in_task}
@@ -8,7 +8,8 @@ use Rattle.g_values.specs.View.{value_view}
 use Rattle.frames.specs.FrameView.{frame_view}
 use Rattle.engine_world.specs.TaskView.{agenda_of, task_of, tasks_of}
 use Rattle.engine_world.specs.declared.task.Task as code
-use Rattle.engine_world.proofs.Registers.{on_ok, passes_by, popped_frame, stack_same}
+use Rattle.engine_world.proofs.Ableness.{able_as}
+use Rattle.engine_world.proofs.Registers.{on_ok, passes_by, popped_frame, stack_same, takes_able}
 use Rattle.engine_world.proofs.program_frames.pass_down.Goals as goal
 
 pub returns-in_default-clause-agenda : goal.returns-in_default-clause-agenda
@@ -40,6 +41,13 @@ returns-in_default-task c =
 
 pub pass_to-requires : goal.pass_to-requires
 pass_to-requires c = record {
+  able =
+      let d = c.args.definition.now in
+      let hs = c.args.engine.now.world.handlers.handlers in
+      let rest = tasks_of d hs c.pop.new.self in
+      let first = c.in-Some.ensures.tasks d hs ∙ ap (λ (t : code.Task). task_of d hs t ∷ rest) c.in-Running.is in
+      takes_able (frame_view c.in-Running.frame) rest (option_map value_view c.args.value.now)
+      (able_as (ap (λ (ts : List Task). passed_down ts (option_map value_view c.args.value.now)) first) c.requires.able);
   held = λ o.
       let d = c.args.definition.now in
       let hs = c.args.engine.now.world.handlers.handlers in
@@ -54,7 +62,7 @@ returns-clause-agenda c =
     let hs = c.args.engine.now.world.handlers.handlers in
     let rest = tasks_of d hs c.pop.new.self in
     let first = c.in-Some.ensures.tasks d hs ∙ ap (λ (t : code.Task). task_of d hs t ∷ rest) c.in-Running.is in
-    subst (λ (ts : List Task). Goes c.pass_to.result (passed_down ts (option_map value_view c.args.value.now)) (agenda_of d c.pass_to.new.engine)) (sym first) (c.pass_to.ensures.agenda d)
+    subst (λ (ts : List Task). Leads c.pass_to.result (passed_down ts (option_map value_view c.args.value.now)) (agenda_of d c.pass_to.new.engine)) (sym first) (c.pass_to.ensures.agenda d)
 
 pub returns-clause-counted : goal.returns-clause-counted
 returns-clause-counted c =

@@ -13,7 +13,7 @@ pub let_go_any-requires : goal.let_go_any-requires
 let_go_any-requires c = record {
   held = λ o.
       let rs = (frame_view c.args.frame.now).registers in
-      let was = ap (in_register o) c.in_ok-held.ensures.2 in
+      let was = ap (in_register o) c.in-Ok.ensures.2 in
       omega (arith, c.requires.held o, c.in_ok-hold_any.ensures.counts o, c.register_named-2.ensures o, was, read-within (in_register o) None rs c.args.to.0 refl);
 }
 
@@ -24,6 +24,6 @@ pub returns-clause-counts : goal.returns-clause-counts
 returns-clause-counts c o =
     let rs = (frame_view c.args.frame.now).registers in
     let v = option_map value_view c.args.value in
-    let was = ap (in_register o) c.in_ok-held.ensures.2 in
-    let new = ap (λ (xs : Registers). total (in_register o) xs) (written_is c.args.to.0 v rs (frame_view c.put.new.self).registers c.in_ok-held.ensures.0) in
+    let was = ap (in_register o) c.in-Ok.ensures.2 in
+    let new = ap (λ (xs : Registers). total (in_register o) xs) (written_is c.args.to.0 v rs (frame_view c.put.new.self).registers c.in-Ok.ensures.0) in
     omega (arith, c.in_ok-hold_any.ensures.counts o, c.register_named.ensures o, c.let_go_any.ensures.counts o, c.register_named-2.ensures o, was, new, total_written (in_register o) refl rs c.args.to.0 v)

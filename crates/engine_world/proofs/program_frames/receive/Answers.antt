@@ -1,17 +1,11 @@
 use Rattle.std.proofs.Common.{List, ◌∷◌, Some, Ok, sym, ap, ◌∙◌}
-use Rattle.std.proofs.lemmas.Result.{err_from_is_err_and}
 use Rattle.ui_machine.specs.State.Tasks.{Frame, Running, Task}
 use Rattle.g_values.specs.View.{value_view}
 use Rattle.frames.specs.FrameView.{frame_view}
 use Rattle.engine_world.specs.Counting.{in_frame}
 use Rattle.engine_world.specs.TaskView.{agenda_of}
-use Rattle.engine_world.proofs.Registers.{receives, receive_stops, register_moved}
+use Rattle.engine_world.proofs.Registers.{receives, register_moved}
 use Rattle.engine_world.proofs.program_frames.receive.Goals as goal
-
-pub returns-in_err-put-clause-agenda : goal.returns-in_err-put-clause-agenda
-returns-in_err-put-clause-agenda c d =
-    let p = err_from_is_err_and c.from_residual.result c.from_residual.ensures.1 in
-    rw (p.1, p.2) (receive_stops (frame_view c.args.frame) (agenda_of d c.args.engine.now) c.args.to.0 (Some (value_view c.args.value)) _ c.in_err-put.ensures.written)
 
 pub returns-clause-agenda : goal.returns-clause-agenda
 returns-clause-agenda c d =

@@ -1,0 +1,21 @@
+-- Parts of a step that no arm stops, and what code leads to there: it asks for memory alone.
+use Rattle.std.specs.Prelude.{◌≡◌, ⊤, Result, Ok, Err}
+use Rattle.std.specs.declared.alloc.AllocError.{AllocError}
+use Rattle.ui_machine.specs.Outcome.{Answer}
+use Rattle.ui_machine.specs.State.Config.{Config}
+use Rattle.engine_world.specs.Standing.{without_gone}
+
+-- no arm stops it
+abbrev pub Able : {A : Type 0} → Answer A → Type 0
+Able (Ok x) = ⊤
+Able (Err arm) = ⊥
+
+-- where memory is found, code leads to just what the machine's part leads to
+abbrev pub Leads : {S X : Type 0} → Result X AllocError → Answer S → S → Type 0
+Leads (Ok x) answer new = answer ≡ Ok new
+Leads (Err _) answer new = ⊤
+
+-- the same without the turns of handlers that are gone by then
+abbrev pub LeadsWithoutGone : {X : Type 0} → Result X AllocError → Answer Config → Config → Type 0
+LeadsWithoutGone (Ok x) answer new = (e : Config) × (answer ≡ Ok e) × (without_gone e ≡ new)
+LeadsWithoutGone (Err _) answer new = ⊤
