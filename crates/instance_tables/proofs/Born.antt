@@ -1,5 +1,5 @@
 -- An object that was just made.
-use Rattle.std.proofs.Common.{◌≡◌, ◌∙◌, ℕ, zero, suc, ◌-◌, ◌<◌, ◌^◌, List, [], ◌∷◌, ◌++◌, true, length, Option, None, Some, IsSome, refl, ap, arith}
+use Rattle.std.proofs.Common.{◌≡◌, ◌∙◌, ℕ, zero, suc, ◌-◌, ◌<◌, ◌^◌, List, [], ◌∷◌, ◌++◌, true, length, None, Some, IsSome, refl, arith}
 use Rattle.ui_machine.specs.Seq.{read}
 use Rattle.ui_machine.specs.State.Objects.{Object, Objects, living}
 use Rattle.instance_tables.specs.Store.{Store, count_of, has_room, with_object}

@@ -2,7 +2,8 @@
 use Rattle.std.proofs.Common.{◌≡◌, ℕ, suc, ◌+◌, ◌*◌, ◌<◌, ◌≤◌, ◌^◌, List, [], ◌∷◌, Bool, true, false, cond, length, nat_eq, Option, Some, None, inl, inr, refl, sym, ap, subst, ◌∙◌, arith}
 use Rattle.std.proofs.lemmas.Bool.{cases_eq}
 use Rattle.std.specs.Ordering.{nat_cmp}
-use Rattle.std.specs.BTreeMap.{BTreeMap, get, IsOrdered, btree_map_len}
+use Rattle.std.specs.List.Sorted.{IsStrictlySortedBy}
+use Rattle.std.specs.Map.{keys_of}
 use Rattle.ui_machine.specs.Seq.{read, total}
 use Rattle.ui_machine.specs.Definition.{Definition}
 use Rattle.ui_machine.specs.Definition.Lookups.{specs_of}
@@ -14,7 +15,7 @@ use Rattle.ui_machine.specs.State.References.{in_object, in_option, in_value, in
 use Rattle.ui_machine.specs.declared.ids.ObjectId.{ObjectId}
 use Rattle.instance_tables.specs.Bounds.{HoldFew, HoldsFew}
 use Rattle.instance_tables.specs.Store.{Store, ids_of}
-use Rattle.instance_tables.specs.View.{InRange, object_in, store_of}
+use Rattle.instance_tables.specs.View.{InRange, object_in, store_of, instances_at}
 use Rattle.instance_tables.specs.declared.instance.Instance.{Instance}
 use Rattle.instance_tables.proofs.Maps.{live_len}
 use Rattle.instance_tables.proofs.Scan.{look, look_other, look_self}
@@ -80,13 +81,13 @@ entry_few (e ∷ es) few q x is =
       | inr ne ↦ entry_few es few.1 q x (sym (ap object_in (look_other e es q ne)) ∙ is)
     ]
 
-module _ (m : BTreeMap ℕ Instance) (made limit : ℕ) (floats : List ObjectId) (old : Store) (range : InRange (get nat_cmp m) made)
-    (is : store_of (get nat_cmp m) made limit floats ≡ old) (ordered : IsOrdered nat_cmp m) (few : HoldFew m.entries) where
+module _ (m : List (ℕ × Instance)) (made limit : ℕ) (floats : List ObjectId) (old : Store) (range : InRange (instances_at m) made)
+    (is : store_of (instances_at m) made limit floats ≡ old) (ordered : IsStrictlySortedBy nat_cmp (keys_of m)) (few : HoldFew m) where
   lives_few : (i : ℕ) (x : Object) → read None old.objects i ≡ Some x → HoldsFew x
-  lives_few i x e = entry_few m.entries few (suc i) x (sym (found_in (get nat_cmp m) made limit floats old range is (suc i)) ∙ e)
+  lives_few i x e = entry_few m few (suc i) x (sym (found_in (instances_at m) made limit floats old range is (suc i)) ∙ e)
 
   -- fewer than 2^63 objects and floating ones
-  pub all_few : btree_map_len m < 2 ^ 63 → length floats < 2 ^ 63 → (d : Definition) (o : ℕ)
+  pub all_few : length m < 2 ^ 63 → length floats < 2 ^ 63 → (d : Definition) (o : ℕ)
       → total (in_object d o) old.objects + total (same o) old.floating ≤ 2 ^ 127
   all_few small short d o =
       let floating : total (same o) old.floating ≡ total (same o) (ids_of floats) = ap (λ (s : Store). total (same o) s.floating) (sym is) in

@@ -4,8 +4,6 @@ use Rattle.std.proofs.Common.{◌≡◌, ◌≢◌, ℕ, ◌<◌, ◌≤◌, Lis
 use Rattle.std.proofs.lemmas.Bool.{cases_eq}
 use Rattle.std.proofs.lemmas.Bool.Decides.{nat_tests}
 use Rattle.std.specs.Option.{option_map}
-use Rattle.std.specs.Ordering.{nat_cmp}
-use Rattle.std.specs.BTreeMap.{BTreeMap, get, WritesThrough}
 use Rattle.ui_machine.specs.Seq.{total}
 use Rattle.ui_machine.specs.State.Objects.{Object, living}
 use Rattle.ui_machine.specs.State.References.{same}
@@ -14,9 +12,10 @@ use Rattle.ui_machine.specs.Rules.Children.{with_child, with_parent, without_chi
 use Rattle.ui_machine.specs.Rules.Disposal.{children_of}
 use Rattle.instance_tables.specs.Family.{parent_in, KeepsKin}
 use Rattle.ui_machine.specs.declared.ids.ObjectId.{ObjectId}
+use Rattle.instance_tables.specs.Lent.{with_instance}
 use Rattle.instance_tables.specs.Names.{names_any, MayName, NamersKnow, StaysBeside}
 use Rattle.instance_tables.specs.Store.{Store}
-use Rattle.instance_tables.specs.View.{Lookup, held_in, lower_of, object_in, store_of, InRange, IsHeldOrGone, IsLowestUnheld, KinInRange, Replaces}
+use Rattle.instance_tables.specs.View.{Lookup, held_in, lower_of, object_in, store_of, InRange, IsHeldOrGone, IsLowestUnheld, KinInRange, Replaces, instances_at}
 use Rattle.instance_tables.specs.declared.instance.Instance.{Instance}
 use Rattle.instance_tables.specs.declared.namers.Namers.{Namers}
 use Rattle.instance_tables.proofs.Exact.{one_more, split}
@@ -115,65 +114,69 @@ kin_kept at made id was o kin here keeps = (
 same_kin : (o p : Object) → p ≡ o → KeepsKin o p
 same_kin o p e = record { children = ap (λ (x : Object). x.children) e; parent = ap (λ (x : Object). x.parent) e }
 
-module _ (m n : BTreeMap ℕ Instance) (made : ℕ) (low : Option ℕ) (names : Namers) (id : ℕ) (was y : Instance)
-    (here : get nat_cmp m id ≡ Some was) (h : WritesThrough nat_cmp (nat_cmp id) m y n) (well : Well (get nat_cmp m) made low names) where
-  replaced_well : (t : Option ℕ) (now : Namers) → KinGiven made (Some y.object) → IsLowestUnheld (held_in (get nat_cmp n)) t
-      → NamersKnow now (get nat_cmp n) → Well (get nat_cmp n) made t now
+module _ (m : List (ℕ × Instance)) (made : ℕ) (low : Option ℕ) (names : Namers) (id : ℕ) (was y : Instance)
+    (here : instances_at m id ≡ Some was) (well : Well (instances_at m) made low names) where
+  replaced_well : (t : Option ℕ) (now : Namers) → KinGiven made (Some y.object) → IsLowestUnheld (held_in (instances_at (with_instance m id y))) t
+      → NamersKnow now (instances_at (with_instance m id y)) → Well (instances_at (with_instance m id y)) made t now
   replaced_well t now given noted known =
-      let replaces = written m n id was y here h in (
-        still_range (get nat_cmp m) (get nat_cmp n) made id was y here replaces well.0,
+      let replaces = written m id was y here in (
+        still_range (instances_at m) (instances_at (with_instance m id y)) made id was y here replaces well.0,
         noted,
-        still_kin (get nat_cmp m) (get nat_cmp n) made id was y here replaces well.2 given,
+        still_kin (instances_at m) (instances_at (with_instance m id y)) made id was y here replaces well.2 given,
         known,
       )
 
   -- an object with other values and other kin, as often held, where what it names is known
   pub named_well : (now : Namers) → KinGiven made (Some y.object) → y.mentions ≡ was.mentions → StaysBeside id names now
-      → ((t : ℕ) → names_any t y.object.values ≡ true → MayName now t id) → Well (get nat_cmp n) made low now
+      → ((t : ℕ) → names_any t y.object.values ≡ true → MayName now t id) → Well (instances_at (with_instance m id y)) made low now
   named_well now given same beside own =
-      let replaces = written m n id was y here h in
-      replaced_well low now given (still_lowest (get nat_cmp m) (get nat_cmp n) made id was y here replaces low well.1 same)
-      (known_replaced (get nat_cmp m) (get nat_cmp n) id names now well.3 beside y replaces own)
+      let replaces = written m id was y here in
+      replaced_well low now given (still_lowest (instances_at m) (instances_at (with_instance m id y)) made id was y here replaces low well.1 same)
+      (known_replaced (instances_at m) (instances_at (with_instance m id y)) id names now well.3 beside y replaces own)
 
   -- an object that keeps its values
-  same_known : y.object.values ≡ was.object.values → NamersKnow names (get nat_cmp n)
-  same_known = known_same (get nat_cmp m) (get nat_cmp n) id names was y well.3 here (written m n id was y here h)
+  same_known : y.object.values ≡ was.object.values → NamersKnow names (instances_at (with_instance m id y))
+  same_known = known_same (instances_at m) (instances_at (with_instance m id y)) id names was y well.3 here (written m id was y here)
 
   -- an object with other kin, as often held
   pub kin_well : KinGiven made (Some y.object) → y.mentions ≡ was.mentions → y.object.values ≡ was.object.values
-      → Well (get nat_cmp n) made low names
+      → Well (instances_at (with_instance m id y)) made low names
   kin_well given same still =
       replaced_well low names given
-      (still_lowest (get nat_cmp m) (get nat_cmp n) made id was y here (written m n id was y here h) low well.1 same) (same_known still)
+      (still_lowest (instances_at m) (instances_at (with_instance m id y)) made id was y here (written m id was y here) low well.1 same) (same_known still)
 
   -- another object with the same kin, as often held
   pub same_well : KeepsKin was.object y.object → y.mentions ≡ was.mentions → y.object.values ≡ was.object.values
-      → Well (get nat_cmp n) made low names
-  same_well keeps = kin_well (kin_kept (get nat_cmp m) made id was y.object well.2 here keeps)
+      → Well (instances_at (with_instance m id y)) made low names
+  same_well keeps = kin_well (kin_kept (instances_at m) made id was y.object well.2 here keeps)
 
   same_object : y.object ≡ was.object → KinGiven made (Some y.object)
-  same_object same = kin_kept (get nat_cmp m) made id was y.object well.2 here (same_kin was.object y.object same)
+  same_object same = kin_kept (instances_at m) made id was y.object well.2 here (same_kin was.object y.object same)
+
+  -- the same object, as often held
+  pub unchanged_well : y.object ≡ was.object → y.mentions ≡ was.mentions → Well (instances_at (with_instance m id y)) made low names
+  unchanged_well same still = kin_well (same_object same) still (ap (λ (o : Object). o.values) same)
 
   -- the same object, held more often
   pub held_well : (t : Option ℕ) → y.object ≡ was.object → 0 < y.mentions
-      → ((held : ℕ → Option ℕ) → IsLowestUnheld held low → IsHeldOrGone held (held_in (get nat_cmp n)) id
-      → IsLowestUnheld (held_in (get nat_cmp n)) t)
-      → Well (get nat_cmp n) made t names
+      → ((held : ℕ → Option ℕ) → IsLowestUnheld held low → IsHeldOrGone held (held_in (instances_at (with_instance m id y))) id
+      → IsLowestUnheld (held_in (instances_at (with_instance m id y))) t)
+      → Well (instances_at (with_instance m id y)) made t names
   held_well t same more found =
-      let replaces = written m n id was y here h in
+      let replaces = written m id was y here in
       replaced_well t names (same_object same)
-      (found (held_in (get nat_cmp m)) well.1 (record {
-        gone = more_held (get nat_cmp m) (get nat_cmp n) made id was y here replaces more;
-        others = held_others (get nat_cmp m) (get nat_cmp n) made id was y here replaces;
+      (found (held_in (instances_at m)) well.1 (record {
+        gone = more_held (instances_at m) (instances_at (with_instance m id y)) made id was y here replaces more;
+        others = held_others (instances_at m) (instances_at (with_instance m id y)) made id was y here replaces;
       }))
       (same_known (ap (λ (o : Object). o.values) same))
 
   -- the same object, held less often
   pub less_well : (t : Option ℕ) → y.object ≡ was.object → y.mentions ≤ was.mentions → (0 < y.mentions → t ≡ low)
-      → (y.mentions ≡ 0 → t ≡ Some (lower_of low id)) → Well (get nat_cmp n) made t names
+      → (y.mentions ≡ 0 → t ≡ Some (lower_of low id)) → Well (instances_at (with_instance m id y)) made t names
   less_well t same less held unheld =
       replaced_well t names (same_object same)
-      (less_lowest (get nat_cmp m) (get nat_cmp n) made id was y here (written m n id was y here h) low t well.1 less held unheld)
+      (less_lowest (instances_at m) (instances_at (with_instance m id y)) made id was y here (written m id was y here) low t well.1 less held unheld)
       (same_known (ap (λ (o : Object). o.values) same))
 
 -- one that is taken out

@@ -9,6 +9,9 @@ pub mod Exact
 pub mod WriteExact
 pub mod Shown
 pub mod Scan
+pub mod Indexed
+pub mod InOrder
+pub mod Slabs
 pub mod Lowest
 pub mod Counts
 pub mod Maps

@@ -79,7 +79,7 @@ module _ (held new : ℕ → Option ℕ) (low : Option ℕ) (id : ℕ) (others :
       let at : old.0 ≡ id = cc in
       omega (arith, old.2, small, at)
 
--- ** in the entries of a map
+-- ** among instances in their order
 
 -- how often the entries say that a number is held
 abbrev pub held_at : List (ℕ × Instance) → ℕ → Option ℕ

@@ -4,5 +4,7 @@ pub mod Weak
 pub mod Release
 pub mod Laws
 pub mod View
+pub mod Index
+pub mod Lent
 pub mod Bounds
 pub mod Names

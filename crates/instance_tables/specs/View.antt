@@ -1,6 +1,9 @@
 -- Instances under their identities, seen as a store.
 use Rattle.std.specs.Prelude.{◌≡◌, ◌≢◌, ℕ, suc, ◌<◌, ◌≤◌, cond, min, nat_eq, List, [], ◌∷◌, Option, Some, None, IsSome}
+use Rattle.std.specs.BTreeMap.{is_at}
+use Rattle.std.specs.Map.{lookup}
 use Rattle.std.specs.Option.{option_map}
+use Rattle.std.specs.Ordering.{nat_cmp}
 use Rattle.ui_machine.specs.State.Objects.{Object, Objects}
 use Rattle.ui_machine.specs.State.References.{same}
 use Rattle.ui_machine.specs.Rules.Disposal.{children_of}
@@ -13,6 +16,10 @@ use Rattle.instance_tables.specs.declared.instance.Instance.{Instance}
 -- what each identity has
 abbrev pub Lookup : Type 0
 Lookup = ℕ → Option Instance
+
+-- what instances under these identities are at one
+abbrev pub instances_at : List (ℕ × Instance) → Lookup
+instances_at es q = lookup (is_at (nat_cmp q)) es
 
 abbrev pub object_in : Option Instance → Option Object
 object_in None = None

@@ -14,8 +14,6 @@ impl Table {
     {
         // For the proof: how many there are.
         let _lives = self.instances.len();
-        for (_id, instance) in self.instances.iter() {
-            instance.object.holds_few();
-        }
+        self.instances.hold_few();
     }
 }

@@ -44,10 +44,10 @@ impl Table {
     pub fn refusal(&self, parent: ObjectId, child: ObjectId) -> Option<AdoptError>
         ensures { result ≡ refusal_in self.now parent.0 child.0 }
     {
-        let Some(above) = self.instances.get(&parent.0) else {
+        let Some(above) = self.instances.get(parent) else {
             return Some(AdoptError::NotLiving);
         };
-        let Some(below) = self.instances.get(&child.0) else {
+        let Some(below) = self.instances.get(child) else {
             return Some(AdoptError::NotLiving);
         };
         if below.object.parent().is_some() {
@@ -67,7 +67,7 @@ impl Table {
         ensures parent { id_of result ≡ parent_in (living self.now.objects id.0) }
         ensures given { (parent : ℕ) → parent_in (living self.now.objects id.0) ≡ Some parent → parent ≤ length self.now.objects }
     {
-        let Some(instance) = self.instances.get(&id.0) else {
+        let Some(instance) = self.instances.get(id) else {
             return None;
         };
         instance.object.parent()
@@ -107,7 +107,7 @@ impl Table {
         ensures live { OnOk result (IsSome (living self.old.objects parent.0)) }
         ensures err { OnErr result (self.new ≡ self.old) }
     {
-        let Some(instance) = self.instances.get_mut(&parent.0) else {
+        let Some(instance) = self.instances.get_mut(parent) else {
             return Err(AllocError);
         };
         instance.object.add_child(child)?;
@@ -121,7 +121,7 @@ impl Table {
         ensures count { result ≡ total (same child.0) (children_of (living self.old.objects parent.0)) }
         ensures beside { self.new ≡ with_objects self.old self.new.objects }
     {
-        let Some(instance) = self.instances.get_mut(&parent.0) else {
+        let Some(instance) = self.instances.get_mut(parent) else {
             return 0;
         };
         instance.object.remove_child(child)
@@ -134,7 +134,7 @@ impl Table {
         ensures objects { self.new.objects ≡ updated (with_parent (id_of parent)) id.0 self.old.objects }
         ensures beside { self.new ≡ with_objects self.old self.new.objects }
     {
-        let Some(instance) = self.instances.get_mut(&id.0) else {
+        let Some(instance) = self.instances.get_mut(id) else {
             return;
         };
         instance.object.give_parent(parent);

@@ -13,6 +13,7 @@ mod family;
 mod forgetting;
 mod ids;
 mod instance;
+mod instances;
 mod laws;
 mod mentions;
 mod namers;

@@ -70,7 +70,7 @@ impl Table {
         let Some(was) = was else {
             return;
         };
-        let Some(instance) = self.instances.get(&id.0) else {
+        let Some(instance) = self.instances.get(id) else {
             return;
         };
         self.namers.remove_unnamed(&instance.object, was, id);
@@ -80,7 +80,7 @@ impl Table {
     fn is_strong(&self, weak: &WeakSlots, id: ObjectId, slot: Slot) -> bool
         ensures { result ≡ strong_in weak.now slot (living self.now.objects id.0) }
     {
-        let Some(instance) = self.instances.get(&id.0) else {
+        let Some(instance) = self.instances.get(id) else {
             return false;
         };
         weak.is_strong(instance.object.class(), slot)

@@ -50,7 +50,7 @@ impl Table {
             ≡ count_of self.old.counts i - in_strong i (marks_in weak.now o) (values_in o) }
         ensures beside { self.new ≡ record self.old { counts = self.new.counts } }
     {
-        let Some(instance) = self.instances.get(&id.0) else {
+        let Some(instance) = self.instances.get(id) else {
             return;
         };
         let slots = weak.of(instance.object.class());
@@ -76,7 +76,7 @@ impl Table {
     fn named_at(&self, id: ObjectId, slot: usize) -> Option<ObjectId>
         ensures { id_of result ≡ name_at slot (living self.now.objects id.0) }
     {
-        let Some(instance) = self.instances.get(&id.0) else {
+        let Some(instance) = self.instances.get(id) else {
             return None;
         };
         instance.object.named_at(slot)
@@ -93,7 +93,7 @@ impl Table {
         ensures made { length self.new.objects ≡ length self.old.objects }
     {
         let alloc = self.alloc;
-        let Some(instance) = self.instances.get_mut(&id.0) else {
+        let Some(instance) = self.instances.get_mut(id) else {
             return Vec::new(alloc);
         };
         self.namers.dispose(&mut instance.object, alloc, weak, id)
@@ -131,7 +131,7 @@ impl Table {
         requires unheld { count_of self.old.counts id.0 ≡ 0 }
         ensures { self.new ≡ with_objects self.old (put self.old.objects id.0 None) }
     {
-        let gone = self.instances.remove(&id.0);
+        let gone = self.instances.remove(id);
         self.unheld = lowest_beside(&self.instances, self.unheld, id);
         self.namers.remove_gone(gone, id);
     }

@@ -14,13 +14,13 @@ ghost use Rattle.instance_tables.specs.Store.{Shows, count_of, freezes_in, id_of
 
 use crate::error::CreateError;
 use crate::instance::Instance;
+use crate::instances::Instances;
 use crate::namers::Namers;
 use crate::object::Object;
 use crate::object_values::named;
 use crate::unheld::{lower, lowest_beside, lowest_with};
 use g_values::Value;
 use std::alloc::Global;
-use std::collections::BTreeMap;
 use std::marker::Model;
 use type_tree::TypeId;
 use ui_machine::{Arm, Halt, ObjectId, Place, Slot};
@@ -28,7 +28,7 @@ use ui_machine::{Arm, Halt, ObjectId, Place, Slot};
 /// The objects that live, and how often each is held.
 #[derive(Drop)]
 pub struct Table {
-    pub(crate) instances: BTreeMap<u64, Instance>,
+    pub(crate) instances: Instances,
     pub(crate) made: u64,
     limit: u32,
     pub(crate) floating: Vec<ObjectId>,
@@ -44,18 +44,16 @@ impl Model for Table {
 
     ghost Value = { Store };
 
-    ghost use Rattle.std.specs.Ordering.{nat_cmp};
-    ghost use Rattle.std.specs.BTreeMap.{get};
     ghost use Rattle.instance_tables.specs.Store.{id_of};
-    ghost use Rattle.instance_tables.specs.View.{store_of, held_in, InRange, IsLowestUnheld, KinInRange};
+    ghost use Rattle.instance_tables.specs.View.{instances_at, store_of, held_in, InRange, IsLowestUnheld, KinInRange};
     ghost use Rattle.instance_tables.specs.Names.{NamersKnow};
 
-    ghost view = { λ t. store_of (get nat_cmp t.instances) t.made t.limit t.floating.items };
+    ghost view = { λ t. store_of (instances_at t.instances) t.made t.limit t.floating.items };
 
-    ghost invariant = { λ t. InRange (get nat_cmp t.instances) t.made
-        × IsLowestUnheld (held_in (get nat_cmp t.instances)) (id_of t.unheld)
-        × KinInRange (get nat_cmp t.instances) t.made
-        × NamersKnow t.namers (get nat_cmp t.instances) };
+    ghost invariant = { λ t. InRange (instances_at t.instances) t.made
+        × IsLowestUnheld (held_in (instances_at t.instances)) (id_of t.unheld)
+        × KinInRange (instances_at t.instances) t.made
+        × NamersKnow t.namers (instances_at t.instances) };
 }
 
 impl Table {
@@ -64,7 +62,7 @@ impl Table {
         ensures { result ≡ record { objects = []; counts = []; limit = limit; floating = [] } }
     {
         Table {
-            instances: BTreeMap::new(alloc),
+            instances: Instances::new(alloc),
             made: 0,
             limit,
             floating: Vec::new(alloc),
@@ -115,7 +113,7 @@ impl Table {
             object,
             mentions: 0,
         };
-        let Ok(_old) = self.instances.insert(id, instance) else {
+        let Ok(()) = self.instances.insert(ObjectId(id), instance) else {
             return Err(CreateError::OutOfMemory);
         };
         self.made = id;
@@ -128,7 +126,7 @@ impl Table {
         ensures dead { (o : ℕ) → living self.now.objects o ≡ None → count_of self.now.counts o ≡ 0 }
         ensures live { result ≡ is_some (living self.now.objects id.0) }
     {
-        self.instances.contains_key(&id.0)
+        self.instances.contains(id)
     }
 
     /// The class of an object.
@@ -139,7 +137,7 @@ impl Table {
     pub fn class_of(&self, id: ObjectId) -> Result<TypeId, Arm>
         ensures { Shows (λ class. class) result (asked self.now.objects id.0 (λ o. Ok o.class)) }
     {
-        let Some(instance) = self.instances.get(&id.0) else {
+        let Some(instance) = self.instances.get(id) else {
             return Err(Arm::Operand);
         };
         Ok(instance.object.class())
@@ -153,7 +151,7 @@ impl Table {
     pub fn place_of(&self, id: ObjectId) -> Result<Place, Arm>
         ensures { Shows (λ (place : Place). place.0) result (asked self.now.objects id.0 (λ o. Ok o.place)) }
     {
-        let Some(instance) = self.instances.get(&id.0) else {
+        let Some(instance) = self.instances.get(id) else {
             return Err(Arm::Operand);
         };
         Ok(instance.object.place())
@@ -163,7 +161,7 @@ impl Table {
     pub fn is_disposed(&self, id: ObjectId) -> bool
         ensures { result ≡ is_disposed (living self.now.objects id.0) }
     {
-        let Some(instance) = self.instances.get(&id.0) else {
+        let Some(instance) = self.instances.get(id) else {
             return false;
         };
         instance.object.is_disposed()
@@ -173,7 +171,7 @@ impl Table {
     pub fn peer_of(&self, id: ObjectId) -> Option<usize>
         ensures { result ≡ peer_of (living self.now.objects id.0) }
     {
-        let Some(instance) = self.instances.get(&id.0) else {
+        let Some(instance) = self.instances.get(id) else {
             return None;
         };
         instance.object.peer()
@@ -187,7 +185,7 @@ impl Table {
     pub fn read(&self, id: ObjectId, slot: Slot) -> Result<&Value, Arm>
         ensures { Shows (λ v. value_view v.now) result (asked self.now.objects id.0 (value_at slot)) }
     {
-        let Some(instance) = self.instances.get(&id.0) else {
+        let Some(instance) = self.instances.get(id) else {
             return Err(Arm::Operand);
         };
         instance.object.read(slot)
@@ -200,7 +198,7 @@ impl Table {
         ensures refused { OnErr result (self.new ≡ self.old) }
     {
         self.namers.add_any(named(&value), id);
-        let Some(instance) = self.instances.get_mut(&id.0) else {
+        let Some(instance) = self.instances.get_mut(id) else {
             return Err(Arm::Operand);
         };
         instance.object.write(slot, value)
@@ -210,7 +208,7 @@ impl Table {
     pub fn is_frozen(&self, id: ObjectId) -> bool
         ensures { IsTrue result ↔ (0 < freezes_in (living self.now.objects id.0)) }
     {
-        let Some(instance) = self.instances.get(&id.0) else {
+        let Some(instance) = self.instances.get(id) else {
             return false;
         };
         instance.object.is_frozen()
@@ -226,7 +224,7 @@ impl Table {
         ensures beside { self.new ≡ with_objects self.old self.new.objects }
         ensures refused { OnErr result (self.new ≡ self.old) }
     {
-        let Some(instance) = self.instances.get_mut(&id.0) else {
+        let Some(instance) = self.instances.get_mut(id) else {
             return Err(Arm::Operand);
         };
         instance.object.freeze()
@@ -243,7 +241,7 @@ impl Table {
         ensures refused { OnErr result (self.new ≡ self.old) }
     {
         let alloc = self.alloc;
-        let Some(instance) = self.instances.get_mut(&id.0) else {
+        let Some(instance) = self.instances.get_mut(id) else {
             return Err(Arm::Operand);
         };
         instance.object.thaw(alloc)
@@ -259,7 +257,7 @@ impl Table {
         ensures beside { self.new ≡ with_objects self.old self.new.objects }
         ensures refused { OnErr result (self.new ≡ self.old) }
     {
-        let Some(instance) = self.instances.get_mut(&id.0) else {
+        let Some(instance) = self.instances.get_mut(id) else {
             return Err(Halt::Stuck(Arm::Operand));
         };
         instance.object.add(slot)
@@ -269,7 +267,7 @@ impl Table {
     pub fn can_hold(&self, id: ObjectId) -> bool
         ensures { result ≡ may_hold self.now id.0 }
     {
-        let Some(instance) = self.instances.get(&id.0) else {
+        let Some(instance) = self.instances.get(id) else {
             return false;
         };
         instance.mentions < u128::MAX
@@ -280,7 +278,7 @@ impl Table {
         ensures counts { (o : ℕ) → count_of self.new.counts o ≡ count_of self.old.counts o - so_often times id.0 o }
         ensures beside { self.new ≡ record self.old { counts = self.new.counts } }
     {
-        let Some(instance) = self.instances.get_mut(&id.0) else {
+        let Some(instance) = self.instances.get_mut(id) else {
             return;
         };
         instance.mentions = instance.mentions.saturating_sub(times);
@@ -293,7 +291,7 @@ impl Table {
         requires room { count_of self.old.counts id.0 < 2 ^ 128 - 1 }
         ensures { self.new ≡ with_count self.old id.0 (count_of self.old.counts id.0 + 1) }
     {
-        let Some(instance) = self.instances.get_mut(&id.0) else {
+        let Some(instance) = self.instances.get_mut(id) else {
             return;
         };
         instance.mentions += 1;
@@ -305,7 +303,7 @@ impl Table {
         requires held { 0 < count_of self.old.counts id.0 }
         ensures { self.new ≡ with_count self.old id.0 (count_of self.old.counts id.0 - 1) }
     {
-        let Some(instance) = self.instances.get_mut(&id.0) else {
+        let Some(instance) = self.instances.get_mut(id) else {
             return;
         };
         instance.mentions -= 1;

@@ -4,15 +4,10 @@
 //! looked through only where the one that was noted is held or gone: from it on, since those below it are held.
 
 ghost use Rattle.std.specs.Prelude.{◌≡◌, ℕ, ◌<◌, Some, Option};
-ghost use Rattle.std.specs.Ordering.{nat_cmp};
-ghost use Rattle.std.specs.BTreeMap.{get, IsOrdered};
-ghost use Rattle.std.specs.BTreeMap.Range.{entries_between};
-ghost use Rattle.std.specs.declared.ops.Bound.TheVariants.{Included, Unbounded};
 ghost use Rattle.instance_tables.specs.Store.{id_of};
-ghost use Rattle.instance_tables.specs.View.{first_unheld, held_in, lower_of, IsHeldOrGone, IsLowestUnheld};
+ghost use Rattle.instance_tables.specs.View.{held_in, instances_at, lower_of, IsHeldOrGone, IsLowestUnheld};
 
-use crate::instance::Instance;
-use std::collections::BTreeMap;
+use crate::instances::Instances;
 use ui_machine::ObjectId;
 
 /// The lower one of the noted object, if there is one, and another.
@@ -38,28 +33,15 @@ pub(crate) fn lowest_with(noted: Option<ObjectId>, id: ObjectId, mentions: u128)
 
 /// The lowest one that nothing holds, once this one is held or gone.
 pub(crate) fn lowest_beside(
-    instances: &BTreeMap<u64, Instance>,
+    instances: &Instances,
     noted: Option<ObjectId>,
     id: ObjectId,
 ) -> Option<ObjectId>
-    ensures { (held : ℕ → Option ℕ) → IsLowestUnheld held (id_of noted) → IsHeldOrGone held (held_in (get nat_cmp instances.now)) id.0
-        → IsLowestUnheld (held_in (get nat_cmp instances.now)) (id_of result) }
+    ensures { (held : ℕ → Option ℕ) → IsLowestUnheld held (id_of noted) → IsHeldOrGone held (held_in (instances_at instances.now)) id.0
+        → IsLowestUnheld (held_in (instances_at instances.now)) (id_of result) }
 {
     if noted != Some(id) {
         return noted;
     }
-    first_from(instances, id)
-}
-
-// The first one from an identity on that nothing holds.
-fn first_from(instances: &BTreeMap<u64, Instance>, from: ObjectId) -> Option<ObjectId>
-    ensures first { id_of result ≡ first_unheld (entries_between nat_cmp (Included from.0) Unbounded instances.now.entries) }
-    ensures ordered { IsOrdered nat_cmp instances.now }
-{
-    for (id, instance) in instances.range(from.0..) {
-        if instance.mentions == 0 {
-            return Some(ObjectId(*id));
-        }
-    }
-    None
+    instances.first_unheld(id)
 }

@@ -2,7 +2,7 @@ use Rattle.std.proofs.Common.{ℕ, List, refl, ap, ◌∙◌, arith}
 use Rattle.instance_tables.specs.declared.instance.Instance.{Instance}
 use Rattle.instance_tables.specs.View.{store_of}
 use Rattle.instance_tables.proofs.Scan.{look}
-use Rattle.instance_tables.proofs.Maps.{at_last, full, next_fits, stored}
+use Rattle.instance_tables.proofs.Maps.{at_last, full, next_absent, next_fits, stored}
 use Rattle.instance_tables.proofs.table.Table.create.Goals as goal
 
 pub returns-then-len-self : goal.returns-then-len-self
@@ -19,6 +19,12 @@ returns-in_default c = (
   refl,
 )
 
+pub insert-requires : goal.insert-requires
+insert-requires c = record {
+  absent = next_absent c.self.inside.instances c.self.inside.made c.self.inside.limit c.self.inside.floating.items _ c.self.invariant.0 c.self.view_is
+      c.len.ensures.ordered c.in-Some.id c.in-Some.ensures.1;
+}
+
 pub returns-in_default-insert : goal.returns-in_default-insert
 returns-in_default-insert c = (
   next_fits c.self.inside.instances c.self.inside.made c.self.inside.limit c.self.inside.floating.items _ c.self.invariant.0 c.self.view_is
@@ -33,5 +39,5 @@ pub returns : goal.returns
 returns c =
     let y : Instance = record { object = c.args.object; mentions = 0 } in
     stored c.self.inside.instances c.self.inside.made c.self.inside.limit c.self.inside.floating.items _ c.self.invariant.0 c.self.view_is c.len.ensures.ordered
-    c.insert.new.self c.in-Some.id y c.in-Ok.ensures.updates c.in-Some.ensures.1 (omega (arith, c.in-Some.ensures))
+    c.insert.new.self c.in-Some.id y c.in-Ok.ensures.ok c.in-Some.ensures.1 (omega (arith, c.in-Some.ensures))
     (omega (arith, c.len.ensures.len, c.if-len-self.false)) refl

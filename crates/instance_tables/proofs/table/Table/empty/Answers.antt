@@ -1,6 +1,4 @@
 use Rattle.std.proofs.Common.{◌≡◌, ◌<◌, ℕ, IsSome, length, refl, sym, ap, subst, ◌∙◌, arith}
-use Rattle.std.specs.Ordering.{nat_cmp}
-use Rattle.std.specs.BTreeMap.{get}
 use Rattle.std.specs.Option.{option_copied_mut}
 use Rattle.ui_machine.specs.Seq.{total}
 use Rattle.ui_machine.specs.State.Objects.{Object, Objects, living}
@@ -9,7 +7,7 @@ use Rattle.ui_machine.specs.Rules.Disposal.{children_of}
 use Rattle.ui_machine.specs.Rules.Children.{updated}
 use Rattle.instance_tables.specs.Weak.{Marks}
 use Rattle.instance_tables.specs.Release.{emptied}
-use Rattle.instance_tables.specs.View.{object_in}
+use Rattle.instance_tables.specs.View.{object_in, instances_at}
 use Rattle.instance_tables.specs.declared.instance.Instance.{Instance}
 use Rattle.instance_tables.proofs.Families.{length_updated, was_made}
 use Rattle.instance_tables.proofs.Shown.{found_in, not_absent}
@@ -31,8 +29,8 @@ pub invariant_of-self-2 : goal.invariant_of-self-2
 invariant_of-self-2 c =
     let here = sym c.get_mut.ensures.value ∙ ap option_copied_mut c.in-Some.is in
     let y : Instance = record { object = c.dispose.new.object; mentions = c.in-Some.instance.now.mentions } in
-    named_well c.self.inside.instances (c.get_mut.follows.lender y) _ _ c.self.inside.namers _ _ y here (c.get_mut.follows.holds y) c.self.invariant c.dispose.new.self
-    (childless_given (get nat_cmp c.self.inside.instances) _ _ c.self.invariant.2 c.in-Some.instance.now here c.dispose.new.object
+    named_well c.self.inside.instances _ _ c.self.inside.namers _ _ y here c.self.invariant c.dispose.new.self
+    (childless_given (instances_at c.self.inside.instances) _ _ c.self.invariant.2 c.in-Some.instance.now here c.dispose.new.object
     (ap (λ (o : Object). o.children) c.dispose.ensures.object) (ap (λ (o : Object). o.parent) c.dispose.ensures.object))
     refl c.dispose.ensures.others c.dispose.ensures.names
 
@@ -40,15 +38,15 @@ pub returns-clause-objects : goal.returns-clause-objects
 returns-clause-objects c =
     let here = sym c.get_mut.ensures.value ∙ ap option_copied_mut c.in-Some.is in
     let y : Instance = record { object = c.dispose.new.object; mentions = c.in-Some.instance.now.mentions } in
-    written_updates c.self.inside.instances (c.get_mut.follows.lender y) _ c.self.inside.limit c.self.inside.floating.items _ c.self.invariant.0 c.self.view_is _ _ y
-    here (c.get_mut.follows.holds y) (emptied c.args.weak.now) c.dispose.ensures.object
+    written_updates c.self.inside.instances _ c.self.inside.limit c.self.inside.floating.items _ c.self.invariant.0 c.self.view_is _ _ y
+    here (emptied c.args.weak.now) c.dispose.ensures.object
 
 pub returns-clause-beside : goal.returns-clause-beside
 returns-clause-beside c =
     let here = sym c.get_mut.ensures.value ∙ ap option_copied_mut c.in-Some.is in
     let y : Instance = record { object = c.dispose.new.object; mentions = c.in-Some.instance.now.mentions } in
-    written_beside c.self.inside.instances (c.get_mut.follows.lender y) _ c.self.inside.limit c.self.inside.floating.items _ c.self.invariant.0 c.self.view_is _ _ y
-    here (c.get_mut.follows.holds y) refl
+    written_beside c.self.inside.instances _ c.self.inside.limit c.self.inside.floating.items _ c.self.invariant.0 c.self.view_is _ _ y
+    here refl
 
 pub returns-clause-children : goal.returns-clause-children
 returns-clause-children c =
@@ -73,6 +71,6 @@ returns-clause-given c child some =
     let here = sym c.get_mut.ensures.value ∙ ap option_copied_mut c.in-Some.is in
     let children = c.dispose.ensures.children
     ∙ ap children_of (sym (found_in _ _ c.self.inside.limit c.self.inside.floating.items _ c.self.invariant.0 c.self.view_is _ ∙ ap object_in here)) in
-    let small = children_made (get nat_cmp c.self.inside.instances) _ c.self.inside.limit c.self.inside.floating.items _ c.self.invariant.0 c.self.view_is c.self.invariant.2 c.args.id.0
+    let small = children_made (instances_at c.self.inside.instances) _ c.self.inside.limit c.self.inside.floating.items _ c.self.invariant.0 c.self.view_is c.self.invariant.2 c.args.id.0
     child (subst (λ is. 0 < total (same child) is) children some) in
     omega (arith, small, returns-clause-made c)

@@ -1,11 +1,9 @@
 use Rattle.std.proofs.Common.{refl, sym, ap, ◌∙◌}
 use Rattle.std.specs.Option.{option_map}
-use Rattle.std.specs.Ordering.{nat_cmp}
-use Rattle.std.specs.BTreeMap.{get}
 use Rattle.instance_tables.specs.Store.{id_of, with_objects}
 use Rattle.instance_tables.specs.Weak.{forgetting}
 use Rattle.instance_tables.specs.Names.{forgotten_in}
-use Rattle.instance_tables.specs.View.{object_in, count_in}
+use Rattle.instance_tables.specs.View.{object_in, count_in, instances_at}
 use Rattle.instance_tables.proofs.Forgotten.{all_changed, one_object, one_count, still_known, all_forgets, nothing_forgets}
 use Rattle.instance_tables.proofs.table.Table.forget.Goals as goal
 
@@ -16,9 +14,9 @@ returns-then-not-has_weak c d knows =
 
 pub returns : goal.returns
 returns c d knows =
-    let at = get nat_cmp c.self.inside.instances in
+    let at = instances_at c.self.inside.instances in
     let new = c.forget_everywhere.ensures.forgotten in
-    all_changed at (get nat_cmp c.forget_everywhere.new.instances) c.self.inside.made c.self.inside.limit
+    all_changed at (instances_at c.forget_everywhere.new.instances) c.self.inside.made c.self.inside.limit
     c.self.inside.floating.items c.args.self.now (option_map (forgetting c.args.weak.now c.args.id.0)) c.self.view_is
     (λ q. ap object_in (new q) ∙ one_object c.args.weak.now c.args.id.0 (at q))
     (λ q. ap count_in (new q) ∙ one_count c.args.weak.now c.args.id.0 (at q))
@@ -26,7 +24,7 @@ returns c d knows =
 
 pub invariant_of-self : goal.invariant_of-self
 invariant_of-self c =
-    still_known (get nat_cmp c.self.inside.instances) (get nat_cmp c.forget_everywhere.new.instances) c.self.inside.made
+    still_known (instances_at c.self.inside.instances) (instances_at c.forget_everywhere.new.instances) c.self.inside.made
     (id_of c.self.inside.unheld) c.self.inside.namers c.forget_everywhere.new.namers (forgotten_in c.args.weak.now c.args.id.0)
     (λ x. refl) (λ x. record { children = refl; parent = refl }) c.forget_everywhere.ensures.forgotten c.forget_everywhere.ensures.known
     c.self.invariant

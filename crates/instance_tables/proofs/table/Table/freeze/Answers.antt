@@ -15,24 +15,24 @@ returns-in_default-clause-changes c =
 pub returns-clause-changes : goal.returns-clause-changes
 returns-clause-changes c =
     let y : Instance = record { object = c.freeze.new.self; mentions = c.in-Some.instance.now.mentions } in
-    written_changes c.self.inside.instances (c.get_mut.follows.lender y) _ c.self.inside.limit c.self.inside.floating.items _ c.self.invariant.0 c.self.view_is _ _ y
-    (sym c.get_mut.ensures.value ∙ ap option_copied_mut c.in-Some.is) (c.get_mut.follows.holds y) _ _ c.freeze.result c.freeze.ensures.changes
+    written_changes c.self.inside.instances _ c.self.inside.limit c.self.inside.floating.items _ c.self.invariant.0 c.self.view_is _ _ y
+    (sym c.get_mut.ensures.value ∙ ap option_copied_mut c.in-Some.is) _ _ c.freeze.result c.freeze.ensures.changes
 
 pub returns-clause-beside : goal.returns-clause-beside
 returns-clause-beside c =
     let y : Instance = record { object = c.freeze.new.self; mentions = c.in-Some.instance.now.mentions } in
-    written_beside c.self.inside.instances (c.get_mut.follows.lender y) _ c.self.inside.limit c.self.inside.floating.items _ c.self.invariant.0 c.self.view_is _ _ y
-    (sym c.get_mut.ensures.value ∙ ap option_copied_mut c.in-Some.is) (c.get_mut.follows.holds y) refl
+    written_beside c.self.inside.instances _ c.self.inside.limit c.self.inside.floating.items _ c.self.invariant.0 c.self.view_is _ _ y
+    (sym c.get_mut.ensures.value ∙ ap option_copied_mut c.in-Some.is) refl
 
 pub returns-clause-refused : goal.returns-clause-refused
 returns-clause-refused c =
     let y : Instance = record { object = c.freeze.new.self; mentions = c.in-Some.instance.now.mentions } in
-    written_refused c.self.inside.instances (c.get_mut.follows.lender y) _ c.self.inside.limit c.self.inside.floating.items _ c.self.invariant.0 c.self.view_is _ _ y
-    (sym c.get_mut.ensures.value ∙ ap option_copied_mut c.in-Some.is) (c.get_mut.follows.holds y) c.freeze.result c.freeze.ensures.refused refl
+    written_refused c.self.inside.instances _ c.self.inside.limit c.self.inside.floating.items _ c.self.invariant.0 c.self.view_is _ _ y
+    (sym c.get_mut.ensures.value ∙ ap option_copied_mut c.in-Some.is) c.freeze.result c.freeze.ensures.refused refl
 
 pub invariant_of-self-2 : goal.invariant_of-self-2
 invariant_of-self-2 c =
     let here = sym c.get_mut.ensures.value ∙ ap option_copied_mut c.in-Some.is in
     let y : Instance = record { object = c.freeze.new.self; mentions = c.in-Some.instance.now.mentions } in
-    same_well c.self.inside.instances (c.get_mut.follows.lender y) _ _ c.self.inside.namers _ _ y here (c.get_mut.follows.holds y) c.self.invariant c.freeze.ensures.kin refl
+    same_well c.self.inside.instances _ _ c.self.inside.namers _ _ y here c.self.invariant c.freeze.ensures.kin refl
     (frozen_values _ c.freeze.result c.in-Some.instance.now.object c.freeze.new.self c.freeze.ensures.changes c.freeze.ensures.refused)

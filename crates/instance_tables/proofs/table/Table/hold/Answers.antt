@@ -23,12 +23,12 @@ returns c =
     let here = sym c.get_mut.ensures.value ∙ ap option_copied_mut c.in-Some.is in
     let same = count_is _ _ c.self.inside.limit c.self.inside.floating.items _ c.self.invariant.0 c.self.view_is _ _ here in
     let y : Instance = record { object = c.in-Some.instance.now.object; mentions = c.in-Some.instance.now.mentions + 1 } in
-    written_recounted c.self.inside.instances (c.get_mut.follows.lender y) _ c.self.inside.limit c.self.inside.floating.items _ c.self.invariant.0 c.self.view_is _ _ y
-    here (c.get_mut.follows.holds y) _ refl (ap (λ (k : ℕ). k + 1) (sym same))
+    written_recounted c.self.inside.instances _ c.self.inside.limit c.self.inside.floating.items _ c.self.invariant.0 c.self.view_is _ _ y
+    here _ refl (ap (λ (k : ℕ). k + 1) (sym same))
 
 pub invariant_of-self-2 : goal.invariant_of-self-2
 invariant_of-self-2 c =
     let here = sym c.get_mut.ensures.value ∙ ap option_copied_mut c.in-Some.is in
     let y : Instance = record { object = c.in-Some.instance.now.object; mentions = c.in-Some.instance.now.mentions + 1 } in
-    held_well c.self.inside.instances (c.get_mut.follows.lender y) _ _ c.self.inside.namers _ _ y here (c.get_mut.follows.holds y) c.self.invariant (id_of c.lowest_beside-self-inside.result) refl
+    held_well c.self.inside.instances _ _ c.self.inside.namers _ _ y here c.self.invariant (id_of c.lowest_beside-self-inside.result) refl
     (omega arith) c.lowest_beside-self-inside.ensures

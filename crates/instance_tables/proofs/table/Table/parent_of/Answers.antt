@@ -1,8 +1,6 @@
 use Rattle.std.proofs.Common.{sym, ap, ◌∙◌}
-use Rattle.std.specs.Ordering.{nat_cmp}
-use Rattle.std.specs.BTreeMap.{get}
 use Rattle.std.specs.Option.{option_copied}
-use Rattle.instance_tables.specs.View.{object_in}
+use Rattle.instance_tables.specs.View.{object_in, instances_at}
 use Rattle.instance_tables.specs.Family.{parent_in}
 use Rattle.instance_tables.proofs.Shown.{found_in}
 use Rattle.instance_tables.proofs.Kin.{parent_made}
@@ -21,8 +19,8 @@ returns-clause-parent c =
 
 pub returns-in_default-clause-given : goal.returns-in_default-clause-given
 returns-in_default-clause-given c =
-    parent_made (get nat_cmp c.self.inside.instances) _ c.self.inside.limit c.self.inside.floating.items _ c.self.invariant.0 c.self.view_is c.self.invariant.2 _
+    parent_made (instances_at c.self.inside.instances) _ c.self.inside.limit c.self.inside.floating.items _ c.self.invariant.0 c.self.view_is c.self.invariant.2 _
 
 pub returns-clause-given : goal.returns-clause-given
 returns-clause-given c =
-    parent_made (get nat_cmp c.self.inside.instances) _ c.self.inside.limit c.self.inside.floating.items _ c.self.invariant.0 c.self.view_is c.self.invariant.2 _
+    parent_made (instances_at c.self.inside.instances) _ c.self.inside.limit c.self.inside.floating.items _ c.self.invariant.0 c.self.view_is c.self.invariant.2 _

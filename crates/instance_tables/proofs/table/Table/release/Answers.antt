@@ -1,9 +1,7 @@
-use Rattle.std.proofs.Common.{◌≡◌, ℕ, ◌-◌, List, is_some, refl, sym, ap, ◌∙◌, arith}
-use Rattle.std.specs.Ordering.{nat_cmp}
-use Rattle.std.specs.BTreeMap.{BTreeMap, get}
+use Rattle.std.proofs.Common.{ℕ, ◌-◌, List, is_some, refl, sym, ap, ◌∙◌, arith}
 use Rattle.std.specs.Option.{option_copied_mut}
 use Rattle.instance_tables.specs.Store.{Store, count_of, id_of}
-use Rattle.instance_tables.specs.View.{count_in, counts_of}
+use Rattle.instance_tables.specs.View.{count_in}
 use Rattle.instance_tables.specs.declared.instance.Instance.{Instance}
 use Rattle.instance_tables.proofs.Shown.{counted_in, count_is}
 use Rattle.instance_tables.proofs.Moves.{less_at, none_less}
@@ -14,17 +12,15 @@ use Rattle.instance_tables.proofs.table.Table.release.Goals as goal
 pub returns-in_default-clause-counts : goal.returns-in_default-clause-counts
 returns-in_default-clause-counts c o =
     let none = sym c.get_mut.ensures.value ∙ ap option_copied_mut c.in_default.is in
-    let same : c.get_mut.follows.lender-at-none ≡ c.self.inside.instances = c.get_mut.follows.holds-at-none in
-    ap (λ (m : BTreeMap ℕ Instance). count_of (counts_of (get nat_cmp m) c.self.inside.made) o) same
-    ∙ ap (λ (s : Store). count_of s.counts o) c.self.view_is
+    ap (λ (s : Store). count_of s.counts o) c.self.view_is
     ∙ none_less _ _ c.args.times (counted_in _ _ c.self.inside.limit c.self.inside.floating.items _ c.self.invariant.0 c.self.view_is _ ∙ ap count_in none) o
 
 pub returns-clause-counts : goal.returns-clause-counts
 returns-clause-counts c o =
     let here = sym c.get_mut.ensures.value ∙ ap option_copied_mut c.in-Some.is in
     let y : Instance = record { object = c.in-Some.instance.now.object; mentions = c.saturating_sub-instance.result } in
-    let counted = written_recounted c.self.inside.instances (c.get_mut.follows.lender y) _ c.self.inside.limit c.self.inside.floating.items _ c.self.invariant.0 c.self.view_is _ _ y
-    here (c.get_mut.follows.holds y) y.mentions refl refl in
+    let counted = written_recounted c.self.inside.instances _ c.self.inside.limit c.self.inside.floating.items _ c.self.invariant.0 c.self.view_is _ _ y
+    here y.mentions refl refl in
     let was = count_is _ _ c.self.inside.limit c.self.inside.floating.items _ c.self.invariant.0 c.self.view_is _ _ here in
     ap (λ (s : Store). count_of s.counts o) counted
     ∙ less_at c.args.self.now.counts c.args.id.0 y.mentions c.args.times (c.self.invariant.0 c.args.id.0 (ap is_some here)).0
@@ -34,13 +30,13 @@ pub returns-clause-beside : goal.returns-clause-beside
 returns-clause-beside c =
     let here = sym c.get_mut.ensures.value ∙ ap option_copied_mut c.in-Some.is in
     let y : Instance = record { object = c.in-Some.instance.now.object; mentions = c.saturating_sub-instance.result } in
-    let counted = written_recounted c.self.inside.instances (c.get_mut.follows.lender y) _ c.self.inside.limit c.self.inside.floating.items _ c.self.invariant.0 c.self.view_is _ _ y
-    here (c.get_mut.follows.holds y) y.mentions refl refl in
+    let counted = written_recounted c.self.inside.instances _ c.self.inside.limit c.self.inside.floating.items _ c.self.invariant.0 c.self.view_is _ _ y
+    here y.mentions refl refl in
     counted ∙ ap (λ (cs : List ℕ). record c.args.self.now { counts = cs }) (sym (ap (λ (s : Store). s.counts) counted))
 
 pub invariant_of-self-2 : goal.invariant_of-self-2
 invariant_of-self-2 c =
     let here = sym c.get_mut.ensures.value ∙ ap option_copied_mut c.in-Some.is in
     let y : Instance = record { object = c.in-Some.instance.now.object; mentions = c.saturating_sub-instance.result } in
-    less_well c.self.inside.instances (c.get_mut.follows.lender y) _ _ c.self.inside.namers _ _ y here (c.get_mut.follows.holds y) c.self.invariant (id_of c.lowest_with-self-inside.result) refl
+    less_well c.self.inside.instances _ _ c.self.inside.namers _ _ y here c.self.invariant (id_of c.lowest_with-self-inside.result) refl
     (omega (arith, c.saturating_sub-instance.ensures)) (λ more. ap id_of (c.lowest_with-self-inside.ensures.held more)) c.lowest_with-self-inside.ensures.unheld

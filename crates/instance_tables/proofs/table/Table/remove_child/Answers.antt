@@ -1,7 +1,5 @@
-use Rattle.std.proofs.Common.{◌≡◌, ℕ, length, refl, sym, ap, ◌∙◌, arith, Option}
-use Rattle.std.specs.Ordering.{nat_cmp}
-use Rattle.std.specs.BTreeMap.{BTreeMap, get}
-use Rattle.instance_tables.specs.View.{objects_of}
+use Rattle.std.proofs.Common.{ℕ, length, refl, sym, ap, ◌∙◌, arith, Option}
+use Rattle.instance_tables.specs.View.{instances_at}
 use Rattle.std.specs.Option.{option_copied_mut}
 use Rattle.ui_machine.specs.Rules.Children.{without_child}
 use Rattle.instance_tables.specs.Store.{Store}
@@ -20,9 +18,7 @@ use Rattle.instance_tables.proofs.Without.{gone_of}
 pub returns-in_default-clause-objects : goal.returns-in_default-clause-objects
 returns-in_default-clause-objects c =
     let none = sym c.get_mut.ensures.value ∙ ap option_copied_mut c.in_default.is in
-    let same : c.get_mut.follows.lender-at-none ≡ c.self.inside.instances = c.get_mut.follows.holds-at-none in
-    ap (λ (m : BTreeMap ℕ Instance). objects_of (get nat_cmp m) c.self.inside.made) same
-    ∙ ap (λ (s : Store). s.objects) c.self.view_is
+    ap (λ (s : Store). s.objects) c.self.view_is
     ∙ absent_updated _ _ c.self.inside.limit c.self.inside.floating.items _ c.self.invariant.0 c.self.view_is _ (without_child c.args.child.0) none c.requires.given
 
 pub returns-in_default-clause-count : goal.returns-in_default-clause-count
@@ -34,8 +30,8 @@ pub returns-clause-objects : goal.returns-clause-objects
 returns-clause-objects c =
     let here = sym c.get_mut.ensures.value ∙ ap option_copied_mut c.in-Some.is in
     let y : Instance = record { object = c.remove_child.new.self; mentions = c.in-Some.instance.now.mentions } in
-    written_updates c.self.inside.instances (c.get_mut.follows.lender y) _ c.self.inside.limit c.self.inside.floating.items _ c.self.invariant.0 c.self.view_is _ _ y
-    here (c.get_mut.follows.holds y) (without_child c.args.child.0) c.remove_child.ensures.object
+    written_updates c.self.inside.instances _ c.self.inside.limit c.self.inside.floating.items _ c.self.invariant.0 c.self.view_is _ _ y
+    here (without_child c.args.child.0) c.remove_child.ensures.object
 
 pub returns-clause-count : goal.returns-clause-count
 returns-clause-count c =
@@ -49,13 +45,13 @@ pub returns-clause-beside : goal.returns-clause-beside
 returns-clause-beside c =
     let here = sym c.get_mut.ensures.value ∙ ap option_copied_mut c.in-Some.is in
     let y : Instance = record { object = c.remove_child.new.self; mentions = c.in-Some.instance.now.mentions } in
-    written_beside c.self.inside.instances (c.get_mut.follows.lender y) _ c.self.inside.limit c.self.inside.floating.items _ c.self.invariant.0 c.self.view_is _ _ y
-    here (c.get_mut.follows.holds y) refl
+    written_beside c.self.inside.instances _ c.self.inside.limit c.self.inside.floating.items _ c.self.invariant.0 c.self.view_is _ _ y
+    here refl
 
 pub invariant_of-self-2 : goal.invariant_of-self-2
 invariant_of-self-2 c =
     let here = sym c.get_mut.ensures.value ∙ ap option_copied_mut c.in-Some.is in
     let y : Instance = record { object = c.remove_child.new.self; mentions = c.in-Some.instance.now.mentions } in
-    kin_well c.self.inside.instances (c.get_mut.follows.lender y) _ _ c.self.inside.namers _ _ y here (c.get_mut.follows.holds y) c.self.invariant
-    (without_given (get nat_cmp c.self.inside.instances) _ _ c.self.invariant.2 c.in-Some.instance.now here c.remove_child.new.self c.args.child.0 c.remove_child.ensures.object) refl
+    kin_well c.self.inside.instances _ _ c.self.inside.namers _ _ y here c.self.invariant
+    (without_given (instances_at c.self.inside.instances) _ _ c.self.invariant.2 c.in-Some.instance.now here c.remove_child.new.self c.args.child.0 c.remove_child.ensures.object) refl
     (ap (λ (o : Object). o.values) c.remove_child.ensures.object)

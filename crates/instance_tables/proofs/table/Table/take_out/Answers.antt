@@ -1,18 +1,16 @@
-use Rattle.std.specs.Ordering.{nat_cmp}
-use Rattle.std.specs.BTreeMap.{get}
 use Rattle.instance_tables.specs.Store.{id_of}
+use Rattle.instance_tables.specs.View.{instances_at}
 use Rattle.instance_tables.proofs.Kin.{gone_well}
 use Rattle.instance_tables.proofs.Shown.{removed}
-use Rattle.instance_tables.proofs.Maps.{map_updated}
 use Rattle.instance_tables.proofs.table.Table.take_out.Goals as goal
 
 pub returns : goal.returns
 returns c =
     removed _ _ _ c.self.inside.limit c.self.inside.floating.items _ c.self.invariant.0 c.self.view_is _ c.requires.live
-    (map_updated c.self.inside.instances c.remove-gone.new.self _ _ c.remove-gone.ensures.updates) c.requires.unheld
+    c.remove-gone.ensures.gone c.requires.unheld
 
 pub invariant_of-self : goal.invariant_of-self
 invariant_of-self c =
-    gone_well (get nat_cmp c.self.inside.instances) (get nat_cmp c.remove-gone.new.self) _ _ c.self.inside.namers _
-    (map_updated c.self.inside.instances c.remove-gone.new.self _ _ c.remove-gone.ensures.updates) c.self.invariant
+    gone_well (instances_at c.self.inside.instances) (instances_at c.remove-gone.new.self) _ _ c.self.inside.namers _
+    c.remove-gone.ensures.gone c.self.invariant
     (id_of c.lowest_beside-self-inside.result) c.remove_gone.new.self c.lowest_beside-self-inside.ensures c.remove_gone.ensures

@@ -1,0 +1,176 @@
+//! The instances in a slab, and an index that finds each by its identity.
+//!
+//! A key of the slab is given again once what it had was taken out. So each entry says whose it is, and an identity has a key just where the
+//! entry under that key says so: none finds what is another's.
+
+ghost use Rattle.std.specs.Prelude.{◌≡◌, ℕ, ◌<◌, ◌^◌, [], true, None, Some, is_some, length, option_copied, OnOk, OnErr};
+ghost use Rattle.std.specs.Option.{option_copied_mut, option_map};
+ghost use Rattle.std.specs.Ordering.{nat_cmp};
+ghost use Rattle.std.specs.Borrow.{sem};
+ghost use Rattle.std.specs.BTreeMap.Range.{entries_between};
+ghost use Rattle.std.specs.List.Sorted.{IsStrictlySortedBy};
+ghost use Rattle.std.specs.Map.{keys_of};
+ghost use Rattle.std.specs.declared.ops.Bound.TheVariants.{Included, Unbounded};
+ghost use Rattle.instance_tables.specs.Bounds.{HoldFew};
+ghost use Rattle.instance_tables.specs.Lent.{LendsInstance};
+ghost use Rattle.instance_tables.specs.Names.{forgotten_in};
+ghost use Rattle.instance_tables.specs.Store.{id_of};
+ghost use Rattle.instance_tables.specs.View.{first_unheld, instances_at, Replaces};
+
+use crate::instance::Instance;
+use crate::weak::WeakSlots;
+use slab::Slab;
+use std::alloc::{AllocError, Global};
+use std::collections::BTreeMap;
+use std::marker::Model;
+use ui_machine::ObjectId;
+
+// An instance, and whose it is.
+#[derive(Drop)]
+struct Entry {
+    id: ObjectId,
+    instance: Instance,
+}
+
+impl Entry {
+    // The weak values of its instance that name the object become null, and it stays.
+    fn forget(&mut self, weak: &WeakSlots, id: ObjectId) -> bool
+        ensures stays { result ≡ true }
+        ensures changed { self.new ≡ record self.old { instance = forgotten_in weak.now id.0 self.old.instance } }
+    {
+        self.instance.object.forget(weak, id);
+        true
+    }
+}
+
+/// Instances, each under an identity, seen in the order of their identities. To find one costs the logarithm of how many there are.
+#[derive(Drop)]
+pub(crate) struct Instances {
+    entries: Slab<Entry>,
+    keys: BTreeMap<u64, usize>,
+}
+
+impl Model for Instances {
+    ghost use Rattle.std.specs.Prelude.{List, ℕ};
+    ghost use Rattle.instance_tables.specs.declared.instance.Instance.{Instance};
+
+    ghost Value = { List (ℕ × Instance) };
+
+    ghost use Rattle.std.specs.Ordering.{nat_cmp};
+    ghost use Rattle.std.specs.BTreeMap as tree;
+    ghost use Rattle.slab.specs.Slab as slab;
+    ghost use Rattle.instance_tables.specs.Index.{in_order, IsIndex};
+
+    ghost view = { λ a. in_order (slab.get a.entries) a.keys.entries };
+
+    ghost invariant = { λ a. tree.IsOrdered nat_cmp a.keys × IsIndex (slab.get a.entries) (tree.get nat_cmp a.keys) };
+}
+
+impl Instances {
+    /// None. It takes no memory.
+    pub(crate) fn new(alloc: Global) -> Self
+        ensures { result ≡ [] }
+    {
+        Instances {
+            entries: Slab::new(alloc),
+            keys: BTreeMap::new(alloc),
+        }
+    }
+
+    /// How many there are.
+    pub(crate) fn len(&self) -> usize
+        ensures len { result ≡ length self.now }
+        ensures small { result < 2 ^ 63 }
+        ensures ordered { IsStrictlySortedBy nat_cmp (keys_of self.now) }
+    {
+        self.keys.len()
+    }
+
+    /// Whether an identity has an instance.
+    pub(crate) fn contains(&self, id: ObjectId) -> bool
+        ensures { result ≡ is_some (instances_at self.now id.0) }
+    {
+        self.keys.contains_key(&id.0)
+    }
+
+    /// The instance of an identity, if there is one.
+    pub(crate) fn get(&self, id: ObjectId) -> Option<&Instance>
+        ensures value { option_copied result ≡ instances_at self.now id.0 }
+    {
+        let key = self.keys.get(&id.0)?;
+        Some(&self.entries[*key].instance)
+    }
+
+    /// The same to write to.
+    pub(crate) fn get_mut(&mut self, id: ObjectId) -> Option<&mut Instance>
+        ensures* writes_back { sem 𝓛 (LendsInstance self.entry id.0 result) }
+        ensures value { option_copied_mut result ≡ instances_at self.old id.0 }
+    {
+        let key = *self.keys.get(&id.0)?;
+        Some(&mut self.entries[key].instance)
+    }
+
+    /// Adds the instance of an identity that has none.
+    ///
+    /// # Errors
+    ///
+    /// `AllocError` if memory is refused. Nothing has changed then.
+    pub(crate) fn insert(&mut self, id: ObjectId, instance: Instance) -> Result<(), AllocError>
+        requires absent { instances_at self.old id.0 ≡ None }
+        ensures ok { OnOk result (Replaces (instances_at self.old) (instances_at self.new) id.0 (Some instance)) }
+        ensures err { OnErr result (self.new ≡ self.old) }
+    {
+        self.entries.reserve(1)?;
+        let key = self.entries.vacant_key();
+        let Ok(_old) = self.keys.insert(id.0, key) else {
+            return Err(AllocError);
+        };
+        self.entries.insert_reserved(Entry { id, instance });
+        Ok(())
+    }
+
+    /// Takes the instance of an identity out, if there is one.
+    pub(crate) fn remove(&mut self, id: ObjectId) -> Option<Instance>
+        ensures value { result ≡ instances_at self.old id.0 }
+        ensures gone { Replaces (instances_at self.old) (instances_at self.new) id.0 None }
+    {
+        let key = self.keys.remove(&id.0)?;
+        let Entry { id: _, instance } = self.entries.remove(key);
+        Some(instance)
+    }
+
+    /// The first one from an identity on that nothing holds.
+    pub(crate) fn first_unheld(&self, from: ObjectId) -> Option<ObjectId>
+        ensures first { id_of result ≡ first_unheld (entries_between nat_cmp (Included from.0) Unbounded self.now) }
+        ensures ordered { IsStrictlySortedBy nat_cmp (keys_of self.now) }
+    {
+        for (id, key) in self.keys.range(from.0..) {
+            let Some(entry) = self.entries.get(*key) else {
+                continue;
+            };
+            if entry.instance.mentions == 0 {
+                return Some(ObjectId(*id));
+            }
+        }
+        None
+    }
+
+    /// A law: what each has is kept in lists, which are never longer than memory. It looks at each; no program calls it.
+    pub(crate) fn hold_few(&self)
+        ensures { HoldFew self.now }
+    {
+        for (_id, key) in self.keys.iter() {
+            let Some(entry) = self.entries.get(*key) else {
+                continue;
+            };
+            entry.instance.object.holds_few();
+        }
+    }
+
+    /// Each weak value that names the object becomes null. All are looked at.
+    pub(crate) fn forget(&mut self, weak: &WeakSlots, id: ObjectId)
+        ensures { (q : ℕ) → instances_at self.new q ≡ option_map (forgotten_in weak.now id.0) (instances_at self.old q) }
+    {
+        self.entries.retain(|_key, entry| entry.forget(weak, id));
+    }
+}
