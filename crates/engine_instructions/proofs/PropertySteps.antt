@@ -2,14 +2,13 @@
 use Rattle.std.proofs.Common.{◌≡◌, ◌∙◌, refl, ap, ℕ, Bool, true, false, not, cond, List, [], ◌∷◌, Option, None, Some, Ok, Err}
 use Rattle.ui_machine.specs.declared.arm.Arm.{Arm}
 use Rattle.ui_machine.specs.declared.arm.Arm.TheVariants as arms
-use Rattle.ui_machine.specs.declared.arm.Halt.{Halt}
 use Rattle.ui_machine.specs.Definition.{Definition}
 use Rattle.ui_machine.specs.Definition.Lookups.{slot_of}
 use Rattle.ui_machine.specs.Definition.Properties.{Spec, is_construct_only, is_readable, is_writable}
 use Rattle.ui_machine.specs.Definition.Values.{Value}
 use Rattle.ui_machine.specs.Instructions.Properties.{set_property, get_property, set_from, slot_at, notify_from_program, then_goes_on}
 use Rattle.ui_machine.specs.Instructions.Registers.{gives, goes_on, operand_in, value_in}
-use Rattle.ui_machine.specs.Outcome.{Answer, Stops, known, only_if, ◌>>=◌}
+use Rattle.ui_machine.specs.Outcome.{Answer, known, only_if, ◌>>=◌}
 use Rattle.ui_machine.specs.Rules.Sets.{if_settable, raising, spec_at}
 use Rattle.ui_machine.specs.State.Config.{Started, World}
 use Rattle.ui_machine.specs.State.Objects.{Object, asked, living, value_at}
@@ -17,9 +16,7 @@ use Rattle.ui_machine.specs.State.Tasks.{Frame, Setting}
 use Rattle.engine_instructions.specs.PropertyView.{readable_value, settable_slot}
 use Rattle.engine_world.specs.Able.{Able}
 use Rattle.engine_world.proofs.Ableness.{able_as, first, no_arm, past}
-use Rattle.engine_world.proofs.Emits.{stops_on}
 use Rattle.engine_world.proofs.Forwarded.{settable_then}
-use Rattle.engine_instructions.proofs.Starting.{stops_as}
 
 -- ** slots by name
 
@@ -108,10 +105,6 @@ module _ (d : Definition) (w : World) (f : Frame) (to object : ℕ) (name : List
   abbrev gets_of : ℕ → Answer Started
   gets_of id = slot_at d w id name >>= λ slot. spec_at d w.objects id slot >>= λ s. asked w.objects id (value_at slot) >>= λ v. only_if (is_readable s) arms.Flags (gives w to v f)
 
-  pub get_none : (halt : Halt) → Stops halt (operand_in w f object) → Stops halt (get_property d w f to object name)
-  unfolding get_property
-  get_none halt s = stops_on halt (operand_in w f object) gets_of s
-
   -- its object is there
   pub get_operand : Able (get_property d w f to object name) → Able (operand_in w f object)
   unfolding get_property
@@ -125,9 +118,6 @@ module _ (d : Definition) (w : World) (f : Frame) (to object : ℕ) (name : List
     -- and its value
     pub get_readable : Able (get_property d w f to object name) → Able (readable_value d w id name)
     get_readable able = first (readable_value d w id name) (λ v. gives w to v f) (able_as gets_by able)
-
-    pub get_unread : (halt : Halt) → Stops halt (readable_value d w id name) → Stops halt (get_property d w f to object name)
-    get_unread halt s = stops_as halt (get_property d w f to object name) _ gets_by (stops_on halt (readable_value d w id name) (λ v. gives w to v f) s)
 
     pub gets : (v : Value) → readable_value d w id name ≡ Ok v → get_property d w f to object name ≡ gives w to v f
     gets v read = gets_by ∙ ap (λ (a : Answer Value). a >>= λ v. gives w to v f) read
@@ -160,10 +150,6 @@ module _ (d : Definition) (w : World) (f : Frame) (object : ℕ) (name : List �
   abbrev sets_of : ℕ → Answer Started
   sets_of id = slot_at d w id name >>= λ slot. spec_at d w.objects id slot >>= λ s. if_settable s (set_from w f id slot from)
 
-  pub set_none : (halt : Halt) → Stops halt (operand_in w f object) → Stops halt (set_property d w f object name from)
-  unfolding set_property
-  set_none halt s = stops_on halt (operand_in w f object) sets_of s
-
   -- its object is there
   pub set_operand : Able (set_property d w f object name from) → Able (operand_in w f object)
   unfolding set_property
@@ -180,9 +166,6 @@ module _ (d : Definition) (w : World) (f : Frame) (object : ℕ) (name : List �
     pub set_slot : Able (set_property d w f object name from) → Able (settable_slot d w id name)
     set_slot able = first (settable_slot d w id name) (λ slot. set_from w f id slot from) (able_as sets_by able)
 
-    pub set_unknown : (arm : Arm) → settable_slot d w id name ≡ Err arm → set_property d w f object name from ≡ Err arm
-    set_unknown arm none = sets_by ∙ ap (λ (a : Answer ℕ). a >>= λ slot. set_from w f id slot from) none
-
     module _ (slot : ℕ) (found : settable_slot d w id name ≡ Ok slot) where
       sets_value : set_property d w f object name from ≡ (value_in f from >>= λ v. goes_on w (Setting id slot v ∷ []) f)
       unfolding set_from
@@ -192,9 +175,6 @@ module _ (d : Definition) (w : World) (f : Frame) (object : ℕ) (name : List �
       pub set_value : Able (set_property d w f object name from) → Able (value_in f from)
       set_value able = first (value_in f from) (λ v. goes_on w (Setting id slot v ∷ []) f) (able_as sets_value able)
 
-      pub set_unset : (halt : Halt) → Stops halt (value_in f from) → Stops halt (set_property d w f object name from)
-      set_unset halt s = stops_as halt (set_property d w f object name from) _ sets_value (stops_on halt (value_in f from) (λ v. goes_on w (Setting id slot v ∷ []) f) s)
-
       pub sets : (v : Value) → value_in f from ≡ Ok v → set_property d w f object name from ≡ goes_on w (Setting id slot v ∷ []) f
       sets v read = sets_value ∙ ap (λ (a : Answer Value). a >>= λ v. goes_on w (Setting id slot v ∷ []) f) read
 
@@ -203,10 +183,6 @@ module _ (d : Definition) (w : World) (f : Frame) (object : ℕ) (name : List �
 module _ (d : Definition) (w : World) (f : Frame) (object : ℕ) (name : List ℕ) where
   abbrev tells_slot : ℕ → ℕ → Answer Started
   tells_slot id slot = spec_at d w.objects id slot >>= λ s. cond (is_readable s) (then_goes_on f (raising w id slot)) (goes_on w [] f)
-
-  pub tell_none : (halt : Halt) → Stops halt (operand_in w f object) → Stops halt (notify_from_program d w f object name)
-  unfolding notify_from_program
-  tell_none halt s = stops_on halt (operand_in w f object) (λ id. slot_at d w id name >>= tells_slot id) s
 
   -- its object is there
   pub tell_operand : Able (notify_from_program d w f object name) → Able (operand_in w f object)
@@ -221,9 +197,6 @@ module _ (d : Definition) (w : World) (f : Frame) (object : ℕ) (name : List �
     -- and its slot
     pub tell_slot : Able (notify_from_program d w f object name) → Able (slot_at d w id name)
     tell_slot able = first (slot_at d w id name) (tells_slot id) (able_as tells_by able)
-
-    pub tell_unknown : (arm : Arm) → slot_at d w id name ≡ Err arm → notify_from_program d w f object name ≡ Err arm
-    tell_unknown arm none = tells_by ∙ ap (λ (a : Answer ℕ). a >>= tells_slot id) none
 
     module _ (slot : ℕ) (found : slot_at d w id name ≡ Ok slot) where
       tells_at : notify_from_program d w f object name ≡ tells_slot id slot

@@ -43,12 +43,7 @@ pub(crate) fn value_in(frame: &Frame, from: Register) -> Result<Value, AllocErro
 }
 
 // The slot of an object's property by its name.
-fn slot_at(
-    engine: &Engine,
-    definition: &Definition,
-    object: ObjectId,
-    property: &str,
-) -> Slot
+fn slot_at(engine: &Engine, definition: &Definition, object: ObjectId, property: &str) -> Slot
     requires able { Able (slot_at definition.now (world_of engine.now.world) object.0 property.now) }
     ensures { slot_at definition.now (world_of engine.now.world) object.0 property.now ≡ Ok result }
 {

@@ -1,6 +1,5 @@
 -- A set of what may be set, where no arm stops it.
 use Rattle.std.proofs.Common.{◌≡◌, ℕ, Bool, true, false, not, Ok, Err, refl}
-use Rattle.ui_machine.specs.declared.arm.Arm.{Arm}
 use Rattle.ui_machine.specs.declared.arm.Arm.TheVariants as arms
 use Rattle.ui_machine.specs.Definition.Properties.{Spec, is_construct_only, is_writable}
 use Rattle.ui_machine.specs.Outcome.{Answer, only_if, ◌>>=◌}

@@ -1,5 +1,5 @@
 -- What follows where no arm stops a part of a step.
-use Rattle.std.proofs.Common.{◌≡◌, refl, sym, subst, ℕ, suc, ◌<◌, Bool, true, false, nat_lt, List, Option, None, Some, Result, Ok, Err}
+use Rattle.std.proofs.Common.{◌≡◌, refl, subst, ℕ, suc, ◌<◌, Bool, true, false, nat_lt, List, Option, None, Some, Result, Ok, Err}
 use Rattle.std.proofs.lemmas.Bool.Decides.{nat_tests}
 use Rattle.std.proofs.Common.{arith}
 use Rattle.ui_machine.specs.declared.arm.Arm.{Arm}
@@ -8,13 +8,11 @@ use Rattle.ui_machine.specs.declared.arm.Halt.{Halt}
 use Rattle.ui_machine.specs.declared.arm.Halt.TheVariants as halts
 use Rattle.ui_machine.specs.Instructions.{in_front}
 use Rattle.ui_machine.specs.Outcome.{After, Answer, Follows, Gives, Goes, Stops, known, only_if, ◌>>=◌}
-use Rattle.ui_machine.specs.State.Config.{Config, Left, Started}
+use Rattle.ui_machine.specs.State.Config.{Left, Started}
 use Rattle.ui_machine.specs.State.Tasks.{Task}
 use Rattle.ui_machine.specs.Steps.{counted, counted_left, left, most_steps, uncounted}
-use Rattle.instance_tables.specs.Store.{Shows}
-use Rattle.engine_world.specs.Able.{Able, Leads, LeadsWithoutGone}
+use Rattle.engine_world.specs.Able.{Able}
 use Rattle.engine_world.specs.GivenView.{Finds}
-use Rattle.engine_world.specs.Standing.{GoesWithoutGone}
 
 -- ** parts
 
@@ -99,17 +97,11 @@ unstuck a arm able stops = no_arm a arm able stops
 pub goes_on : {S X : Type 0} (r : Result X Halt) (a : Answer S) (new : S) → Able a → Goes r a new → (arm : Arm) → r ≡ Err (halts.Stuck arm) → ⊥
 goes_on {S} {X} r a new able goes arm is = no_arm a arm able (subst (λ (x : Result X Halt). Goes x a new) is goes)
 
-pub goes_on_whole : {X : Type 0} (r : Result X Halt) (a : Answer Config) (new : Config) → Able a → GoesWithoutGone r a new → (arm : Arm) → r ≡ Err (halts.Stuck arm) → ⊥
-goes_on_whole {X} r a new able goes arm is = no_arm a arm able (subst (λ (x : Result X Halt). GoesWithoutGone x a new) is goes)
-
 pub finds_on : {X Y : Type 0} (view : X → Y) (r : Result X Halt) (a : Answer Y) → Able a → Finds view r a → (arm : Arm) → r ≡ Err (halts.Stuck arm) → ⊥
 finds_on {X} view r a able finds arm is = no_arm a arm able (subst (λ (x : Result X Halt). Finds view x a) is finds)
 
 pub follows_on : {S X Y : Type 0} (view : X → Y) (r : Result X Halt) (a : Answer (After S Y)) (new : S) → Able a → Follows view r a new → (arm : Arm) → r ≡ Err (halts.Stuck arm) → ⊥
 follows_on {S} {X} view r a new able follows arm is = no_arm a arm able (subst (λ (x : Result X Halt). Follows view x a new) is follows)
-
-pub shows_on : {X Y : Type 0} (view : X → Y) (r : Result X Arm) (a : Answer Y) → Able a → Shows view r a → (arm : Arm) → r ≡ Err arm → ⊥
-shows_on {X} view r a able shows arm is = no_arm a arm able (subst (λ (x : Result X Arm). Shows view x a) is shows)
 
 pub gives_on : {S X Y : Type 0} (view : X → Y) (r : Result X Arm) (a : Answer (After S Y)) (new : S) → Able a → Gives view r a new → (arm : Arm) → r ≡ Err arm → ⊥
 gives_on {S} {X} view r a new able gives arm is = no_arm a arm able (subst (λ (x : Result X Arm). Gives view x a new) is gives)

@@ -1,5 +1,5 @@
 -- How an object is disposed, and how one that nothing holds is finalised.
-use Rattle.std.proofs.Common.{◌≡◌, ◌<◌, ℕ, suc, Bool, true, false, not, String, Global, string_bytes, List, [], map, Option, Some, None, IsSome, slice_get, Ok, Err, refl, sym, ap, subst, ◌∙◌}
+use Rattle.std.proofs.Common.{◌≡◌, ℕ, Bool, true, false, not, String, Global, string_bytes, List, [], map, Option, Some, None, IsSome, slice_get, Ok, Err, refl, sym, ap, subst, ◌∙◌}
 use Rattle.ui_machine.specs.declared.arm.Arm.{Arm}
 use Rattle.ui_machine.specs.declared.arm.Arm.TheVariants as arms
 use Rattle.ui_machine.specs.declared.arm.Halt.{Halt}
@@ -11,11 +11,10 @@ use Rattle.ui_machine.specs.Outcome.{Answer, Stops, known, ◌>>=◌}
 use Rattle.ui_machine.specs.Rules.Disposal.{is_of_object, closed_if_open, closing, said_if, is_first, peer_of, disposed, finalised}
 use Rattle.ui_machine.specs.Rules.Disposal as disposal
 use Rattle.ui_machine.specs.Rules.Sets.{is_disposed}
-use Rattle.ui_machine.specs.State.Config.{World, Started, starts, said, with_objects}
+use Rattle.ui_machine.specs.State.Config.{World, starts, said, with_objects}
 use Rattle.ui_machine.specs.State.Objects.{Object, Objects, living, put}
 use Rattle.ui_machine.specs.State.Peers.{Peer}
-use Rattle.ui_machine.specs.State.Tasks.{Task}
-use Rattle.ui_machine.specs.Steps.{counted, finalising, most_steps, uncounted}
+use Rattle.ui_machine.specs.Steps.{finalising}
 use Rattle.ui_machine.specs.State.Bindings.{bindings_without_end}
 use Rattle.bindings.specs.Made.{Made}
 use Rattle.instance_tables.specs.Store.{Store}
@@ -34,7 +33,6 @@ use Rattle.engine_world.specs.declared.closings.Closing.{Closing}
 use Rattle.engine_world.specs.Able.{Able}
 use Rattle.engine_world.proofs.Ableness.{no_arm, none_stops}
 use Rattle.engine_world.proofs.Emits.{stops_on}
-use Rattle.engine_world.proofs.Notified.{counted_on}
 
 -- who is not disposed yet is reported
 pub first_time : (os : Objects) (id : ℕ) → IsSome (living os id) → is_first (living os id) ≡ not (is_disposed (living os id))
@@ -48,11 +46,6 @@ first_time os id some = by (living os id) some
 pub peers_with_line : (line : Option (String Global)) (w : World) → (with_line_if line w).peers ≡ w.peers
 peers_with_line None w = refl
 peers_with_line (Some line) w = refl
-
--- what stops a step stops it where it is counted
-pub stops_counted : (halt : Halt) (rest : List Task) (n : ℕ) (a : Answer Started) → n < most_steps → Stops halt a → Stops halt (counted rest n a)
-stops_counted halts.OutOfMemory rest n a few s = tt
-stops_counted (halts.Stuck arm) rest n a few s = counted_on rest n a few ∙ ap (uncounted rest (suc n)) s
 
 module _ (d : Definition) (v : code.World) (id : ℕ) (closed : Option Closing) (first : Option (String Global)) where
   -- the peer is closed so, whatever else is of the world

@@ -1,22 +1,19 @@
 -- The signals of a definition's objects, in the order in which they are connected.
-use Rattle.std.proofs.Common.{◌≡◌, Ok, Err, ℕ, zero, suc, ◌+◌, ◌-◌, ◌<◌, ◌≤◌, nat_lt, min, Bool, true, false, cond, List, [], ◌∷◌, ◌++◌, length, drop, get_or, map, reverse, Option, Some, None, slice_get, refl, sym, ap, subst, ◌∙◌, arith}
+use Rattle.std.proofs.Common.{◌≡◌, Ok, Err, ℕ, zero, suc, ◌+◌, ◌-◌, ◌<◌, ◌≤◌, nat_lt, min, Bool, true, false, cond, List, [], ◌∷◌, ◌++◌, length, drop, get_or, map, reverse, Option, Some, None, slice_get, refl, sym, ap, ◌∙◌, arith}
 use Rattle.std.proofs.lemmas.Bool.Decides.{nat_tests}
 use Rattle.std.proofs.lemmas.List.{length-drop, reverse-append}
 use Rattle.std.proofs.Math.Seq.{drop-cons}
-use Rattle.ui_machine.specs.Rules.Connections.{Connection, detail_at, greatest_handler, signal_number}
+use Rattle.ui_machine.specs.Rules.Connections.{detail_at, greatest_handler, signal_number}
 use Rattle.engine_world.specs.ConnectView.{Takes, attached_at}
-use Rattle.engine_world.proofs.Emits.{stops_on}
 use Rattle.engine_world.proofs.Lists.{total-append}
 use Rattle.ui_machine.specs.Definition.{Definition}
 use Rattle.ui_machine.specs.Definition.Lookups.{place_at}
 use Rattle.ui_machine.specs.Definition.Places.{Attached, Bind, Place}
-use Rattle.ui_machine.specs.Rules.Build.{adopts_if, building, building_handler, connected_items, held_data, held_object, is_connecting, made_items, numbered, of_items, with_signal}
+use Rattle.ui_machine.specs.Rules.Build.{adopts_if, building_handler, connected_items, held_data, held_object, is_connecting, made_items, numbered, of_items, with_signal}
 use Rattle.ui_machine.specs.Seq.{total}
 use Rattle.ui_machine.specs.declared.arm.Arm.TheVariants as arms
-use Rattle.ui_machine.specs.declared.arm.Halt.{Halt}
-use Rattle.ui_machine.specs.Outcome.{Answer, Stops, known, ◌>>=◌}
-use Rattle.ui_machine.specs.Steps.{before, uncounted}
-use Rattle.ui_machine.specs.State.Config.{Started, World, starts}
+use Rattle.ui_machine.specs.Outcome.{Answer, known, ◌>>=◌}
+use Rattle.ui_machine.specs.State.Config.{World, starts}
 use Rattle.ui_machine.specs.State.Tasks.{Building, Item, Task, connects}
 use Rattle.ui_machine.specs.State.Tasks as tasks
 use Rattle.engine_world.specs.TaskView.{binds_from, build_end, build_from, connects_from, item_of, signals_of}
@@ -194,11 +191,3 @@ unfolding building_handler
 connects_attached d w place number items =
     bind_same (known arms.Code (place_at d place)) _ _ _ (λ p. bind_same (known arms.Code (slice_get p.signals number)) _ _ _ (λ a. bind_same (held_object w place) _ _ _ (λ id.
     bind_same (held_data w a.with) _ _ _ (λ arg. bind_same (known arms.Code (signal_number d p.class a.signal)) _ _ _ (λ signal. bind_same (detail_at d p.class signal a.detail) _ _ _ (λ detail. refl))))))
-
--- what stops its connection stops the build
-pub attached_stops : (d : Definition) (w : World) (place number : ℕ) (all items : List Item) (rest : List Task) (n : ℕ) → all ≡ connects place number ∷ items
-    → (halt : Halt) → Stops halt (attached_at d w place number) → Stops halt (uncounted rest n (building d w all))
-attached_stops d w place number all items rest n is halt s =
-    let start : Connection → Answer Started = λ (x : Connection). starts (with_signal w x) (Building items ∷ []) in
-    subst (λ (a : Answer Started). Stops halt (uncounted rest n a)) (sym (ap (building d w) is ∙ connects_attached d w place number items))
-    (stops_on halt (attached_at d w place number >>= start) (λ (s : Started). Ok (before rest n s)) (stops_on halt (attached_at d w place number) start s))

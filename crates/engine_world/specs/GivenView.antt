@@ -12,15 +12,10 @@ use Rattle.ui_machine.specs.State.Config.{World}
 use Rattle.ui_machine.specs.Definition.Signals.{Signal}
 use Rattle.ui_machine.specs.Rules.Build.{held_object}
 use Rattle.ui_machine.specs.Rules.Connections.{detail_for, may_stand}
-use Rattle.ui_machine.specs.Rules.Sets.{spec_at, if_settable}
 
 -- the object that the builder has of a place, as a value
 abbrev pub held_value : World → ℕ → Answer values.Value
 held_value w place = held_object w place >>= λ id. Ok (values.object (Some id))
-
--- the object that the builder has of a place, whose property may be set
-abbrev pub settable_at : Definition → World → ℕ → ℕ → Answer ℕ
-settable_at d w place slot = held_object w place >>= λ id. spec_at d w.objects id slot >>= λ s. if_settable s (Ok id)
 
 -- what code that asks for memory answers is this, seen by view; or why it stopped
 abbrev pub Finds : {X Y : Type 0} → (X → Y) → Result X Halt → Answer Y → Type 0

@@ -100,9 +100,7 @@ fn pass_to(engine: &mut Engine, frame: Frame, value: &Option<Value>) -> Result<(
         push_frame(engine, frame)?;
         return Ok(());
     };
-    let Some(value) = value else {
-        unreachable!()
-    };
+    let Some(value) = value else { unreachable!() };
     let value = value.copied()?;
     receive(engine, frame, to, value)
 }

@@ -1,5 +1,5 @@
 -- A session in a turn.
-use Rattle.std.proofs.Common.{◌≡◌, refl, [], ◌∷◌, Some, arith}
+use Rattle.std.proofs.Common.{◌≡◌, refl, [], ◌∷◌, arith}
 use Rattle.ui_machine.specs.Output.Lines as output
 use Rattle.ui_machine.specs.State.Tasks.{Due, Event, emit, request, turn}
 use Rattle.ui_machine.specs.State.Config.{Config, World, said}

@@ -1,5 +1,5 @@
 -- What going on with an event asks is met by a session that is in a turn: of its two sources one has run, and the second is running.
-use Rattle.std.specs.Prelude.{◌≡◌, true, List, [], None, Some}
+use Rattle.std.specs.Prelude.{◌≡◌, true, [], None, Some}
 use Rattle.ui_machine.specs.Definition.{Definition}
 use Rattle.ui_machine.specs.State.Config.{Config, World}
 use Rattle.ui_machine.specs.State.Tasks.{turn}

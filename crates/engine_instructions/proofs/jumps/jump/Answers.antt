@@ -1,4 +1,4 @@
-use Rattle.std.proofs.Common.{ap, slice_get, sym, ◌∙◌, arith}
+use Rattle.std.proofs.Common.{ap, slice_get, arith}
 use Rattle.ui_machine.specs.Instructions.Jumps.{jumping}
 use Rattle.ui_machine.specs.Seq.{total}
 use Rattle.ui_machine.specs.State.References.{in_register}

@@ -1,5 +1,4 @@
 use Rattle.std.proofs.Common.{rules}
-use Rattle.ui_machine.specs.declared.arm.Halt.TheVariants as halts
 use Rattle.ui_machine.specs.Rules.NotifyQueue.{raised}
 use Rattle.ui_machine.specs.Rules.Sets.{raising}
 use Rattle.ui_machine.specs.State.Objects.{changed}

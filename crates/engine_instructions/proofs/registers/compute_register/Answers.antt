@@ -6,7 +6,7 @@ use Rattle.bytecode.specs.declared.computations.Computed.{Computed}
 use Rattle.frames.specs.FrameView.{frame_view}
 use Rattle.engine_world.specs.TaskView.{agenda_of}
 use Rattle.engine_world.specs.View.{world_of}
-use Rattle.engine_world.proofs.Ableness.{able_as, no_arm}
+use Rattle.engine_world.proofs.Ableness.{no_arm}
 use Rattle.engine_instructions.proofs.Programs.{left_stops}
 use Rattle.engine_instructions.proofs.registers.compute_register.Goals as goal
 

@@ -2,7 +2,6 @@ use Rattle.std.proofs.Common.{◌≡◌, ℕ, List, [], ◌∷◌, refl, sym, ap
 use Rattle.ui_machine.specs.Definition.Values.{Value}
 use Rattle.ui_machine.specs.State.Tasks.{Item, Task, Setting, Building}
 use Rattle.ui_machine.specs.State.Config.{starts}
-use Rattle.ui_machine.specs.Outcome.{◌>>=◌}
 use Rattle.engine_world.specs.EngineView.{config_of}
 use Rattle.ui_machine.specs.Rules.Build.{held_object, building, building_forward, set_forward}
 use Rattle.ui_machine.specs.Rules.Sets.{spec_at}

@@ -1,4 +1,3 @@
-use Rattle.std.proofs.Common.{◌≡◌, sym, subst}
 use Rattle.engine_world.specs.View.{world_of}
 use Rattle.engine_world.proofs.Ableness.{able_as, no_arm}
 use Rattle.engine_world.proofs.Details.{detail_heard, detail_unheard}

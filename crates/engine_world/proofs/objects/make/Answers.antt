@@ -1,4 +1,4 @@
-use Rattle.std.proofs.Common.{◌≡◌, ℕ, suc, false, Some, List, [], ◌∷◌, slice_get, length, string_bytes, rules, refl, sym, ap, arith, ◌∙◌}
+use Rattle.std.proofs.Common.{◌≡◌, ℕ, suc, false, Some, List, [], ◌∷◌, slice_get, length, string_bytes, refl, sym, ap, arith, ◌∙◌}
 use Rattle.ui_machine.specs.Definition.Lookups.{type_of, specs_of}
 use Rattle.ui_machine.specs.Output.Lines as lines
 use Rattle.ui_machine.specs.Output.Text.{text_of_line}
