@@ -3,7 +3,7 @@
 
 ghost use Rattle.sessions_worked.specs.InTurn.{MetInTurn};
 
-/// A session is in the middle of a turn: the dispatch of the first source has ended, and that of the second has counted a step. So it meets what
+/// A session is in the middle of a turn: the dispatch of the first source has counted a step, and the second source is left. So it meets what
 /// `Session::advance` asks.
 pub fn turn()
     ensures { MetInTurn }
