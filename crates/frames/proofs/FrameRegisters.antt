@@ -1,20 +1,18 @@
 -- The registers of a frame: as a program begins, as one is written, and as several are read.
-use Rattle.std.proofs.Common.{◌≡◌, ℕ, zero, suc, ◌+◌, ◌<◌, ◌≤◌, ◌++◌, List, [], ◌∷◌, Option, None, Some, option_map, map, length, drop, get_or, slice_set, nat_lt, true, Ok, Err, refl, sym, ap, subst, ◌∙◌, arith}
+use Rattle.std.proofs.Common.{◌≡◌, ℕ, zero, suc, ◌+◌, ◌<◌, ◌≤◌, ◌++◌, List, [], ◌∷◌, Option, None, Some, option_map, map, length, drop, get_or, slice_set, IsSome, Ok, Err, refl, sym, ap, ◌∙◌, arith}
 use Rattle.std.proofs.Math.Seq.{drop-cons}
-use Rattle.std.proofs.lemmas.Bool.{lt-ltb}
 use Rattle.std.proofs.lemmas.List.{append-nil, append_assoc, drop_all}
 use Rattle.ui_machine.specs.Definition.Values as values
 use Rattle.ui_machine.specs.declared.arm.Arm.TheVariants as arms
 use Rattle.ui_machine.specs.State.Tasks.{Frame, Registers}
 use Rattle.ui_machine.specs.Seq.{read, write}
-use Rattle.ui_machine.specs.Outcome.{Answer, known, only_if, ◌>>=◌}
-use Rattle.ui_machine.specs.Instructions.Registers.{value_in, values_in, with_register}
+use Rattle.ui_machine.specs.Outcome.{Answer, known, ◌>>=◌}
+use Rattle.ui_machine.specs.Instructions.Registers.{value_in, values_in}
 use Rattle.g_values.specs.View.{value_view}
 use Rattle.g_values.specs.declared.value.Value.{Value}
 use Rattle.bytecode.specs.declared.computations.Register.{Register}
 use Rattle.bytecode.specs.Computing.{registers_of}
 use Rattle.bytecode.specs.View.{number_of}
-use Rattle.bytecode.proofs.BlockShapes.{length_viewed}
 
 -- one more value was given to a register
 pub set_more : (rs : List (Option Value)) (vs : List Value) (v : Value) → registers_of rs ≡ map (λ v. Some v) (map value_view vs)
@@ -42,13 +40,10 @@ set_in [] i r h = absurd (omega (arith, h))
 set_in (x ∷ rs) zero r h = refl
 set_in (x ∷ rs) (suc i) r h = ap (λ l. option_map value_view x ∷ l) (set_in rs i r (omega (arith, h)))
 
--- a register as the frame is seen, before and after it is written
-pub put_in : (rs : List (Option Value)) (i : ℕ) (r : Option Value) → i < length rs
-    → with_register i (option_map value_view r) (registers_of rs) ≡ Ok (registers_of (slice_set rs i r))
-put_in rs i r h =
-    let inside : nat_lt i (length (registers_of rs)) ≡ true = subst (λ n. nat_lt i n ≡ true) (sym (length_viewed (option_map value_view) rs)) (lt-ltb i (length rs) h) in
-    ap (λ b. only_if b arms.Code (Ok (write None (registers_of rs) i (option_map value_view r)))) inside
-    ∙ ap (λ (l : Registers). Ok l) (set_in rs i r h)
+-- what is set is not unset
+pub is_set : {A : Type 0} (o : Option A) → IsSome o → o ≡ None → ⊥
+is_set None some e = absurd (cc)
+is_set (Some x) some e = absurd (cc)
 
 module _ (f : Frame) where
   -- the values of the registers from one on
@@ -67,13 +62,6 @@ module _ (f : Frame) where
       let one : suc i ≡ i + 1 = omega arith in
       ap (λ l. values_in f (map number_of l)) e
       ∙ ap (λ n. value_in f (at from i) >>= λ v. from_on from n >>= λ vs. Ok (v ∷ vs)) one
-
-  -- one of the registers is unset
-  pub unset_in : (from : List Register) (i : ℕ) (all : Answer (List values.Value)) (so_far : List values.Value) → i < length from
-      → all ≡ (from_on from i >>= λ vs. Ok (so_far ++ vs)) → read None f.registers (at from i) ≡ None → all ≡ Err arms.Register
-  unset_in from i all so_far h e unset =
-      e ∙ ap (λ (a : Answer (List values.Value)). a >>= λ vs. Ok (so_far ++ vs)) (taken from i h)
-      ∙ ap (λ o. (known arms.Register o >>= λ v. from_on from (i + 1) >>= λ vs. Ok (v ∷ vs)) >>= λ vs. Ok (so_far ++ vs)) unset
 
   behind : (so_far : List values.Value) (v : values.Value) (rest : Answer (List values.Value))
       → ((rest >>= λ vs. Ok (v ∷ vs)) >>= λ vs. Ok (so_far ++ vs)) ≡ (rest >>= λ vs. Ok ((so_far ++ v ∷ []) ++ vs))

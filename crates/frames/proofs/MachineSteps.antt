@@ -13,10 +13,10 @@ use Rattle.ui_machine.specs.Rules.Accumulation.{or_zero}
 use Rattle.ui_machine.specs.Rules.Sets.{has_kind}
 use Rattle.ui_machine.specs.Rules.Transform.{same_value, same_whole, transformed, wrapped, zero_value}
 use Rattle.ui_machine.specs.Instructions.Arithmetic.{reckoned, holds, of_one_kind, reckoning, comparing, sameness, negating, conjunction, disjunction, joining, converting, kind_of, gives_from, within_bytes, bytes_of}
-use Rattle.ui_machine.specs.Instructions.Registers.{gives, moving, text_in, truth_in, value_in, whole_in}
+use Rattle.ui_machine.specs.Instructions.Registers.{gives, moving, value_in, whole_in}
 use Rattle.ui_machine.specs.Instructions.Registers as machine
 use Rattle.g_values.specs.Arithmetic.{Pair, pair_of, calculated, compared}
-use Rattle.bytecode.specs.Computing.{convertible_in, converted_or_zero, may_convert, of_one, of_two, sameness_of, text_of, truth_of, value_or}
+use Rattle.frames.specs.Computing.{convertible_in, converted_or_zero, joined_in, may_convert, of_one, of_two, sameness_of, text_of, truth_in, truth_of, value_or}
 
 -- what is given where something is there, and the arm of registers where nothing is
 abbrev pub given : {X : Type 0} → (X → Answer Started) → Option X → Answer Started
@@ -113,7 +113,7 @@ module _ (w : World) (f : Frame) (to : ℕ) where
   truth_from x = known arms.Register x >>= machine.truth_of
 
   negated_given : (x : Option values.Value) → (truth_from x >>= (λ p. gives w to (truth (not p)) f))
-      ≡ given (λ v. gives w to v f) (option_map truth (of_one (λ u. option_map not (truth_of u)) x))
+      ≡ given (λ v. gives w to v f) (option_map truth (option_map not (of_one truth_of x)))
   negated_given None = refl
   negated_given (Some (values.bool b)) = refl
   negated_given (Some (values.whole k m)) = refl
@@ -123,8 +123,8 @@ module _ (w : World) (f : Frame) (to : ℕ) where
   negated_given (Some (values.object o)) = refl
 
   pub negates : (a : ℕ) → negating w f to a
-      ≡ given (λ v. gives w to v f) (option_map truth (of_one (λ u. option_map not (truth_of u)) (read None f.registers a)))
-  unfolding negating truth_in
+      ≡ given (λ v. gives w to v f) (option_map truth (option_map not (truth_in f.registers a)))
+  unfolding negating machine.truth_in
   negates a = negated_given (read None f.registers a)
 
   truth_is : (x : Option values.Value) → truth_from x ≡ known arms.Register (of_one truth_of x)
@@ -153,13 +153,13 @@ module _ (w : World) (f : Frame) (to : ℕ) where
         ∙ of_truths (of_one truth_of x) (of_one truth_of y)
 
   pub is_conjunction : (a b : ℕ) → conjunction w f to a b ≡ given (λ v. gives w to v f) (option_map truth
-      (of_two (λ p q. Some (p && q)) (of_one truth_of (read None f.registers a)) (of_one truth_of (read None f.registers b))))
-  unfolding conjunction truth_in
+      (of_two (λ p q. Some (p && q)) (truth_in f.registers a) (truth_in f.registers b)))
+  unfolding conjunction machine.truth_in
   is_conjunction a b = truths_given (λ p q. p && q) (read None f.registers a) (read None f.registers b)
 
   pub is_disjunction : (a b : ℕ) → disjunction w f to a b ≡ given (λ v. gives w to v f) (option_map truth
-      (of_two (λ p q. Some (p || q)) (of_one truth_of (read None f.registers a)) (of_one truth_of (read None f.registers b))))
-  unfolding disjunction truth_in
+      (of_two (λ p q. Some (p || q)) (truth_in f.registers a) (truth_in f.registers b)))
+  unfolding disjunction machine.truth_in
   is_disjunction a b = truths_given (λ p q. p || q) (read None f.registers a) (read None f.registers b)
 
   -- ** moves, texts and conversions
@@ -195,9 +195,8 @@ module _ (w : World) (f : Frame) (to : ℕ) where
     joined_given (Some (values.text s)) (Some (values.flags t m)) = refl
     joined_given (Some (values.text s)) (Some (values.object o)) = refl
 
-    pub joins : (a b : ℕ) → joining d w f to a b ≡ given (λ s. gives_from (within_bytes d w s) to f)
-        (of_two (λ s t. Some (s ++ t)) (of_one text_of (read None f.registers a)) (of_one text_of (read None f.registers b)))
-    unfolding joining text_in
+    pub joins : (a b : ℕ) → joining d w f to a b ≡ given (λ s. gives_from (within_bytes d w s) to f) (joined_in f.registers a b)
+    unfolding joining machine.text_in
     joins a b = joined_given (read None f.registers a) (read None f.registers b)
 
     or_zero-is : (kind : Kind) (o : Option values.Value) → or_zero d kind o ≡ value_or (zero_value d.types kind) o

@@ -1,15 +1,9 @@
 -- Programs that run, as the machine has them, and how they go on.
-use Rattle.std.specs.Prelude.{◌≡◌, ℕ, List, [], map, Option, None, Some, option_map, option_and_then, slice_get, Result, Ok, Err}
+use Rattle.std.specs.Prelude.{◌≡◌, ℕ, Option, None, Some, option_map, option_and_then, slice_get}
 use Rattle.ui_machine.specs.Definition.Programs.{passes_in}
-use Rattle.ui_machine.specs.declared.arm.Arm.{Arm}
-use Rattle.ui_machine.specs.declared.arm.Halt.{Halt}
 use Rattle.ui_machine.specs.Definition.Programs as words
-use Rattle.ui_machine.specs.Definition.Values as values
 use Rattle.ui_machine.specs.State.Tasks as config
 use Rattle.ui_machine.specs.Instructions.Jumps.{in_pass, past}
-use Rattle.ui_machine.specs.Outcome.{Answer, Stops}
-use Rattle.g_values.specs.View.{value_view}
-use Rattle.g_values.specs.declared.value.Value.{Value}
 pub use Rattle.frames.specs.declared.frame.Frame.{Frame}
 use Rattle.bytecode.specs.Computing.{registers_of}
 use Rattle.bytecode.specs.View.{number_of}
@@ -46,13 +40,3 @@ Takes (Some i) taken new = taken ≡ Some (record { instruction = i; frame = new
 -- the frame at the first instruction of a block
 abbrev pub at_block : ℕ → config.Frame → words.Block → config.Frame
 at_block to f b = record f { block = to; at = 0; passes = passes_in b }
-
--- What a register held before it was written, and the frame with the registers then. Where there is no such register, the frame stays.
-abbrev pub Puts : Result (Option Value) Arm → Answer config.Registers → Option values.Value → (old new : config.Frame) → Type 0
-Puts (Ok held) written was old new = (written ≡ Ok new.registers) × (new ≡ record old { registers = new.registers }) × (option_map value_view held ≡ was)
-Puts (Err arm) written was old new = (written ≡ Err arm) × (new ≡ old)
-
--- The code's answer, seen by view, is the machine's, unless memory ran out.
-abbrev pub Answers : {X Y : Type 0} → (X → Y) → Result X Halt → Answer Y → Type 0
-Answers view (Ok x) answer = answer ≡ Ok (view x)
-Answers view (Err halt) answer = Stops halt answer

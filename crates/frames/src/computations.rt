@@ -1,75 +1,73 @@
 //! How a computation is carried out.
 
-ghost use Rattle.std.specs.Prelude.{◌≡◌, ◌&&◌, ◌||◌, not, true, false, None, Some, option_map, IfOk, MatchOption, Ok, Err};
+ghost use Rattle.std.specs.Prelude.{◌≡◌, ◌&&◌, ◌||◌, ◌++◌, not, true, false, None, Some, IfOk, IfSome, IsSome, OnErr};
+ghost use Rattle.std.specs.Option.{option_map};
 ghost use Rattle.ui_machine.specs.Seq.{read};
 ghost use Rattle.ui_machine.specs.Definition.Values as values;
-ghost use Rattle.ui_machine.specs.declared.arm.Arm.TheVariants as arms;
-ghost use Rattle.ui_machine.specs.declared.arm.Halt.TheVariants as halts;
-ghost use Rattle.bytecode.specs.declared.computations.Computed.TheVariants as computed;
 ghost use Rattle.ui_machine.specs.Rules.Sets.{has_kind};
 ghost use Rattle.ui_machine.specs.Instructions.Arithmetic as instructions;
 ghost use Rattle.ui_machine.specs.Instructions.Arithmetic.{is_object_kind};
 ghost use Rattle.g_values.specs.Arithmetic.{calculated, compared};
 ghost use Rattle.g_values.specs.View.{kind_view, value_view, IsKnown};
-ghost use Rattle.bytecode.specs.Computing.{Computes, HasKnownKind, Joins, registers_of, instruction_of, makes_text, operation_of, comparison_of, of_one, of_two, sameness_of, text_of, truth_of, Copies, JoinsRegisters, Converts, converted_or_zero, may_convert};
+ghost use Rattle.bytecode.specs.Computing.{HasKnownKind, registers_of, instruction_of, operation_of, comparison_of};
+ghost use Rattle.frames.specs.Computing.{Computes, IsValue, Joins, Reads, convertible_in, converted_or_zero, joined_in, makes_text, of_two, sameness_of, truth_in};
 
 use crate::operands::{text_at, truth_at, value_at};
 use bytecode::{Arithmetic, Comparison, Computation, Computed, Register};
 use g_values::{
     Kind, TransformError, Value, is_at_most, is_equal, is_less, is_same, kind_of, transform,
-    transformable, wrapping_difference, wrapping_product, wrapping_sum, zero_of,
+    wrapping_difference, wrapping_product, wrapping_sum, zero_of,
 };
 use std::alloc::{AllocError, Global};
 use std::rc::RcStr;
 use type_tree::TypeTree;
-use ui_machine::{Arm, Halt};
 
 /// The most bytes of a text that `join` makes.
 pub const MOST_TEXT_BYTES: usize = 4096;
 
-/// Computes the value for the register that is written, from the registers as they are.
+/// Computes the value for the register that is written, from the registers as they are. Those that it reads are set, with values of the kinds
+/// that the instruction asks for.
 ///
 /// # Errors
 ///
-/// `Stuck(Register)` where a register that is read is unset or of another kind than the instruction asks for. `OutOfMemory` where
-/// a text can't be made or shared; only `const`, `move`, `join` and `convert` do that. Nothing is changed.
+/// `AllocError` where a text can't be made or shared; only `const`, `move`, `join` and `convert` do that. Nothing is changed.
 pub fn compute(
     alloc: Global,
     tree: &TypeTree,
     registers: &[Option<Value>],
     computation: &Computation,
-) -> Result<Computed, Halt>
-    requires { HasKnownKind tree.now computation.now }
-    ensures computed { Computes result tree.now (registers_of registers.now) (instruction_of computation.now) }
-    ensures memory { result ≡ Err halts.OutOfMemory → makes_text computation.now ≡ true }
+) -> Result<Computed, AllocError>
+    requires known { HasKnownKind tree.now computation.now }
+    requires reads { Reads tree.now (registers_of registers.now) computation.now }
+    ensures computed { IfOk result (λ c. Computes c tree.now (registers_of registers.now) (instruction_of computation.now)) }
+    ensures memory { OnErr result (makes_text computation.now ≡ true) }
 {
     match computation {
         Computation::Const(value) => Ok(Computed::Value(value.copied()?)),
         Computation::Move(from) => moved(registers, *from),
         Computation::Clear => Ok(Computed::Unset),
         Computation::Arithmetic(operation, a, b) => {
-            or_stuck(reckoned(registers, *operation, *a, *b))
+            Ok(known(reckoned(registers, *operation, *a, *b)))
         }
         Computation::Compare(comparison, a, b) => {
-            or_stuck(truth_value(comparison_at(registers, *comparison, *a, *b)))
+            Ok(known(truth_value(comparison_at(registers, *comparison, *a, *b))))
         }
-        Computation::Same(a, b) => or_stuck(truth_value(sameness_at(registers, *a, *b))),
-        Computation::Not(a) => or_stuck(truth_value(negation_at(registers, *a))),
-        Computation::And(a, b) => or_stuck(truth_value(conjunction_at(registers, *a, *b))),
-        Computation::Or(a, b) => or_stuck(truth_value(disjunction_at(registers, *a, *b))),
+        Computation::Same(a, b) => Ok(known(truth_value(sameness_at(registers, *a, *b)))),
+        Computation::Not(a) => Ok(known(truth_value(negation_at(registers, *a)))),
+        Computation::And(a, b) => Ok(known(truth_value(conjunction_at(registers, *a, *b)))),
+        Computation::Or(a, b) => Ok(known(truth_value(disjunction_at(registers, *a, *b)))),
         Computation::Join(a, b) => joined(alloc, registers, *a, *b),
         Computation::Convert(a, kind) => converted(alloc, tree, registers, *a, kind),
     }
 }
 
-// What was computed, or that a register is not as it has to be.
-fn or_stuck(value: Option<Value>) -> Result<Computed, Halt>
-    ensures { MatchOption value (result ≡ Err (halts.Stuck arms.Register)) (λ v. result ≡ Ok (computed.Value v)) }
+// The value that was computed of registers that are as they have to be.
+fn known(value: Option<Value>) -> Computed
+    requires { IsSome value }
+    ensures { IsValue (option_map value_view value) result }
 {
-    match value {
-        Some(value) => Ok(Computed::Value(value)),
-        None => Err(Halt::Stuck(Arm::Register)),
-    }
+    let Some(value) = value else { unreachable!() };
+    Computed::Value(value)
 }
 
 fn truth_value(truth: Option<bool>) -> Option<Value>
@@ -78,13 +76,15 @@ fn truth_value(truth: Option<bool>) -> Option<Value>
     Some(Value::Bool(truth?))
 }
 
-fn moved(registers: &[Option<Value>], from: Register) -> Result<Computed, Halt>
-    ensures { Copies result (read None (registers_of registers.now) from.0) }
+// The value of a register once more.
+fn moved(registers: &[Option<Value>], from: Register) -> Result<Computed, AllocError>
+    requires { IsSome (read None (registers_of registers.now) from.0) }
+    ensures { IfOk result (IsValue (read None (registers_of registers.now) from.0)) }
 {
-    match value_at(registers, from) {
-        Some(value) => Ok(Computed::Value(value.copied()?)),
-        None => Err(Halt::Stuck(Arm::Register)),
-    }
+    let Some(value) = value_at(registers, from) else {
+        unreachable!()
+    };
+    Ok(Computed::Value(value.copied()?))
 }
 
 // The sum, the difference or the product of two registers.
@@ -150,13 +150,13 @@ fn is_of_one_kind(u: &Value, v: &Value) -> bool
 }
 
 fn negation_at(registers: &[Option<Value>], a: Register) -> Option<bool>
-    ensures { result ≡ of_one (λ u. option_map not (truth_of u)) (read None (registers_of registers.now) a.0) }
+    ensures { result ≡ option_map not (truth_in (registers_of registers.now) a.0) }
 {
     Some(!truth_at(registers, a)?)
 }
 
 fn conjunction_at(registers: &[Option<Value>], a: Register, b: Register) -> Option<bool>
-    ensures { result ≡ of_two (λ p q. Some (p && q)) (of_one truth_of (read None (registers_of registers.now) a.0)) (of_one truth_of (read None (registers_of registers.now) b.0)) }
+    ensures { result ≡ of_two (λ p q. Some (p && q)) (truth_in (registers_of registers.now) a.0) (truth_in (registers_of registers.now) b.0) }
 {
     match (truth_at(registers, a), truth_at(registers, b)) {
         (Some(p), Some(q)) => Some(p && q),
@@ -165,7 +165,7 @@ fn conjunction_at(registers: &[Option<Value>], a: Register, b: Register) -> Opti
 }
 
 fn disjunction_at(registers: &[Option<Value>], a: Register, b: Register) -> Option<bool>
-    ensures { result ≡ of_two (λ p q. Some (p || q)) (of_one truth_of (read None (registers_of registers.now) a.0)) (of_one truth_of (read None (registers_of registers.now) b.0)) }
+    ensures { result ≡ of_two (λ p q. Some (p || q)) (truth_in (registers_of registers.now) a.0) (truth_in (registers_of registers.now) b.0) }
 {
     match (truth_at(registers, a), truth_at(registers, b)) {
         (Some(p), Some(q)) => Some(p || q),
@@ -173,23 +173,25 @@ fn disjunction_at(registers: &[Option<Value>], a: Register, b: Register) -> Opti
     }
 }
 
+// The texts of two registers as one, unless it is too long.
 fn joined(
     alloc: Global,
     registers: &[Option<Value>],
     a: Register,
     b: Register,
-) -> Result<Computed, Halt>
-    ensures { JoinsRegisters result (of_one text_of (read None (registers_of registers.now) a.0)) (of_one text_of (read None (registers_of registers.now) b.0)) }
+) -> Result<Computed, AllocError>
+    requires { IsSome (joined_in (registers_of registers.now) a.0 b.0) }
+    ensures { IfOk result (λ c. IfSome (joined_in (registers_of registers.now) a.0 b.0) (Joins c)) }
 {
-    match (text_at(registers, a), text_at(registers, b)) {
-        (Some(front), Some(back)) => Ok(join(alloc, front, back)?),
-        _ => Err(Halt::Stuck(Arm::Register)),
-    }
+    let (Some(front), Some(back)) = (text_at(registers, a), text_at(registers, b)) else {
+        unreachable!()
+    };
+    join(alloc, front, back)
 }
 
 // Two texts as one, unless it is too long.
 fn join(alloc: Global, front: &str, back: &str) -> Result<Computed, AllocError>
-    ensures { IfOk result (λ c. Joins c front.now back.now) }
+    ensures { IfOk result (λ c. Joins c (front.now ++ back.now)) }
 {
     if front.len() + back.len() > MOST_TEXT_BYTES {
         return Ok(Computed::TooLong);
@@ -201,24 +203,22 @@ fn join(alloc: Global, front: &str, back: &str) -> Result<Computed, AllocError>
     Ok(Computed::Value(Value::Text(Some(joined))))
 }
 
+// The value of a register as one of the kind.
 fn converted(
     alloc: Global,
     tree: &TypeTree,
     registers: &[Option<Value>],
     a: Register,
     kind: &Kind,
-) -> Result<Computed, Halt>
-    requires { IsKnown tree.now kind.now }
-    ensures { Converts result tree.now (read None (registers_of registers.now) a.0) (kind_view kind.now) }
+) -> Result<Computed, AllocError>
+    requires known { IsKnown tree.now kind.now }
+    requires convertible { IsSome (convertible_in tree.now (kind_view kind.now) (read None (registers_of registers.now) a.0)) }
+    ensures { IfOk result (IsValue (convertible_in tree.now (kind_view kind.now) (read None (registers_of registers.now) a.0))) }
 {
     let Some(value) = value_at(registers, a) else {
-        return Err(Halt::Stuck(Arm::Register));
+        unreachable!()
     };
-    if is_convertible(tree, value, kind) {
-        Ok(Computed::Value(conversion(alloc, tree, value, kind)?))
-    } else {
-        Err(Halt::Stuck(Arm::Register))
-    }
+    Ok(Computed::Value(conversion(alloc, tree, value, kind)?))
 }
 
 // A value as one of the kind, or else the kind's zero value.
@@ -237,11 +237,4 @@ fn conversion(
         Err(TransformError::Refused(_)) => Ok(zero_of(tree, *kind)),
         Err(TransformError::OutOfMemory) => Err(AllocError),
     }
-}
-
-// Whether a value may be converted: to what it is transformable to, but for objects.
-fn is_convertible(tree: &TypeTree, value: &Value, kind: &Kind) -> bool
-    ensures { result ≡ may_convert tree.now (value_view value.now) (kind_view kind.now) }
-{
-    !matches!(kind, Kind::Object(_)) && transformable(tree, kind_of(value), *kind)
 }

@@ -3,22 +3,20 @@
 //! A frame says to which instruction a program has come, and what its registers hold. It is the machine's frame. What the registers name is held
 //! by whoever keeps the frame: nothing is counted here, so that a register that is written gives back what it held.
 
-ghost use Rattle.std.specs.Prelude.{◌≡◌, None, Some, option_map, map, slice_get, IfErr, IfOk, OnErr, OnOk};
-ghost use Rattle.ui_machine.specs.declared.arm.Arm.TheVariants as arms;
+ghost use Rattle.std.specs.Prelude.{◌≡◌, ◌<◌, length, None, Some, option_map, map, slice_get, IfOk, IsSome};
 ghost use Rattle.ui_machine.specs.Instructions.Jumps.{is_again};
-ghost use Rattle.ui_machine.specs.Instructions.Registers.{with_register};
 ghost use Rattle.ui_machine.specs.Rules.Programs.{first_frame, first_registers};
-ghost use Rattle.ui_machine.specs.Seq.{read};
+ghost use Rattle.ui_machine.specs.Seq.{read, write};
 ghost use Rattle.g_values.specs.View.{value_view};
 ghost use Rattle.bytecode.specs.Computing.{registers_of};
-ghost use Rattle.frames.specs.FrameView.{Puts, Takes, at_block, frame_view, taken_in};
+ghost use Rattle.frames.specs.FrameView.{Takes, at_block, frame_view, taken_in};
 ghost use Rattle.bytecode.specs.View.{block_view, instruction_view, program_view};
 
 use bytecode::{Block, BlockNumber, Instruction, Program, Register};
 use g_values::Value;
 use std::alloc::{AllocError, Global};
 use std::mem;
-use ui_machine::{Arm, ProgramId};
+use ui_machine::ProgramId;
 
 /// A program that runs.
 #[derive(Debug, Drop)]
@@ -109,38 +107,26 @@ impl Frame {
         Some(instruction)
     }
 
-    /// Goes on at the first instruction of a block. `Arm::Code` where the frame's program has no such block; then nothing is changed.
-    ///
-    /// # Errors
-    ///
-    /// The arm by which the machine is stuck here, if it is. Nothing has changed then.
-    pub fn jump(&mut self, program: &Program, to: BlockNumber) -> Result<(), Arm>
-        ensures ok { OnOk result (option_map (at_block to.0 (frame_view self.old)) (slice_get (program_view program.now).blocks to.0) ≡ Some (frame_view self.new)) }
-        ensures err { OnErr result (slice_get (program_view program.now).blocks to.0 ≡ None) }
-        ensures arm { IfErr result (λ arm. arm ≡ arms.Code) }
-        ensures same { OnErr result (self.new ≡ self.old) }
+    /// Goes on at the first instruction of a block of the frame's program.
+    pub fn jump(&mut self, program: &Program, to: BlockNumber)
+        requires block { IsSome (slice_get (program_view program.now).blocks to.0) }
+        ensures { option_map (at_block to.0 (frame_view self.old)) (slice_get (program_view program.now).blocks to.0) ≡ Some (frame_view self.new) }
     {
         let Some(block) = program.block(to) else {
-            return Err(Arm::Code);
+            unreachable!()
         };
         self.block = to;
         self.at = 0;
         self.passes = block.passes();
-        Ok(())
     }
 
-    /// Writes a register, or unsets it, and answers what it held. `Arm::Code` where there is no such register; then nothing is changed.
-    ///
-    /// # Errors
-    ///
-    /// The arm by which the machine is stuck here, if it is.
-    pub fn put(&mut self, to: Register, value: Option<Value>) -> Result<Option<Value>, Arm>
-        ensures { Puts result (with_register to.0 (option_map value_view value) (frame_view self.old).registers) (read None (frame_view self.old).registers to.0) (frame_view self.old) (frame_view self.new) }
+    /// Writes a register that there is, or unsets it, and answers what it held.
+    pub fn put(&mut self, to: Register, value: Option<Value>) -> Option<Value>
+        requires register { to.0 < length (frame_view self.now).registers }
+        ensures written { (frame_view self.new).registers ≡ write None (frame_view self.old).registers to.0 (option_map value_view value) }
+        ensures beside { frame_view self.new ≡ record (frame_view self.old) { registers = (frame_view self.new).registers } }
+        ensures held { option_map value_view result ≡ read None (frame_view self.old).registers to.0 }
     {
-        if to.0 >= self.registers.len() {
-            return Err(Arm::Code);
-        }
-        let old = mem::replace(&mut self.registers[to.0], value);
-        Ok(old)
+        mem::replace(&mut self.registers[to.0], value)
     }
 }

@@ -1,19 +1,19 @@
 //! The operands of instructions: registers that have to be set, with values of the kind that is asked for.
 
-ghost use Rattle.std.specs.Prelude.{◌≡◌, map, option_map, None};
+ghost use Rattle.std.specs.Prelude.{◌≡◌, All, IfOk, IsOk, IsSome, None, Ok, map, option_map};
 ghost use Rattle.ui_machine.specs.Instructions.Registers.{values_in};
 ghost use Rattle.ui_machine.specs.Seq.{read};
 ghost use Rattle.ui_machine.specs.State.Tasks.{Frame};
 ghost use Rattle.g_values.specs.View.{value_view};
-ghost use Rattle.bytecode.specs.Computing.{of_one, registers_of, text_of, truth_of};
-ghost use Rattle.frames.specs.FrameView.{Answers};
-ghost use Rattle.frames.specs.Operand.{Shows, data_in, identity_in, number_of_object};
+ghost use Rattle.bytecode.specs.Computing.{registers_of};
 ghost use Rattle.bytecode.specs.View.{number_of};
+ghost use Rattle.frames.specs.Computing.{text_in, truth_in};
+ghost use Rattle.frames.specs.Operand.{identity_in};
 
 use bytecode::Register;
 use g_values::Value;
-use std::alloc::Global;
-use ui_machine::{Arm, Halt, ObjectId};
+use std::alloc::{AllocError, Global};
+use ui_machine::ObjectId;
 
 /// The value of a register, if it is set.
 pub fn value_at(registers: &[Option<Value>], at: Register) -> Option<&Value>
@@ -26,22 +26,23 @@ pub fn value_at(registers: &[Option<Value>], at: Register) -> Option<&Value>
     }
 }
 
-/// The values of some registers.
+/// The values of some registers, which are all set.
 ///
 /// # Errors
 ///
-/// `Stuck(Register)` where one of them is unset. `OutOfMemory` where the list or a text can't be made or shared.
+/// `AllocError` where the list or a text can't be made or shared.
 pub fn values_at(
     alloc: Global,
     registers: &[Option<Value>],
     from: &[Register],
-) -> Result<Vec<Value>, Halt>
-    ensures { (f : Frame) → f.registers ≡ registers_of registers.now → Answers (λ vs. map value_view vs.items) result (values_in f (map number_of from.now)) }
+) -> Result<Vec<Value>, AllocError>
+    requires set { All (λ r. IsSome (read None (registers_of registers.now) (number_of r))) from.now }
+    ensures { (f : Frame) → f.registers ≡ registers_of registers.now → IfOk result (λ vs. values_in f (map number_of from.now) ≡ Ok (map value_view vs.items)) }
 {
     let mut values = Vec::new(alloc);
     for register in from {
         let Some(value) = value_at(registers, *register) else {
-            return Err(Halt::Stuck(Arm::Register));
+            unreachable!()
         };
         values.push(value.copied()?)?;
     }
@@ -50,7 +51,7 @@ pub fn values_at(
 
 /// The truth value in a register, if it has one.
 pub fn truth_at(registers: &[Option<Value>], at: Register) -> Option<bool>
-    ensures { result ≡ of_one truth_of (read None (registers_of registers.now) at.0) }
+    ensures { result ≡ truth_in (registers_of registers.now) at.0 }
 {
     match value_at(registers, at)? {
         Value::Bool(truth) => Some(*truth),
@@ -60,7 +61,7 @@ pub fn truth_at(registers: &[Option<Value>], at: Register) -> Option<bool>
 
 /// The text in a register, if it has one. Null is empty.
 pub fn text_at(registers: &[Option<Value>], at: Register) -> Option<&str>
-    ensures { option_map (λ s. s.now) result ≡ of_one text_of (read None (registers_of registers.now) at.0) }
+    ensures { option_map (λ s. s.now) result ≡ text_in (registers_of registers.now) at.0 }
 {
     match value_at(registers, at)? {
         Value::Text(Some(text)) => Some(text.as_str()),
@@ -69,35 +70,13 @@ pub fn text_at(registers: &[Option<Value>], at: Register) -> Option<&str>
     }
 }
 
-/// The object that a register names. `Arm::Register` where the register is unset or has a value of another kind, `Arm::Operand` where it has
-/// null. Whether the object lives is not answered.
-///
-/// # Errors
-///
-/// The arm by which the machine is stuck here, if it is.
-pub fn identity_at(registers: &[Option<Value>], at: Register) -> Result<ObjectId, Arm>
-    ensures { Shows number_of_object result (identity_in (registers_of registers.now) at.0) }
+/// The object that a register names, of which nothing says here whether it lives.
+pub fn identity_at(registers: &[Option<Value>], at: Register) -> ObjectId
+    requires { IsOk (identity_in (registers_of registers.now) at.0) }
+    ensures { identity_in (registers_of registers.now) at.0 ≡ Ok result.0 }
 {
-    match value_at(registers, at) {
-        Some(Value::Object(_, Some(id))) => Ok(*id),
-        Some(Value::Object(_, None)) => Err(Arm::Operand),
-        _ => Err(Arm::Register),
-    }
-}
-
-/// The object that is the data of a handler or a source, if there is a register for it.
-///
-/// # Errors
-///
-/// The arm by which the machine is stuck here, if it is.
-pub fn data_at(registers: &[Option<Value>], at: Option<Register>) -> Result<Option<ObjectId>, Arm>
-    ensures { Shows (option_map number_of_object) result (data_in (registers_of registers.now) (option_map number_of at)) }
-{
-    match at {
-        Some(register) => match identity_at(registers, register) {
-            Ok(id) => Ok(Some(id)),
-            Err(arm) => Err(arm),
-        },
-        None => Ok(None),
-    }
+    let Some(Value::Object(_, Some(id))) = value_at(registers, at) else {
+        unreachable!()
+    };
+    *id
 }

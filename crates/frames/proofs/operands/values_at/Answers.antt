@@ -1,4 +1,4 @@
-use Rattle.std.proofs.Common.{◌≡◌, ◌++◌, ◌∷◌, [], None, Some, get_or, map, option_map, sym, ap, ◌∙◌}
+use Rattle.std.proofs.Common.{◌≡◌, None, Some, get_or, map, sym, ap, ◌∙◌}
 use Rattle.std.proofs.lemmas.List.{map_push}
 use Rattle.ui_machine.specs.Seq.{read}
 use Rattle.ui_machine.specs.State.Tasks.{Registers}
@@ -6,16 +6,13 @@ use Rattle.ui_machine.specs.Instructions.Registers.{values_in}
 use Rattle.g_values.specs.View.{value_view}
 use Rattle.bytecode.specs.declared.computations.Register.{Register}
 use Rattle.bytecode.specs.View.{number_of}
-use Rattle.frames.proofs.FrameRegisters.{read_all, read_more, unset_in}
+use Rattle.frames.proofs.FrameRegisters.{is_set, read_all, read_more}
 use Rattle.frames.proofs.operands.values_at.Goals as goal
 
-pub returns-in_default : goal.returns-in_default
-returns-in_default c = λ f same.
-    let from = c.args.from.now in
-    let i = c.loop-register.register-index in
+pub unreachable-requires : goal.unreachable-requires
+unreachable-requires c =
     let none : Register = record { 0 = 0 } in
-    unset_in f from i (values_in f (map number_of from)) (map value_view c.loop-register.values.items) c.loop-register-test.true (c.loop-register.invariant f same)
-    (ap (λ (rs : Registers). read None rs (get_or from i none).0) same ∙ sym c.in_default.ensures)
+    is_set _ (c.requires.set c.loop-register.register-index none c.loop-register-test.true) (sym c.in_default.ensures)
 
 pub loop-register-preserved : goal.loop-register-preserved
 loop-register-preserved c = λ f same.
