@@ -1,5 +1,5 @@
 -- Where a program goes on, by what its registers hold.
-use Rattle.std.proofs.Common.{◌≡◌, ◌∙◌, sym, ap, refl, ℕ, Bool, true, false, cond, List, [], ◌∷◌, Option, None, Some, option_map, slice_get, Ok, Err}
+use Rattle.std.proofs.Common.{◌≡◌, ◌∙◌, sym, ap, refl, ℕ, Bool, true, false, cond, List, [], ◌∷◌, Option, None, Some, IsSome, option_map, slice_get, Ok, Err}
 use Rattle.ui_machine.specs.declared.arm.Arm.{Arm}
 use Rattle.ui_machine.specs.declared.arm.Arm.TheVariants as arms
 use Rattle.ui_machine.specs.Definition.{Definition}
@@ -16,7 +16,7 @@ use Rattle.ui_machine.specs.Seq.{read}
 use Rattle.ui_machine.specs.State.Config.{Started, World}
 use Rattle.ui_machine.specs.State.Tasks.{Frame, Running, Task}
 use Rattle.ui_machine.specs.Steps.{left}
-use Rattle.bytecode.specs.Computing.{of_one, truth_of}
+use Rattle.frames.specs.Computing.{of_one, truth_of}
 use Rattle.frames.specs.FrameView.{at_block}
 use Rattle.frames.proofs.FrameSteps.{jumping_there}
 use Rattle.engine_world.specs.EngineView.{config_of}
@@ -105,6 +105,11 @@ module _ (d : Definition) (w : World) (f : Frame) where
         by (Some (values.enum type n)) e = refl
         by (Some (values.flags type bits)) e = refl
         by (Some (values.object i)) e = absurd (cc e)
+
+-- what is not missing is there
+pub is_there : {X : Type 0} (o : Option X) → (o ≡ None → ⊥) → IsSome o
+is_there None never = absurd (never refl)
+is_there (Some x) never = refl
 
 -- a jump leaves the registers
 pub jump_keeps : (to : ℕ) (f new : Frame) (b : Option Block) → option_map (at_block to f) b ≡ Some new → new.registers ≡ f.registers

@@ -1,5 +1,5 @@
 -- What instructions on objects come to, by what they find.
-use Rattle.std.proofs.Common.{◌≡◌, ◌∙◌, refl, ap, subst, ℕ, Bool, true, false, not, cond, List, [], ◌∷◌, Option, None, Some, IsSome, is_some, Ok, Err}
+use Rattle.std.proofs.Common.{◌≡◌, ◌∙◌, refl, ap, subst, arith, ℕ, zero, suc, map, All, Bool, true, false, not, cond, List, [], ◌∷◌, Option, None, Some, IsSome, is_some, Ok, Err}
 use Rattle.ui_machine.specs.declared.arm.Arm.{Arm}
 use Rattle.ui_machine.specs.declared.arm.Arm.TheVariants as arms
 use Rattle.ui_machine.specs.declared.arm.Halt.{Halt}
@@ -9,7 +9,7 @@ use Rattle.ui_machine.specs.Definition.Places.{Place}
 use Rattle.ui_machine.specs.Definition.Values.{Value}
 use Rattle.ui_machine.specs.Definition.Values as values
 use Rattle.ui_machine.specs.Instructions.Objects.{disposed_once, disposing, freezing, look_up_object, or_null, orphaning, sinking, thaw_notify}
-use Rattle.ui_machine.specs.Instructions.Registers.{gives, goes_on, identity_of, operand_in, value_in}
+use Rattle.ui_machine.specs.Instructions.Registers.{gives, goes_on, identity_of, operand_in, value_in, values_in}
 use Rattle.ui_machine.specs.Outcome.{After, Answer, Stops, known, only_if, ◌>>=◌}
 use Rattle.ui_machine.specs.Rules.Build.{identity_held}
 use Rattle.ui_machine.specs.Rules.Children.{orphaned}
@@ -19,7 +19,10 @@ use Rattle.ui_machine.specs.Rules.NotifyQueue.{frozen_less, frozen_more}
 use Rattle.ui_machine.specs.Rules.Sets.{is_disposed}
 use Rattle.ui_machine.specs.State.Config.{BuilderEntry, Started, World, built, builder_entry, released, sunk, unbuilt, with_objects}
 use Rattle.ui_machine.specs.State.Objects.{Object, Objects, changed, living, object_at}
-use Rattle.ui_machine.specs.State.Tasks.{Frame, Thawing}
+use Rattle.ui_machine.specs.State.Tasks.{Frame, Registers, Thawing}
+use Rattle.ui_machine.specs.Seq.{read}
+use Rattle.bytecode.specs.View.{number_of}
+use Rattle.bytecode.specs.declared.computations.Register.{Register}
 use Rattle.frames.specs.Operand.{identity_in}
 use Rattle.instance_tables.specs.Family.{parent_in}
 use Rattle.engine_world.specs.Able.{Able}
@@ -55,6 +58,22 @@ operand_by w f from id is = by (value_in f from) ∙ ap (λ (a : Answer ℕ). a 
         ≡ ((v >>= identity_of) >>= λ i. only_if (is_some (living w.objects i)) arms.Operand (Ok i))
     by (Err arm) = refl
     by (Ok v) = refl
+
+-- the registers are set whose values no arm stops
+pub all_set : (f : Frame) (from : List Register) (rs : Registers) → f.registers ≡ rs → Able (values_in f (map number_of from)) → All (λ r. IsSome (read None rs (number_of r))) from
+unfolding values_in
+all_set f [] rs same able k x less = absurd (omega (arith, less))
+all_set f (r ∷ from) rs same able zero x less = subst (λ (us : Registers). IsSome (read None us (number_of r))) same (set_first (read None f.registers (number_of r)) able)
+  where
+    set_first : (o : Option Value) → Able (known arms.Register o >>= λ v. values_in f (map number_of from) >>= λ vs. Ok (v ∷ vs)) → IsSome o
+    set_first None may = absurd may
+    set_first (Some v) may = refl
+all_set f (r ∷ from) rs same able (suc k) x less = all_set f from rs same (set_later (read None f.registers (number_of r)) (values_in f (map number_of from)) able) k x (omega (arith, less))
+  where
+    set_later : (o : Option Value) (rest : Answer (List Value)) → Able (known arms.Register o >>= λ v. rest >>= λ vs. Ok (v ∷ vs)) → Able rest
+    set_later None rest may = absurd may
+    set_later (Some v) (Ok vs) may = tt
+    set_later (Some v) (Err arm) may = may
 
 -- ** `object`
 

@@ -89,9 +89,7 @@ fn accumulate(
 {
     let object = cursor.object();
     let number = cursor.signal();
-    let Ok(class) = engine.world.table.class_of(object) else {
-        unreachable!()
-    };
+    let class = engine.world.table.class_of(object);
     let Some(signal) = definition.signal(class, number) else {
         unreachable!()
     };

@@ -26,7 +26,6 @@ use engine_world::engine::Engine;
 use engine_world::program_frames::push_frame;
 use engine_world::references::push_task;
 use engine_world::task::{DueCall, Task};
-use engine_world::unstuck::rule_out_stuck;
 use frames::{Frame, values_at};
 use peer_shapes::MethodRef;
 use std::alloc::AllocError;
@@ -86,7 +85,7 @@ fn due_call(
     };
     let registers = frame.registers.as_slice();
     let from = call.args.as_slice();
-    let args = rule_out_stuck(values_at(engine.alloc, registers, from))?;
+    let args = values_at(engine.alloc, registers, from)?;
     Ok(DueCall {
         object,
         peer: called.peer,

@@ -21,7 +21,6 @@ use engine_world::engine::Engine;
 use engine_world::program_frames::push_frame;
 use engine_world::references::push_task;
 use engine_world::task::{NewEmission, Task};
-use engine_world::unstuck::rule_out_stuck;
 use frames::{Frame, values_at};
 use std::alloc::AllocError;
 use ui_machine::{ObjectId, SignalId};
@@ -46,9 +45,7 @@ pub(crate) fn signal_in(
     requires able { Able (signal_in definition.now (world_of engine.now.world) object.0 name.now) }
     ensures { signal_in definition.now (world_of engine.now.world) object.0 name.now ≡ Ok result }
 {
-    let Ok(class) = engine.world.table.class_of(object) else {
-        unreachable!()
-    };
+    let class = engine.world.table.class_of(object);
     let Some(number) = definition.signal_number(class, name) else {
         unreachable!()
     };
@@ -70,7 +67,7 @@ fn new_emission(
     let signal = signal_in(engine, definition, object, emit.signal);
     let detail = detail_in(engine, definition, object, signal, emit.detail)?;
     let registers = frame.registers.as_slice();
-    let args = rule_out_stuck(values_at(engine.alloc, registers, emit.args))?;
+    let args = values_at(engine.alloc, registers, emit.args)?;
     Ok(NewEmission {
         object,
         signal,

@@ -6,7 +6,8 @@ ghost use Rattle.ui_machine.specs.Instructions.{in_front};
 ghost use Rattle.ui_machine.specs.Instructions.Jumps.{branching, branching_null, jumping};
 ghost use Rattle.ui_machine.specs.Seq.{read};
 ghost use Rattle.ui_machine.specs.Steps.{left};
-ghost use Rattle.bytecode.specs.Computing.{of_one, registers_of};
+ghost use Rattle.bytecode.specs.Computing.{registers_of};
+ghost use Rattle.frames.specs.Computing.{of_one};
 ghost use Rattle.frames.specs.FrameView.{frame_view};
 ghost use Rattle.bytecode.specs.View.{program_view};
 ghost use Rattle.engine_world.specs.Able.{Able, Leads};
@@ -55,9 +56,7 @@ pub(crate) fn jump(
 {
     // For the proof: the clauses speak of the definition.
     let _ = definition;
-    let Ok(()) = frame.jump(program, to) else {
-        unreachable!()
-    };
+    frame.jump(program, to);
     push_frame(engine, frame)?;
     Ok(())
 }

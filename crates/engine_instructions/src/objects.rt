@@ -104,9 +104,7 @@ pub(crate) fn freeze_notify(
     // For the proof: the clauses speak of the definition.
     let _ = definition;
     let object = object_in(engine, &frame, object);
-    let Ok(()) = engine.world.table.freeze(object) else {
-        unreachable!()
-    };
+    engine.world.table.freeze(object);
     push_frame(engine, frame)?;
     Ok(())
 }
@@ -129,9 +127,7 @@ pub(crate) fn thaw_notify(
     // For the proof: the clauses speak of the definition.
     let _ = definition;
     let object = object_in(engine, &frame, object);
-    let Ok(slots) = engine.world.table.thaw(object) else {
-        unreachable!()
-    };
+    let slots = engine.world.table.thaw(object);
     push_frame(engine, frame)?;
     push_task(
         engine,

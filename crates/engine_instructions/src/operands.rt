@@ -24,10 +24,7 @@ pub(crate) fn object_in(engine: &Engine, frame: &Frame, from: Register) -> Objec
 {
     // For the proof: the clauses speak of the engine.
     let _ = engine;
-    let Ok(object) = identity_at(frame.registers.as_slice(), from) else {
-        unreachable!()
-    };
-    object
+    identity_at(frame.registers.as_slice(), from)
 }
 
 /// The object that is the data, if there is one.

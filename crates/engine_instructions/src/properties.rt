@@ -25,7 +25,6 @@ use engine_world::program_frames::push_frame;
 use engine_world::properties::spec_of;
 use engine_world::references::push_task;
 use engine_world::task::Task;
-use engine_world::unstuck::rule_out_stuck;
 use frames::{Frame, value_at};
 use g_values::Value;
 use std::alloc::AllocError;
@@ -47,9 +46,7 @@ fn slot_at(engine: &Engine, definition: &Definition, object: ObjectId, property:
     requires able { Able (slot_at definition.now (world_of engine.now.world) object.0 property.now) }
     ensures { slot_at definition.now (world_of engine.now.world) object.0 property.now ≡ Ok result }
 {
-    let Ok(class) = engine.world.table.class_of(object) else {
-        unreachable!()
-    };
+    let class = engine.world.table.class_of(object);
     let Some(slot) = definition.slot(class, property) else {
         unreachable!()
     };
@@ -67,10 +64,7 @@ fn readable_value(
     ensures { IfOk result (λ value. readable_value definition.now (world_of engine.now.world) object.0 property.now ≡ Ok (value_view value)) }
 {
     let slot = slot_at(engine, definition, object, property);
-    let Ok(value) = engine.world.table.read(object, slot) else {
-        unreachable!()
-    };
-    value.copied()
+    engine.world.table.read(object, slot).copied()
 }
 
 /// A register is written with the value of an object's property.
@@ -144,7 +138,7 @@ fn raise(
 {
     // For the proof: the clauses speak of the definition.
     let _ = definition;
-    if rule_out_stuck(engine.world.table.add(object, slot))? {
+    if engine.world.table.add(object, slot)? {
         push_task(engine, Task::Notifying { object, slot })?;
     }
     Ok(())

@@ -21,7 +21,6 @@ use definitions::Definition;
 use engine_world::children::say_limit;
 use engine_world::engine::Engine;
 use engine_world::program_frames::{push_frame, put};
-use engine_world::unstuck::rule_out_stuck;
 use frames::{Frame, compute};
 use g_values::Value;
 use std::alloc::AllocError;
@@ -94,7 +93,7 @@ pub(crate) fn compute_register(
 {
     let types = definition.types();
     let registers = frame.registers.as_slice();
-    let computed = rule_out_stuck(compute(engine.alloc, types, registers, computation))?;
+    let computed = compute(engine.alloc, types, registers, computation)?;
     match computed {
         Computed::Value(value) => write_register(engine, definition, frame, to, Some(value)),
         Computed::Unset => write_register(engine, definition, frame, to, None),

@@ -9,3 +9,5 @@ mod Carrying
 mod Sourcing
 mod CallSteps
 mod Settable
+mod Asking
+mod WrittenValues

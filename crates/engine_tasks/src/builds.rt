@@ -50,9 +50,7 @@ fn hold_made(
 {
     // For the proof: the clauses speak of the definition.
     let _ = definition;
-    let Ok(place) = engine.world.table.place_of(object) else {
-        unreachable!()
-    };
+    let place = engine.world.table.place_of(object);
     set_builder_entry(
         &mut engine.world.builder,
         place,
@@ -102,9 +100,7 @@ fn thaw_constructed(
 {
     // For the proof: the clauses speak of the definition.
     let _ = definition;
-    let Ok(slots) = engine.world.table.thaw(object) else {
-        unreachable!()
-    };
+    let slots = engine.world.table.thaw(object);
     push_task(
         engine,
         Task::Constructing {

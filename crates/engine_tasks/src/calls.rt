@@ -27,7 +27,6 @@ use engine_world::lines::Line;
 use engine_world::program_frames::pass_answer;
 use engine_world::references::let_go_values;
 use engine_world::task::{DueCall, Task};
-use engine_world::unstuck::rule_out_stuck;
 use g_values::{Value, zero_of};
 use peer_shapes::MethodRef;
 use std::alloc::AllocError;

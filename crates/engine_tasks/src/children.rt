@@ -8,7 +8,7 @@ ghost use Rattle.engine_world.specs.Quiet.{IsQuiet};
 ghost use Rattle.engine_world.specs.View.{world_of};
 ghost use Rattle.engine_world.specs.KinView.{kin_of, kin_at};
 ghost use Rattle.engine_world.specs.TaskView.{agenda_of, build_from};
-ghost use Rattle.engine_world.specs.Counting.{KeepsCounts};
+ghost use Rattle.engine_world.specs.Counting.{IsCounted, KeepsCounts};
 ghost use Rattle.engine_world.specs.EngineView.{config_of};
 
 use definitions::Definition;
@@ -49,6 +49,7 @@ pub fn adopt_from_build(
     forwards: ForwardReferences,
 ) -> Result<(), AllocError>
     requires able { Able (uncounted (agenda_of definition.now engine.now) engine.now.counted (building_child definition.now (world_of engine.now.world) place.0 (build_from definition.now (suc place.0) forwards))) }
+    requires counted { IsCounted definition.now engine.now }
     ensures step { Leads result
         (uncounted (agenda_of definition.now engine.old) engine.old.counted (building_child definition.now (world_of engine.old.world) place.0 (build_from definition.now (suc place.0) forwards)))
         (config_of definition.now engine.new) }

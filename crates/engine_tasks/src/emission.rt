@@ -179,9 +179,7 @@ pub fn begin_emission(
     let _last = engine.world.handlers.last();
     count(engine);
     let types = definition.types();
-    let Ok(class) = engine.world.table.class_of(emission.object) else {
-        unreachable!()
-    };
+    let class = engine.world.table.class_of(emission.object);
     let Some(declared) = definition.signal(class, emission.signal) else {
         unreachable!()
     };
@@ -262,9 +260,7 @@ fn end_emission(
     let _types = definition.types();
     let object = cursor.object();
     let number = cursor.signal();
-    let Ok(class) = engine.world.table.class_of(object) else {
-        unreachable!()
-    };
+    let class = engine.world.table.class_of(object);
     let Some(signal) = definition.signal(class, number) else {
         unreachable!()
     };

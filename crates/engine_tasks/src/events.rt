@@ -71,10 +71,7 @@ fn get_from_event(
 {
     let object = held_object(engine, place);
     let spec = spec_of(engine, definition, object, slot);
-    let Ok(value) = engine.world.table.read(object, slot) else {
-        unreachable!()
-    };
-    let value = value.copied()?;
+    let value = engine.world.table.read(object, slot).copied()?;
     let told = Line::Get {
         object,
         property: spec.name.as_str(),

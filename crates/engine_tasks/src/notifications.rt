@@ -46,9 +46,7 @@ pub fn notify(
     // For the proof: what is known of the numbers of handlers.
     let _last = engine.world.handlers.last();
     count(engine);
-    let Ok(class) = engine.world.table.class_of(object) else {
-        unreachable!()
-    };
+    let class = engine.world.table.class_of(object);
     let Some(spec) = definition.spec(class, slot) else {
         unreachable!()
     };

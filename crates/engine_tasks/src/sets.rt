@@ -15,16 +15,15 @@ ghost use Rattle.engine_world.specs.Able.{Able, Leads};
 ghost use Rattle.engine_world.specs.Quiet.{IsQuiet};
 ghost use Rattle.engine_world.specs.View.{world_of, with_line};
 ghost use Rattle.engine_world.specs.TaskView.{agenda_of};
-ghost use Rattle.engine_world.specs.Counting.{KeepsCounts};
+ghost use Rattle.engine_world.specs.Counting.{IsCounted, KeepsCounts};
 ghost use Rattle.engine_world.specs.EngineView.{config_of};
 
 use definitions::Definition;
 use engine_world::engine::Engine;
 use engine_world::lines::Line;
-use engine_world::properties::{living_class, spec_of};
-use engine_world::references::{can_hold_named, named, push_task};
+use engine_world::properties::spec_of;
+use engine_world::references::{named, never_full, push_task};
 use engine_world::task::Task;
-use engine_world::unstuck::rule_out_stuck;
 use g_values::{Value, is_same};
 use instance_tables::Table;
 use param_specs::{Spec, validate};
@@ -54,10 +53,7 @@ fn with_own_class(table: &Table, value: Value) -> Value
     let Some(id) = named(&value) else {
         return value;
     };
-    let Some(class) = living_class(table, id) else {
-        unreachable!()
-    };
-    Value::Object(class, Some(id))
+    Value::Object(table.class_of(id), Some(id))
 }
 
 // Null in place of a disposed object.
@@ -107,7 +103,7 @@ fn say_and_raise(
         engine.world.say(line)?;
         return Ok(());
     }
-    if rule_out_stuck(engine.world.table.add(object, slot))? {
+    if engine.world.table.add(object, slot)? {
         push_task(engine, Task::Notifying { object, slot })?;
         engine.world.say(line)?;
         return Ok(());
@@ -123,25 +119,22 @@ fn write(
     object: ObjectId,
     slot: Slot,
     value: Value,
-) -> Result<Value, AllocError>
+) -> Value
     requires able { Able (changed (world_of engine.now.world).objects object.0 (with_value slot (value_view value))) }
-    ensures changes { IfOk result (λ was. changed (world_of engine.old.world).objects object.0 (with_value slot (value_view value))
-        ≡ Ok (record { state = (world_of engine.new.world).objects; answer = value_view was })) }
+    requires lives { lives (world_of engine.now.world).objects (value_view value) ≡ true }
+    requires counted { IsCounted definition.now engine.now }
+    ensures changes { changed (world_of engine.old.world).objects object.0 (with_value slot (value_view value))
+        ≡ Ok (record { state = (world_of engine.new.world).objects; answer = value_view result }) }
     ensures world { world_of engine.new.world ≡ with_objects (world_of engine.old.world) (world_of engine.new.world).objects }
     ensures same { (engine.new.stack ≡ engine.old.stack) × (engine.new.counted ≡ engine.old.counted) }
     ensures handlers { engine.new.world.handlers ≡ engine.old.world.handlers }
-    ensures counted { OnOk result (KeepsCounts definition.now engine.old engine.new) }
+    ensures counted { KeepsCounts definition.now engine.old engine.new }
 {
-    // For the proof: the clauses speak of the definition.
+    // For the proof: the clauses speak of the definition, and what is written may be held once more.
     let _ = definition;
-    if !can_hold_named(&engine.world.table, &value) {
-        return Err(AllocError);
-    }
+    never_full(engine);
     let world = &mut engine.world;
-    let Ok(old) = world.table.write(&world.weak, object, slot, value) else {
-        unreachable!()
-    };
-    Ok(old)
+    world.table.write(&world.weak, object, slot, value)
 }
 
 // Writes a value and reports it, and raises the notification.
@@ -155,6 +148,8 @@ fn write_and_notify(
     value: Value,
 ) -> Result<(), AllocError>
     requires able { Able (uncounted (agenda_of definition.now engine.now) engine.now.counted (written definition.now (world_of engine.now.world) object.0 slot (spec_view spec.now) (value_view value))) }
+    requires lives { lives (world_of engine.now.world).objects (value_view value) ≡ true }
+    requires counted { IsCounted definition.now engine.now }
     ensures step { Leads result
         (uncounted (agenda_of definition.now engine.old) engine.old.counted (written definition.now (world_of engine.old.world) object.0 slot (spec_view spec.now) (value_view value)))
         (config_of definition.now engine.new) }
@@ -167,7 +162,7 @@ fn write_and_notify(
         value: &value,
     };
     let line = told.text(engine.alloc, definition.types())?;
-    let old = write(engine, definition, object, slot, value.copied()?)?;
+    let old = write(engine, definition, object, slot, value.copied()?);
     let is_told = notifies(spec, &old, &value);
     say_and_raise(engine, definition, object, slot, line, is_told)
 }
@@ -209,6 +204,7 @@ pub fn validate_and_set(
     value: Value,
 ) -> Result<(), AllocError>
     requires able { Able (uncounted (agenda_of definition.now engine.now) engine.now.counted (setting definition.now (world_of engine.now.world) object.0 slot (value_view value))) }
+    requires counted { IsCounted definition.now engine.now }
     ensures step { Leads result
         (uncounted (agenda_of definition.now engine.old) engine.old.counted (setting definition.now (world_of engine.old.world) object.0 slot (value_view value)))
         (config_of definition.now engine.new) }

@@ -37,9 +37,7 @@ fn carried_value(
     let from = spec_of(engine, definition, transfer.source, transfer.source_slot);
     let to = spec_of(engine, definition, transfer.target, transfer.target_slot);
     let table = &engine.world.table;
-    let Ok(value) = table.read(transfer.source, transfer.source_slot) else {
-        unreachable!()
-    };
+    let value = table.read(transfer.source, transfer.source_slot);
     let value = transformed(engine.alloc, types, from.kind, to.kind, value)?;
     Ok(inverted(transfer.invert, value))
 }

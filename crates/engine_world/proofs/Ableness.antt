@@ -1,18 +1,15 @@
 -- What follows where no arm stops a part of a step.
-use Rattle.std.proofs.Common.{◌≡◌, refl, subst, ℕ, suc, ◌<◌, Bool, true, false, nat_lt, List, Option, None, Some, Result, Ok, Err}
+use Rattle.std.proofs.Common.{◌≡◌, refl, subst, ℕ, suc, ◌<◌, Bool, true, false, nat_lt, List, Option, None, Some, Result, IsOk, Ok, Err}
 use Rattle.std.proofs.lemmas.Bool.Decides.{nat_tests}
 use Rattle.std.proofs.Common.{arith}
 use Rattle.ui_machine.specs.declared.arm.Arm.{Arm}
 use Rattle.ui_machine.specs.declared.arm.Arm.TheVariants as arms
-use Rattle.ui_machine.specs.declared.arm.Halt.{Halt}
-use Rattle.ui_machine.specs.declared.arm.Halt.TheVariants as halts
 use Rattle.ui_machine.specs.Instructions.{in_front}
-use Rattle.ui_machine.specs.Outcome.{After, Answer, Follows, Gives, Goes, Stops, known, only_if, ◌>>=◌}
+use Rattle.ui_machine.specs.Outcome.{Answer, known, only_if, ◌>>=◌}
 use Rattle.ui_machine.specs.State.Config.{Left, Started}
 use Rattle.ui_machine.specs.State.Tasks.{Task}
 use Rattle.ui_machine.specs.Steps.{counted, counted_left, left, most_steps, uncounted}
 use Rattle.engine_world.specs.Able.{Able}
-use Rattle.engine_world.specs.GivenView.{Finds}
 
 -- ** parts
 
@@ -26,6 +23,10 @@ none_stops (Ok x) never = tt
 none_stops (Err arm) never = never arm refl
 
 -- and so it leads somewhere
+pub is_ok : {A : Type 0} (a : Answer A) → ((arm : Arm) → a ≡ Err arm → ⊥) → IsOk a
+is_ok (Ok x) never = refl
+is_ok (Err arm) never = absurd (never arm refl)
+
 pub leads_on : {A : Type 0} (a : Answer A) → Able a → (x : A) × (a ≡ Ok x)
 leads_on (Ok x) able = (x, refl)
 leads_on (Err arm) able = absurd able
@@ -87,21 +88,3 @@ in_counted rest n a able = (few n (tested _ arms.Steps _ able), in_uncounted res
 
 pub in_counted_left : (n : ℕ) (a : Answer Left) → Able (counted_left n a) → (n < most_steps) × Able (left (suc n) a)
 in_counted_left n a able = (few n (tested _ arms.Steps _ able), past_test (nat_lt n most_steps) arms.Steps _ able)
-
--- ** code that may be stuck is not stuck there
-
--- what stops found no memory
-pub unstuck : {A : Type 0} (a : Answer A) (arm : Arm) → Able a → Stops (halts.Stuck arm) a → ⊥
-unstuck a arm able stops = no_arm a arm able stops
-
-pub goes_on : {S X : Type 0} (r : Result X Halt) (a : Answer S) (new : S) → Able a → Goes r a new → (arm : Arm) → r ≡ Err (halts.Stuck arm) → ⊥
-goes_on {S} {X} r a new able goes arm is = no_arm a arm able (subst (λ (x : Result X Halt). Goes x a new) is goes)
-
-pub finds_on : {X Y : Type 0} (view : X → Y) (r : Result X Halt) (a : Answer Y) → Able a → Finds view r a → (arm : Arm) → r ≡ Err (halts.Stuck arm) → ⊥
-finds_on {X} view r a able finds arm is = no_arm a arm able (subst (λ (x : Result X Halt). Finds view x a) is finds)
-
-pub follows_on : {S X Y : Type 0} (view : X → Y) (r : Result X Halt) (a : Answer (After S Y)) (new : S) → Able a → Follows view r a new → (arm : Arm) → r ≡ Err (halts.Stuck arm) → ⊥
-follows_on {S} {X} view r a new able follows arm is = no_arm a arm able (subst (λ (x : Result X Halt). Follows view x a new) is follows)
-
-pub gives_on : {S X Y : Type 0} (view : X → Y) (r : Result X Arm) (a : Answer (After S Y)) (new : S) → Able a → Gives view r a new → (arm : Arm) → r ≡ Err arm → ⊥
-gives_on {S} {X} view r a new able gives arm is = no_arm a arm able (subst (λ (x : Result X Arm). Gives view x a new) is gives)

@@ -44,7 +44,7 @@ use Rattle.engine_world.proofs.Left.{same_agenda}
 use Rattle.signal_core.specs.Connected.{Connected}
 use Rattle.ui_machine.specs.State.Handlers.{Handler}
 use Rattle.engine_world.specs.KnownHandlers.{AllTakeKnownHandlers}
-use Rattle.engine_world.specs.Counting.{OnlyCounts, Connects, Counts, KeepsCounts, PassesGot, in_emitted, in_subject, nothing}
+use Rattle.engine_world.specs.Counting.{OnlyCounts, Connects, Counts, IsCounted, KeepsCounts, PassesGot, in_emitted, in_subject, nothing}
 use Rattle.engine_world.specs.PeerPlaces.{AreGot}
 use Rattle.engine_world.proofs.Floats.{if_ok_at, bind_ok}
 use Rattle.engine_world.proofs.GotPeers.{alike_got, lent_got}
@@ -246,6 +246,10 @@ module _ (d : Definition) (e new : Engine) where
 
 pub keeps_on : (d : Definition) (e f new : Engine) → KeepsCounts d e f → KeepsCounts d f new → KeepsCounts d e new
 keeps_on d e f new p q = record { at = λ taken h. q.at taken (p.at taken h) }
+
+-- what is counted stays so
+pub still_counted : (d : Definition) (e new : Engine) → KeepsCounts d e new → IsCounted d e → IsCounted d new
+still_counted d e new keeps is = record { taken = is.taken; counts = keeps.at is.taken is.counts; little = is.little }
 
 -- a line more, another result or another count of steps moves nothing
 pub keeps_same : (d : Definition) (e new : Engine) → new.world.table ≡ e.world.table → new.world.weak ≡ e.world.weak → (PassesGot d e → PassesGot d new)

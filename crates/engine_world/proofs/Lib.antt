@@ -1,5 +1,6 @@
 pub mod Lists
-mod LivingObjects
+pub mod LivingObjects
+pub mod NewObjects
 pub mod Floats
 mod Strings
 pub mod Kin
@@ -22,7 +23,7 @@ pub mod Gone
 pub mod GotPeers
 pub mod SameTurns
 pub mod Signals
-mod Rooms
+pub mod Rooms
 pub mod HandlerAdded
 pub mod Prototypes
 pub mod Building

@@ -1,22 +1,25 @@
--- Objects by identity: their class, and one that is just made.
-use Rattle.std.proofs.Common.{◌≡◌, ℕ, Option, Some, None, Ok, Err, refl, sym, ap}
+-- Objects by identity.
+use Rattle.std.proofs.Common.{◌≡◌, ℕ, Option, Some, None, IsSome, Ok, Err, refl}
 use Rattle.ui_machine.specs.declared.arm.Arm.{Arm}
 use Rattle.ui_machine.specs.declared.arm.Arm.TheVariants as arms
-use Rattle.ui_machine.specs.Outcome.{known, ◌>>=◌}
-use Rattle.ui_machine.specs.State.Objects.{Object, Objects, living, class_in, asked}
+use Rattle.ui_machine.specs.Outcome.{After, Answer, known, ◌>>=◌}
+use Rattle.ui_machine.specs.State.Objects.{Object, Objects, asked, changed, living, put}
+use Rattle.engine_world.specs.Able.{Able}
 
-pub class_shown : (os : Objects) (id class : ℕ) → asked os id (λ o. Ok o.class) ≡ Ok class → Some class ≡ class_in os id
+-- an object lives of which no arm stops what is asked
+pub lives_where : {X : Type 0} (os : Objects) (id : ℕ) (of : Object → X) → ((arm : Arm) → asked os id (λ o. Ok (of o)) ≡ Err arm → ⊥) → IsSome (living os id)
 unfolding asked
-class_shown os id class = by (living os id) refl
+lives_where os id of never = by (living os id) never
   where
-    by : (o : Option Object) → living os id ≡ o → (known arms.Operand o >>= λ x. Ok x.class) ≡ Ok class → Some class ≡ class_in os id
-    by None is h = cc h
-    by (Some x) is h = let e : x.class ≡ class = cc h in rw is (ap Some (sym e))
+    by : (o : Option Object) → ((arm : Arm) → (known arms.Operand o >>= λ x. Ok (of x)) ≡ Err arm → ⊥) → IsSome o
+    by None never = absurd (never arms.Operand refl)
+    by (Some x) never = refl
 
-pub class_absent : (os : Objects) (id : ℕ) (arm : Arm) → asked os id (λ o. Ok o.class) ≡ Err arm → None ≡ class_in os id
-unfolding asked
-class_absent os id arm = by (living os id) refl
+-- and one that is changed
+pub lives_changed : {X : Type 0} (os : Objects) (id : ℕ) (change : Object → Answer (After Object X)) → Able (changed os id change) → IsSome (living os id)
+unfolding changed
+lives_changed {X} os id change able = by (living os id) able
   where
-    by : (o : Option Object) → living os id ≡ o → (known arms.Operand o >>= λ x. Ok x.class) ≡ Err arm → None ≡ class_in os id
-    by None is h = rw is refl
-    by (Some x) is h = cc h
+    by : (o : Option Object) → Able {A = After Objects X} (known arms.Operand o >>= λ x. change x >>= λ (new : After Object X). Ok (record { state = put os id (Some new.state); answer = new.answer })) → IsSome o
+    by None may = absurd may
+    by (Some x) may = refl

@@ -1,7 +1,7 @@
 -- What the registers of a program hold as one is written, and the results that programs take.
 use Rattle.engine_world.specs.KnownHandlers.{AllTakeKnownHandlers}
 use Rattle.engine_world.proofs.Counts.{stays, restacked}
-use Rattle.std.proofs.Common.{◌≡◌, ◌∙◌, refl, sym, ap, ℕ, ◌+◌, Bool, true, false, nat_lt, length, List, [], ◌∷◌, Option, None, Some, Result, Ok, Err, zero, suc, arith}
+use Rattle.std.proofs.Common.{◌≡◌, ◌∙◌, refl, sym, ap, ℕ, ◌+◌, ◌<◌, Bool, true, false, nat_lt, length, List, [], ◌∷◌, Option, None, Some, Result, Ok, Err, zero, suc, arith}
 use Rattle.std.specs.Prelude.{OnOk}
 use Rattle.ui_machine.specs.declared.arm.Arm.TheVariants as arms
 use Rattle.ui_machine.specs.Definition.{Definition}
@@ -21,7 +21,8 @@ use Rattle.ui_machine.specs.State.Objects.{Objects}
 use Rattle.instance_tables.specs.Store.{Store, count_of}
 use Rattle.engine_world.specs.Counting.{Counts, KeepsCounts, OnlyCounts, OnlyTasks, in_frame}
 use Rattle.engine_world.specs.Able.{Able}
-use Rattle.engine_world.proofs.Ableness.{first}
+use Rattle.std.proofs.lemmas.Bool.Decides.{nat_tests}
+use Rattle.engine_world.proofs.Ableness.{first, tested}
 use Rattle.engine_world.proofs.Emits.{stops_on}
 use Rattle.ui_machine.specs.declared.arm.Halt.{Halt}
 use Rattle.engine_world.specs.View.{world_of}
@@ -41,13 +42,13 @@ total_written f none [] (suc i) x = omega (arith, none, total_written f none [] 
 total_written f none (y ∷ xs) zero x = omega arith
 total_written f none (y ∷ xs) (suc i) x = omega (arith, total_written f none xs i x)
 
--- what was written
-pub written_is : (to : ℕ) (v : Option Value) (rs new : Registers) → with_register to v rs ≡ Ok new → new ≡ write None rs to v
-written_is to v rs new is = by (nat_lt to (length rs)) is
-  where
-    by : (b : Bool) → only_if b arms.Code (Ok (write None rs to v)) ≡ Ok new → new ≡ write None rs to v
-    by true e = let same : write None rs to v ≡ new = cc e in sym same
-    by false e = absurd (cc e)
+-- a register that can be written is there
+pub is_there : (to : ℕ) (v : Option Value) (rs : Registers) → Able (with_register to v rs) → to < length rs
+is_there to v rs able = let inside = tested _ arms.Code (Ok (write None rs to v)) able in grind (arith, nat_tests, inside)
+
+-- and so it is written
+pub writes_there : (to : ℕ) (v : Option Value) (rs : Registers) → Able (with_register to v rs) → with_register to v rs ≡ Ok (write None rs to v)
+writes_there to v rs able = ap (λ b. only_if b arms.Code (Ok (write None rs to v))) (tested _ arms.Code (Ok (write None rs to v)) able)
 
 -- ** results
 

@@ -1,5 +1,5 @@
 -- Room for what is held: no count comes to its end.
-use Rattle.std.proofs.Common.{◌≡◌, ℕ, ◌+◌, ◌*◌, ◌<◌, ◌≤◌, ◌^◌, List, [], ◌∷◌, ◌++◌, true, length, map, nat_lt, reverse, Option, Some, None, IsSome, refl, ap, ◌∙◌, arith}
+use Rattle.std.proofs.Common.{◌≡◌, ℕ, ◌+◌, ◌-◌, ◌*◌, ◌<◌, ◌≤◌, ◌^◌, ◌&&◌, Bool, List, [], ◌∷◌, ◌++◌, true, false, is_some, length, map, nat_lt, reverse, Option, Some, None, IsSome, refl, ap, ◌∙◌, arith}
 use Rattle.std.proofs.lemmas.Bool.Decides.{nat_tests}
 use Rattle.std.proofs.lemmas.List.{length-map, reverse-append}
 use Rattle.std.specs.Option.{option_map}
@@ -13,10 +13,10 @@ use Rattle.ui_machine.specs.State.References.{in_held, in_object, in_option, in_
 use Rattle.g_values.specs.View.{value_view}
 use Rattle.bytecode.specs.Computing.{registers_of}
 use Rattle.instance_tables.proofs.Few.{same_most, value_most}
-use Rattle.instance_tables.specs.Store.{count_of, may_hold}
+use Rattle.instance_tables.specs.Store.{Store, count_of, may_hold}
 use Rattle.engine_world.proofs.Lists.{total-append}
-use Rattle.engine_world.specs.Counting.{Counts}
-use Rattle.engine_world.specs.TaskView.{agenda_of, task_of, tasks_of}
+use Rattle.engine_world.specs.Counting.{Counts, IsCounted}
+use Rattle.engine_world.specs.TaskView.{agenda_of, task_in, task_of, tasks_of}
 use Rattle.engine_world.specs.View.{held_of}
 use Rattle.engine_world.specs.declared.engine.Engine.{Engine}
 use Rattle.engine_world.specs.declared.task.Stack.{Stack}
@@ -117,6 +117,10 @@ task_most d hs o (tasks.Calling call) =
 task_most d hs o (tasks.Due source) = omega arith
 task_most d hs o (tasks.Handling event) = omega arith
 
+-- so a task that was taken off adds little to what is counted
+pub task_counted : (d : machine.Definition) (e : Engine) (t : Task) → Counts d (λ o. in_task o (task_in d e t)) e → IsCounted d e
+task_counted d e t h = record { taken = λ o. in_task o (task_in d e t); counts = h; little = λ o. omega (arith, task_most d e.world.handlers.handlers o t) }
+
 agenda_most : (d : machine.Definition) (hs : List Handler) (s : Stack) (o : ℕ)
     → total (in_task o) (tasks_of d hs s) ≤ length s.tasks.items * 9223372036854775809
 agenda_most d hs s o =
@@ -160,3 +164,11 @@ has_room d taken e few sources counts o little lives =
     ) in
     let fits : nat_lt (count_of e.world.table.counts o) 340282366920938463463374607431768211455 ≡ true = grind (arith, nat_tests) in
     rw (lives, fits) refl
+
+-- what may be held is not held as often as may be
+pub held_room : (t : Store) (id : ℕ) → may_hold t id ≡ true → count_of t.counts id < 2 ^ 128 - 1
+held_room t id may = by (is_some (living t.objects id)) may
+  where
+    by : (lives : Bool) → lives && nat_lt (count_of t.counts id) 340282366920938463463374607431768211455 ≡ true → count_of t.counts id < 2 ^ 128 - 1
+    by true fits = grind (arith, nat_tests, fits)
+    by false fits = absurd (cc fits)

@@ -1,5 +1,5 @@
 -- What the engine counts of each object, beside what the machine mentions of it.
-use Rattle.std.specs.Prelude.{◌≡◌, ℕ, ◌+◌, ◌≤◌}
+use Rattle.std.specs.Prelude.{◌≡◌, ℕ, ◌+◌, ◌≤◌, ◌^◌}
 use Rattle.ui_machine.specs.Definition.{Definition}
 use Rattle.ui_machine.specs.State.References.{same, in_value, in_register, in_held, in_task, mentions}
 use Rattle.ui_machine.specs.State.Tasks.{Emission, Frame, Task, Beginning, Calling, Emitting, Running}
@@ -36,6 +36,12 @@ pub record Counts (d : Definition) (taken : ℕ → ℕ) (e : Engine) : Type 0 w
   pub passes : PassesGot d e
   pub connects : Connects d e
   pub exact : (o : ℕ) → count_of e.world.table.counts o ≡ mentions d (config_of d e) o + taken o
+
+-- Each object is counted as often as it is mentioned, and so often more as a task that was taken off can hold it.
+pub record IsCounted (d : Definition) (e : Engine) : Type 0 where
+  pub taken : ℕ → ℕ
+  pub counts : Counts d taken e
+  pub little : (o : ℕ) → taken o ≤ 2 ^ 64
 
 -- what the builder holds is counted at least so often
 pub record HoldsBuilt (e : Engine) : Type 0 where

@@ -1,13 +1,12 @@
 -- What is given, as an operand of the engine.
-use Rattle.std.specs.Prelude.{◌≡◌, ℕ, List, Option, Some, option_map, Result, Ok, Err, String, string_bytes, is_some}
+use Rattle.std.specs.Prelude.{ℕ, List, Option, Some, option_map, Ok, String, string_bytes, is_some}
 use Rattle.std.specs.Global.{Global}
 use Rattle.ui_machine.specs.declared.arm.Arm.TheVariants as arms
-use Rattle.ui_machine.specs.declared.arm.Halt.{Halt}
 use Rattle.ui_machine.specs.Definition.Lookups.{slot_of}
 use Rattle.ui_machine.specs.Definition.Names.{canonical}
 use Rattle.ui_machine.specs.Definition.{Definition}
 use Rattle.ui_machine.specs.Definition.Values as values
-use Rattle.ui_machine.specs.Outcome.{Answer, Stops, only_if, ◌>>=◌}
+use Rattle.ui_machine.specs.Outcome.{Answer, only_if, ◌>>=◌}
 use Rattle.ui_machine.specs.State.Config.{World}
 use Rattle.ui_machine.specs.Definition.Signals.{Signal}
 use Rattle.ui_machine.specs.Rules.Build.{held_object}
@@ -16,11 +15,6 @@ use Rattle.ui_machine.specs.Rules.Connections.{detail_for, may_stand}
 -- the object that the builder has of a place, as a value
 abbrev pub held_value : World → ℕ → Answer values.Value
 held_value w place = held_object w place >>= λ id. Ok (values.object (Some id))
-
--- what code that asks for memory answers is this, seen by view; or why it stopped
-abbrev pub Finds : {X Y : Type 0} → (X → Y) → Result X Halt → Answer Y → Type 0
-Finds view (Ok x) answer = answer ≡ Ok (view x)
-Finds view (Err halt) answer = Stops halt answer
 
 -- a detail as the machine has it
 abbrev pub detail_of : Option (String Global) → Option (List ℕ)

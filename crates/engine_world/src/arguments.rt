@@ -95,9 +95,7 @@ pub fn detail_in(
     requires able { Able (detail_in definition.now (world_of engine.now.world) object.0 signal (option_map (λ text. text.now) detail)) }
     ensures { IfOk result (λ own. detail_in definition.now (world_of engine.now.world) object.0 signal (option_map (λ text. text.now) detail.entry) ≡ Ok (detail_of own)) }
 {
-    let Ok(class) = engine.world.table.class_of(object) else {
-        unreachable!()
-    };
+    let class = engine.world.table.class_of(object);
     detail_for(engine, definition, class, signal, detail)
 }
 

@@ -9,10 +9,11 @@ ghost use Rattle.instance_tables.specs.Family.{refusal_in};
 ghost use Rattle.engine_world.specs.Quiet.{IsQuiet};
 ghost use Rattle.engine_world.specs.View.{world_of};
 ghost use Rattle.engine_world.specs.KinView.{joined};
-ghost use Rattle.engine_world.specs.Counting.{KeepsCounts};
+ghost use Rattle.engine_world.specs.Counting.{IsCounted, KeepsCounts};
 
 use crate::engine::Engine;
 use crate::lines::Line;
+use crate::references::never_full;
 use definitions::Definition;
 use instance_tables::AdoptError;
 use std::alloc::AllocError;
@@ -45,6 +46,7 @@ pub fn say_limit(engine: &mut Engine, definition: &Definition, word: &str) -> Re
 // An object becomes another's child, which nothing forbids.
 fn adopt(engine: &mut Engine, definition: &Definition, kin: Kin) -> Result<(), AllocError>
     requires free { refusal_in engine.now.world.table kin.parent.0 kin.child.0 ≡ None }
+    requires counted { IsCounted definition.now engine.now }
     ensures ok { OnOk result (world_of engine.new.world ≡ with_family definition.now (world_of engine.old.world) kin.parent.0 kin.child.0) }
     ensures err { OnErr result (IsQuiet (world_of engine.old.world) (world_of engine.new.world)) }
     ensures same { (engine.new.stack ≡ engine.old.stack) × (engine.new.counted ≡ engine.old.counted) }
@@ -52,13 +54,16 @@ fn adopt(engine: &mut Engine, definition: &Definition, kin: Kin) -> Result<(), A
     ensures counted { OnOk result (KeepsCounts definition.now engine.old engine.new) }
 {
     let Kin { parent, child } = kin;
-    if !engine.world.table.can_hold(child) {
-        return Err(AllocError);
-    }
+    // For the proof: the child may be held once more.
+    never_full(engine);
     let line = Line::Adopt { parent, child }.text(engine.alloc, definition.types())?;
-    let Ok(()) = engine.world.table.adopt(parent, child) else {
-        return Err(AllocError);
-    };
+    match engine.world.table.adopt(parent, child) {
+        Ok(()) => {}
+        Err(AdoptError::OutOfMemory) => return Err(AllocError),
+        Err(AdoptError::NotLiving) => unreachable!(),
+        Err(AdoptError::HasParent) => unreachable!(),
+        Err(AdoptError::ChildLimit) => unreachable!(),
+    }
     engine.world.say(line)?;
     Ok(())
 }
@@ -70,6 +75,7 @@ fn adopt(engine: &mut Engine, definition: &Definition, kin: Kin) -> Result<(), A
 /// `AllocError` if no memory is found.
 pub fn join(engine: &mut Engine, definition: &Definition, kin: Kin) -> Result<(), AllocError>
     requires able { Able (joined definition.now (world_of engine.now.world) kin.parent.0 kin.child.0) }
+    requires counted { IsCounted definition.now engine.now }
     ensures joins { Leads result (joined definition.now (world_of engine.old.world) kin.parent.0 kin.child.0) (world_of engine.new.world) }
     ensures quiet { OnErr result (IsQuiet (world_of engine.old.world) (world_of engine.new.world)) }
     ensures same { (engine.new.stack ≡ engine.old.stack) × (engine.new.counted ≡ engine.old.counted) }
@@ -98,6 +104,7 @@ pub fn join_objects(
     child: ObjectId,
 ) -> Result<(), AllocError>
     requires able { Able (joined definition.now (world_of engine.now.world) parent.0 child.0) }
+    requires counted { IsCounted definition.now engine.now }
     ensures joins { Leads result (joined definition.now (world_of engine.old.world) parent.0 child.0) (world_of engine.new.world) }
     ensures quiet { OnErr result (IsQuiet (world_of engine.old.world) (world_of engine.new.world)) }
     ensures same { (engine.new.stack ≡ engine.old.stack) × (engine.new.counted ≡ engine.old.counted) }

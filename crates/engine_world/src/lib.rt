@@ -24,6 +24,5 @@ pub mod seats;
 pub mod sources;
 pub mod task;
 pub mod transformations;
-pub mod unstuck;
 pub mod weak_slots;
 pub mod world;

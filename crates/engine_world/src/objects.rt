@@ -1,18 +1,17 @@
 //! Objects that are made: with their defaults, and with what their construction has still to do.
 
-ghost use Rattle.std.specs.Prelude.{◌≡◌, ◌<◌, suc, length, ℕ, cond, [], ◌∷◌, ◌++◌, map, OnOk, OnErr, IfOk, IfSome, Bool};
+ghost use Rattle.std.specs.Prelude.{◌≡◌, ◌<◌, suc, length, ℕ, cond, [], ◌∷◌, ◌++◌, map, None, Some, OnOk, OnErr, IfOk, IfSome, Bool};
 ghost use Rattle.engine_world.specs.Able.{Able};
 ghost use Rattle.ui_machine.specs.Definition.Properties as machine;
 ghost use Rattle.ui_machine.specs.Definition.Lookups.{specs_of};
 ghost use Rattle.instance_tables.specs.Store.{made_object};
-ghost use Rattle.instance_tables.specs.Laws.{Counted};
 ghost use Rattle.ui_machine.specs.State.References.{in_values};
 ghost use Rattle.ui_machine.specs.Definition as definition;
 ghost use Rattle.ui_machine.specs.Rules.Construction.{lent, with_object, making};
 ghost use Rattle.ui_machine.specs.State.Config.{starts};
 ghost use Rattle.ui_machine.specs.State.Tasks.{Constructing};
 ghost use Rattle.g_values.specs.View.{value_view};
-ghost use Rattle.engine_world.specs.NewObjects.{before_lent, begun};
+ghost use Rattle.engine_world.specs.NewObjects.{Adds, before_lent, begun};
 ghost use Rattle.engine_world.specs.Quiet.{IsQuiet};
 ghost use Rattle.engine_world.specs.View.{world_of};
 ghost use Rattle.engine_world.specs.TaskView.{agenda_of};
@@ -28,7 +27,7 @@ use crate::seats::Seats;
 use crate::task::{ConstructSteps, Task};
 use definitions::Definition;
 use g_values::Value;
-use instance_tables::{Object, Table};
+use instance_tables::{CreateError, Object, Table};
 use std::alloc::{AllocError, Global};
 use type_tree::TypeId;
 use ui_machine::{ObjectId, Place, Slot};
@@ -67,10 +66,9 @@ fn create_object(
         .is_a(class, TypeId::new(INITIALLY_UNOWNED));
     let object = Object::new(engine.alloc, class, place, values, peer);
     // A definition has no more objects than may live, and a program looks for room first, so that what wants is memory.
-    let Ok(id) = engine.world.table.create(object) else {
+    let Ok(id) = add(&mut engine.world.table, object, floats) else {
         return Err(AllocError);
     };
-    float(&mut engine.world.table, id, floats)?;
     Ok(id)
 }
 
@@ -172,20 +170,18 @@ fn lend(seats: &mut Seats, peer: Option<usize>, object: ObjectId)
     }
 }
 
-// A new object floats or not.
-fn float(table: &mut Table, id: ObjectId, floats: bool) -> Result<(), AllocError>
-    ensures counted { OnOk result ((d : definition.Definition) (beside : ℕ → ℕ) → Counted d beside table.old → Counted d beside table.new) }
-    ensures objects { OnOk result (table.new.objects ≡ table.old.objects) }
-    ensures floating { OnOk result (table.new.floating ≡ cond floats (table.old.floating ++ id.0 ∷ []) table.old.floating) }
+// One more object in a table, which begins floating or not.
+fn add(table: &mut Table, object: Object, floats: bool) -> Result<ObjectId, CreateError>
+    requires childless { object.children ≡ [] }
+    requires parentless { object.parent ≡ None }
+    ensures added { IfOk result (λ id. Adds object floats id.0 table.old table.new) }
+    ensures err { OnErr result (table.new ≡ table.old) }
 {
-    if !floats {
-        return Ok(());
+    if floats {
+        table.create_floating(object)
+    } else {
+        table.create(object)
     }
-    if !table.can_hold(id) {
-        return Err(AllocError);
-    }
-    table.float(id)?;
-    Ok(())
 }
 
 // The defaults of a class's properties, by slot.

@@ -43,9 +43,7 @@ pub fn put(
     ensures counts { OnOk result ((o : ℕ) → count_of table.new.counts o + in_frame o (frame_view frame.old) ≡ count_of table.old.counts o + in_frame o (frame_view frame.new)) }
 {
     hold_any(table, register_named(&value))?;
-    let Ok(held) = frame.put(to, value) else {
-        unreachable!()
-    };
+    let held = frame.put(to, value);
     let_go_any(table, register_named(&held));
     Ok(())
 }

@@ -4,7 +4,7 @@
 //! built, and a task holds its object from when it comes before the others until it is done. An emission holds its arguments, and the value
 //! that it has accumulated, from its beginning to its end, and a program what its registers name.
 
-ghost use Rattle.std.specs.Prelude.{◌≡◌, ℕ, ◌+◌, ◌≤◌, ◌^◌, List, ◌∷◌, map, option_map, true, IsSome, OnOk};
+ghost use Rattle.std.specs.Prelude.{◌≡◌, ℕ, ◌+◌, ◌≤◌, List, ◌∷◌, map, option_map, true, IsSome, OnOk};
 ghost use Rattle.ui_machine.specs.Definition as machine;
 ghost use Rattle.ui_machine.specs.Seq.{total};
 ghost use Rattle.ui_machine.specs.State.Handlers.{Handler};
@@ -12,11 +12,11 @@ ghost use Rattle.ui_machine.specs.State.Objects.{living};
 ghost use Rattle.ui_machine.specs.State.References.{in_option, in_register, in_value};
 ghost use Rattle.g_values.specs.View.{value_view};
 ghost use Rattle.bytecode.specs.Computing.{registers_of};
-ghost use Rattle.instance_tables.specs.Store.{id_of, count_of, may_hold, may_hold_any, named_by};
+ghost use Rattle.instance_tables.specs.Store.{id_of, count_of, may_hold, named_by};
 ghost use Rattle.engine_world.specs.KnownHandlers.{TakesKnownHandlers};
 ghost use Rattle.engine_world.specs.View.{world_of};
 ghost use Rattle.engine_world.specs.TaskView.{task_of, task_in, agenda_of};
-ghost use Rattle.engine_world.specs.Counting.{Connects, Counts, OnlyCounts, KeepsCounts, in_given, in_subject};
+ghost use Rattle.engine_world.specs.Counting.{Connects, IsCounted, OnlyCounts, KeepsCounts, in_given, in_subject};
 
 use crate::engine::Engine;
 use crate::task::Task;
@@ -57,16 +57,6 @@ pub fn let_go_any(table: &mut Table, id: Option<ObjectId>)
         return;
     };
     table.let_go(id);
-}
-
-/// Whether the object that a value names, if it names one, lives and may be held once more.
-pub fn can_hold_named(table: &Table, value: &Value) -> bool
-    ensures { result ≡ may_hold_any table.now (named_by (value_view value.now)) }
-{
-    match value {
-        Value::Object(_, Some(id)) => table.can_hold(*id),
-        _ => true,
-    }
 }
 
 /// The object that a value names, if it names one.
@@ -206,11 +196,10 @@ fn hold_emitted(table: &mut Table, cursor: &Cursor, args: &[Value]) -> Result<()
     hold_any(table, accumulated(cursor))
 }
 
-/// A law: where each object is counted as often as it is mentioned, no count is at its end, so that what lives may be held once more. What is
-/// counted is kept in lists, and no list is longer than memory. It looks at each object; no program calls it.
-fn never_full(engine: &Engine)
-    ensures { (d : machine.Definition) (taken : ℕ → ℕ) → Counts d taken engine.now → (o : ℕ) → taken o ≤ 2 ^ 64
-        → IsSome (living engine.now.world.table.objects o) → may_hold engine.now.world.table o ≡ true }
+/// Where each object is counted as often as it is mentioned, no count is at its end, so that what lives may be held once more: what is counted
+/// is kept in lists, and no list is longer than memory. It looks at no object.
+pub fn never_full(engine: &Engine)
+    ensures { (d : machine.Definition) → IsCounted d engine.now → (o : ℕ) → IsSome (living engine.now.world.table.objects o) → may_hold engine.now.world.table o ≡ true }
 {
     engine.world.table.hold_few();
     engine.world.context.len();

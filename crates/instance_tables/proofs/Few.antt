@@ -1,6 +1,5 @@
 -- How often objects can hold one.
-use Rattle.std.proofs.Common.{◌≡◌, ℕ, suc, ◌+◌, ◌*◌, ◌<◌, ◌≤◌, ◌^◌, List, [], ◌∷◌, Bool, true, false, cond, length, nat_eq, Option, Some, None, inl, inr, refl, sym, ap, subst, ◌∙◌, arith}
-use Rattle.std.proofs.lemmas.Bool.{cases_eq}
+use Rattle.std.proofs.Common.{◌≡◌, ℕ, suc, ◌+◌, ◌*◌, ◌<◌, ◌≤◌, ◌^◌, List, [], ◌∷◌, Bool, true, false, cond, length, nat_eq, Option, Some, None, refl, sym, ap, subst, ◌∙◌, arith}
 use Rattle.std.specs.Ordering.{nat_cmp}
 use Rattle.std.specs.List.Sorted.{IsStrictlySortedBy}
 use Rattle.std.specs.Map.{keys_of}
@@ -13,12 +12,11 @@ use Rattle.ui_machine.specs.Definition.Values as values
 use Rattle.ui_machine.specs.State.Objects.{Object, Objects, live}
 use Rattle.ui_machine.specs.State.References.{in_object, in_option, in_value, in_values, same}
 use Rattle.ui_machine.specs.declared.ids.ObjectId.{ObjectId}
-use Rattle.instance_tables.specs.Bounds.{HoldFew, HoldsFew}
+use Rattle.instance_tables.specs.Bounds.{AllHoldFew, HoldsFew}
 use Rattle.instance_tables.specs.Store.{Store, ids_of}
 use Rattle.instance_tables.specs.View.{InRange, object_in, store_of, instances_at}
 use Rattle.instance_tables.specs.declared.instance.Instance.{Instance}
 use Rattle.instance_tables.proofs.Maps.{live_len}
-use Rattle.instance_tables.proofs.Scan.{look, look_other, look_self}
 use Rattle.instance_tables.proofs.Shown.{found_in}
 use Rattle.instance_tables.proofs.Without.{length_ids}
 
@@ -68,23 +66,15 @@ objects_most d o (None ∷ os) few = omega (arith, objects_most d o os (λ i x e
 objects_most d o (Some x ∷ os) few =
     omega (arith, object_most d o x (few 0 x refl), objects_most d o os (λ i y e. few (suc i) y e))
 
--- each object of a look-up is among the entries
-entry_few : (es : List (ℕ × Instance)) → HoldFew es → (q : ℕ) (x : Object) → object_in (look es q) ≡ Some x → HoldsFew x
-entry_few [] few q x e = absurd (cc)
-entry_few (e ∷ es) few q x is =
-    elim (cases_eq q e.0) [
-      | inl same ↦
-          let here : object_in (look (e ∷ es) q) ≡ Some e.1.object = ap (λ (k : ℕ). object_in (look (e ∷ es) k)) same ∙ ap object_in (look_self e es) in
-          let one : Some e.1.object ≡ Some x = sym here ∙ is in
-          let that : e.1.object ≡ x = cc in
-          subst HoldsFew that few.0
-      | inr ne ↦ entry_few es few.1 q x (sym (ap object_in (look_other e es q ne)) ∙ is)
-    ]
+-- what is seen of an instance holds as few
+object_few : (o : Option Instance) → ((w : Instance) → o ≡ Some w → HoldsFew w.object) → (x : Object) → object_in o ≡ Some x → HoldsFew x
+object_few None all x e = absurd (cc)
+object_few (Some w) all x e = let same : w.object ≡ x = cc in subst HoldsFew same (all w refl)
 
 module _ (m : List (ℕ × Instance)) (made limit : ℕ) (floats : List ObjectId) (old : Store) (range : InRange (instances_at m) made)
-    (is : store_of (instances_at m) made limit floats ≡ old) (ordered : IsStrictlySortedBy nat_cmp (keys_of m)) (few : HoldFew m) where
+    (is : store_of (instances_at m) made limit floats ≡ old) (ordered : IsStrictlySortedBy nat_cmp (keys_of m)) (few : AllHoldFew (instances_at m)) where
   lives_few : (i : ℕ) (x : Object) → read None old.objects i ≡ Some x → HoldsFew x
-  lives_few i x e = entry_few m few (suc i) x (sym (found_in (instances_at m) made limit floats old range is (suc i)) ∙ e)
+  lives_few i x e = object_few (instances_at m (suc i)) (λ w here. few (suc i) w here) x (sym (found_in (instances_at m) made limit floats old range is (suc i)) ∙ e)
 
   -- fewer than 2^63 objects and floating ones
   pub all_few : length m < 2 ^ 63 → length floats < 2 ^ 63 → (d : Definition) (o : ℕ)

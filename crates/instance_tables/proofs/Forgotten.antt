@@ -15,6 +15,7 @@ use Rattle.ui_machine.specs.declared.ids.ObjectId.{ObjectId}
 use Rattle.instance_tables.specs.Store.{Store, ids_of, with_objects}
 use Rattle.instance_tables.specs.Family.{parent_in, KeepsKin}
 use Rattle.instance_tables.specs.View.{Lookup, object_in, count_in, objects_of, counts_of, held_in, store_of, InRange, IsLowestUnheld, KinInRange}
+use Rattle.instance_tables.specs.Bounds.{AllHoldFew, HoldsFew}
 use Rattle.instance_tables.specs.Names.{forgotten_in, NamersKnow}
 use Rattle.instance_tables.specs.Weak.{Marks, Knows, has_weak, masked, forgotten_value, forgetting}
 use Rattle.instance_tables.specs.declared.instance.Instance.{Instance}
@@ -63,13 +64,18 @@ parent_kept : (g : Instance → Instance) → ((x : Instance) → KeepsKin x.obj
 parent_kept g keeps None = refl
 parent_kept g keeps (Some x) = (keeps x).parent
 
--- a change of each instance that keeps its count and its kin
+few_kept : (g : Instance → Instance) → ((x : Instance) → HoldsFew x.object → HoldsFew (g x).object) → (o : Option Instance)
+    → ((w : Instance) → o ≡ Some w → HoldsFew w.object) → (x : Instance) → option_map g o ≡ Some x → HoldsFew x.object
+few_kept g keeps None all x e = absurd (cc)
+few_kept g keeps (Some w) all x e = let same : g w ≡ x = cc in subst (λ (z : Instance). HoldsFew z.object) same (keeps w (all w refl))
+
+-- a change of each instance that keeps its count and its kin, and holds as few
 pub still_known : (at new : Lookup) (made : ℕ) (low : Option ℕ) (names now : Namers) (g : Instance → Instance)
     → ((x : Instance) → (g x).mentions ≡ x.mentions) → ((x : Instance) → KeepsKin x.object (g x).object)
-    → ((q : ℕ) → new q ≡ option_map g (at q)) → NamersKnow now new
-    → InRange at made × IsLowestUnheld (held_in at) low × KinInRange at made × NamersKnow names at
-    → InRange new made × IsLowestUnheld (held_in new) low × KinInRange new made × NamersKnow now new
-still_known at new made low names now g same keeps is known well = (
+    → ((x : Instance) → HoldsFew x.object → HoldsFew (g x).object) → ((q : ℕ) → new q ≡ option_map g (at q)) → NamersKnow now new
+    → InRange at made × IsLowestUnheld (held_in at) low × KinInRange at made × NamersKnow names at × AllHoldFew at
+    → InRange new made × IsLowestUnheld (held_in new) low × KinInRange new made × NamersKnow now new × AllHoldFew new
+still_known at new made low names now g same keeps few is known well = (
   λ id some. well.0 id (sym (ap is_some (is id) ∙ was_there g (at id)) ∙ some),
   lowest_same (held_in at) (held_in new) low
       (λ q. ap (option_map (λ (x : Instance). x.mentions)) (is q) ∙ held_so g same (at q)) well.1,
@@ -83,6 +89,7 @@ still_known at new made low names now g same keeps is known well = (
         (sym (ap (λ (o : Option Instance). parent_in (object_in o)) (is id) ∙ parent_kept g keeps (at id)) ∙ e),
   ),
   known,
+  λ q x e. few_kept g few (at q) (well.4 q) x (sym (is q) ∙ e),
 )
 
 -- ** in the machine's words

@@ -1,5 +1,5 @@
 -- The instances under the keys of an index, in the order of their identities.
-use Rattle.std.proofs.Common.{◌≡◌, ◌≢◌, ℕ, ◌<◌, List, [], ◌∷◌, Bool, true, false, cond, nat_eq, length, Option, Some, None, is_some, option_and_then, inl, inr, refl, sym, ap, subst, ◌∙◌, arith}
+use Rattle.std.proofs.Common.{◌≡◌, ◌≢◌, ℕ, ◌<◌, List, [], ◌∷◌, Bool, true, false, cond, nat_eq, length, Option, Some, None, is_some, option_and_then, inl, inr, refl, sym, ap, ◌∙◌, arith}
 use Rattle.std.proofs.lemmas.Bool.{cases_eq}
 use Rattle.std.proofs.lemmas.Bool.Decides.{nat_tests}
 use Rattle.std.proofs.lemmas.Map.Keys.{sorted_head, sorted_tail}
@@ -9,7 +9,6 @@ use Rattle.std.specs.List.Sorted.{IsStrictlySortedBy}
 use Rattle.std.specs.Map.{keys_of}
 use Rattle.std.specs.Ordering.{nat_cmp}
 use Rattle.std.specs.declared.ops.Bound.{Bound}
-use Rattle.instance_tables.specs.Bounds.{HoldFew, HoldsFew}
 use Rattle.instance_tables.specs.Index.{in_order, put_first, identity_in}
 use Rattle.instance_tables.specs.Lent.{with_instance}
 use Rattle.instance_tables.specs.View.{first_unheld, instances_at, Lookup, Replaces}
@@ -182,6 +181,3 @@ module _ (entries : Entries) (all rest : List (ℕ × ℕ)) (k : ℕ × ℕ) (ne
     stops_unheld none =
         let test : nat_eq x.instance.mentions 0 ≡ true = grind (arith, nat_tests) in
         ap first_unheld (one_first (Some x) here) ∙ rw test refl
-
-    pub few_more : HoldsFew x.instance.object → HoldFew (in_order entries rest) → HoldFew (in_order entries all)
-    few_more one few = subst HoldFew (sym (one_first (Some x) here)) (one, few)

@@ -1,5 +1,5 @@
 -- What a change of one instance keeps of all: that each was given, which is the lowest that nothing holds, that children and parents
--- were given, and that it is known who names whom.
+-- were given, that it is known who names whom, and that each holds few.
 use Rattle.std.proofs.Common.{◌≡◌, ◌≢◌, ℕ, ◌<◌, ◌≤◌, List, [], ◌∷◌, ◌++◌, length, cond, nat_eq, refl, Bool, true, false, Option, None, Some, is_some, IsSome, inl, inr, sym, ap, subst, ◌∙◌, arith}
 use Rattle.std.proofs.lemmas.Bool.{cases_eq}
 use Rattle.std.proofs.lemmas.Bool.Decides.{nat_tests}
@@ -12,6 +12,7 @@ use Rattle.ui_machine.specs.Rules.Children.{with_child, with_parent, without_chi
 use Rattle.ui_machine.specs.Rules.Disposal.{children_of}
 use Rattle.instance_tables.specs.Family.{parent_in, KeepsKin}
 use Rattle.ui_machine.specs.declared.ids.ObjectId.{ObjectId}
+use Rattle.instance_tables.specs.Bounds.{AllHoldFew, HoldsFew}
 use Rattle.instance_tables.specs.Lent.{with_instance}
 use Rattle.instance_tables.specs.Names.{names_any, MayName, NamersKnow, StaysBeside}
 use Rattle.instance_tables.specs.Store.{Store}
@@ -22,16 +23,28 @@ use Rattle.instance_tables.proofs.Exact.{one_more, split}
 use Rattle.instance_tables.proofs.Lowest.{lowest_kept, lowest_let_go, lowest_same}
 use Rattle.instance_tables.proofs.Maps.{written}
 use Rattle.instance_tables.proofs.Naming.{known_gone, known_replaced, known_same}
+use Rattle.instance_tables.proofs.Short.{no_more}
 use Rattle.instance_tables.proofs.Shown.{found_in, given_out}
 
 -- what holds of all instances
 abbrev pub Well : Lookup → ℕ → Option ℕ → Namers → Type 0
-Well at made low names = InRange at made × IsLowestUnheld (held_in at) low × KinInRange at made × NamersKnow names at
+Well at made low names = InRange at made × IsLowestUnheld (held_in at) low × KinInRange at made × NamersKnow names at × AllHoldFew at
 
 -- the children and the parent of one object were given
 abbrev pub KinGiven : ℕ → Option Object → Type 0
 KinGiven made o =
     ((child : ℕ) → 0 < total (same child) (children_of o) → child ≤ made) × ((parent : ℕ) → parent_in o ≡ Some parent → parent ≤ made)
+
+-- an instance that holds few, new or in place of another
+pub few_with : (at new : Lookup) (id : ℕ) (y : Instance) → AllHoldFew at → HoldsFew y.object → Replaces at new id (Some y) → AllHoldFew new
+few_with at new id y all few replaces q x e =
+    elim (cases_eq q id) [
+      | inl is ↦
+          let both : Some y ≡ Some x = sym replaces.changed ∙ ap new (sym is) ∙ e in
+          let same : y ≡ x = cc in
+          subst (λ (z : Instance). HoldsFew z.object) same few
+      | inr ne ↦ all q x (sym (replaces.others q ne) ∙ e)
+    ]
 
 module _ (at new : Lookup) (made id : ℕ) (was y : Instance) (here : at id ≡ Some was) (replaces : Replaces at new id (Some y)) where
   still_range : InRange at made → InRange new made
@@ -116,22 +129,23 @@ same_kin o p e = record { children = ap (λ (x : Object). x.children) e; parent 
 
 module _ (m : List (ℕ × Instance)) (made : ℕ) (low : Option ℕ) (names : Namers) (id : ℕ) (was y : Instance)
     (here : instances_at m id ≡ Some was) (well : Well (instances_at m) made low names) where
-  replaced_well : (t : Option ℕ) (now : Namers) → KinGiven made (Some y.object) → IsLowestUnheld (held_in (instances_at (with_instance m id y))) t
+  replaced_well : (t : Option ℕ) (now : Namers) → KinGiven made (Some y.object) → HoldsFew y.object → IsLowestUnheld (held_in (instances_at (with_instance m id y))) t
       → NamersKnow now (instances_at (with_instance m id y)) → Well (instances_at (with_instance m id y)) made t now
-  replaced_well t now given noted known =
+  replaced_well t now given few noted known =
       let replaces = written m id was y here in (
         still_range (instances_at m) (instances_at (with_instance m id y)) made id was y here replaces well.0,
         noted,
         still_kin (instances_at m) (instances_at (with_instance m id y)) made id was y here replaces well.2 given,
         known,
+        few_with (instances_at m) (instances_at (with_instance m id y)) id y well.4 few replaces,
       )
 
   -- an object with other values and other kin, as often held, where what it names is known
-  pub named_well : (now : Namers) → KinGiven made (Some y.object) → y.mentions ≡ was.mentions → StaysBeside id names now
+  pub named_well : (now : Namers) → KinGiven made (Some y.object) → HoldsFew y.object → y.mentions ≡ was.mentions → StaysBeside id names now
       → ((t : ℕ) → names_any t y.object.values ≡ true → MayName now t id) → Well (instances_at (with_instance m id y)) made low now
-  named_well now given same beside own =
+  named_well now given few same beside own =
       let replaces = written m id was y here in
-      replaced_well low now given (still_lowest (instances_at m) (instances_at (with_instance m id y)) made id was y here replaces low well.1 same)
+      replaced_well low now given few (still_lowest (instances_at m) (instances_at (with_instance m id y)) made id was y here replaces low well.1 same)
       (known_replaced (instances_at m) (instances_at (with_instance m id y)) id names now well.3 beside y replaces own)
 
   -- an object that keeps its values
@@ -139,23 +153,30 @@ module _ (m : List (ℕ × Instance)) (made : ℕ) (low : Option ℕ) (names : N
   same_known = known_same (instances_at m) (instances_at (with_instance m id y)) id names was y well.3 here (written m id was y here)
 
   -- an object with other kin, as often held
-  pub kin_well : KinGiven made (Some y.object) → y.mentions ≡ was.mentions → y.object.values ≡ was.object.values
+  pub kin_well : KinGiven made (Some y.object) → HoldsFew y.object → y.mentions ≡ was.mentions → y.object.values ≡ was.object.values
       → Well (instances_at (with_instance m id y)) made low names
-  kin_well given same still =
-      replaced_well low names given
+  kin_well given few same still =
+      replaced_well low names given few
       (still_lowest (instances_at m) (instances_at (with_instance m id y)) made id was y here (written m id was y here) low well.1 same) (same_known still)
 
   -- another object with the same kin, as often held
   pub same_well : KeepsKin was.object y.object → y.mentions ≡ was.mentions → y.object.values ≡ was.object.values
       → Well (instances_at (with_instance m id y)) made low names
-  same_well keeps = kin_well (kin_kept (instances_at m) made id was y.object well.2 here keeps)
+  same_well keeps same still =
+      kin_well (kin_kept (instances_at m) made id was y.object well.2 here keeps)
+      (no_more was.object y.object (well.4 id was here) (ap (λ vs. length vs) still)
+      (let children : length y.object.children ≡ length was.object.children = ap (λ is. length is) keeps.children in omega (arith, children)))
+      same still
 
   same_object : y.object ≡ was.object → KinGiven made (Some y.object)
   same_object same = kin_kept (instances_at m) made id was y.object well.2 here (same_kin was.object y.object same)
 
+  same_few : y.object ≡ was.object → HoldsFew y.object
+  same_few same = subst HoldsFew (sym same) (well.4 id was here)
+
   -- the same object, as often held
   pub unchanged_well : y.object ≡ was.object → y.mentions ≡ was.mentions → Well (instances_at (with_instance m id y)) made low names
-  unchanged_well same still = kin_well (same_object same) still (ap (λ (o : Object). o.values) same)
+  unchanged_well same still = kin_well (same_object same) (same_few same) still (ap (λ (o : Object). o.values) same)
 
   -- the same object, held more often
   pub held_well : (t : Option ℕ) → y.object ≡ was.object → 0 < y.mentions
@@ -164,7 +185,7 @@ module _ (m : List (ℕ × Instance)) (made : ℕ) (low : Option ℕ) (names : N
       → Well (instances_at (with_instance m id y)) made t names
   held_well t same more found =
       let replaces = written m id was y here in
-      replaced_well t names (same_object same)
+      replaced_well t names (same_object same) (same_few same)
       (found (held_in (instances_at m)) well.1 (record {
         gone = more_held (instances_at m) (instances_at (with_instance m id y)) made id was y here replaces more;
         others = held_others (instances_at m) (instances_at (with_instance m id y)) made id was y here replaces;
@@ -175,7 +196,7 @@ module _ (m : List (ℕ × Instance)) (made : ℕ) (low : Option ℕ) (names : N
   pub less_well : (t : Option ℕ) → y.object ≡ was.object → y.mentions ≤ was.mentions → (0 < y.mentions → t ≡ low)
       → (y.mentions ≡ 0 → t ≡ Some (lower_of low id)) → Well (instances_at (with_instance m id y)) made t names
   less_well t same less held unheld =
-      replaced_well t names (same_object same)
+      replaced_well t names (same_object same) (same_few same)
       (less_lowest (instances_at m) (instances_at (with_instance m id y)) made id was y here (written m id was y here) low t well.1 less held unheld)
       (same_known (ap (λ (o : Object). o.values) same))
 
@@ -208,6 +229,13 @@ module _ (at new : Lookup) (made : ℕ) (low : Option ℕ) (names : Namers) (id 
         ],
   )
 
+  gone_few : AllHoldFew new
+  gone_few q x e =
+      elim (cases_eq q id) [
+        | inl is ↦ let no : Some x ≡ None = sym e ∙ ap new is ∙ replaces.changed in absurd (cc)
+        | inr ne ↦ well.4 q x (sym (replaces.others q ne) ∙ e)
+      ]
+
   pub gone_well : (t : Option ℕ) (now : Namers)
       → ((held : ℕ → Option ℕ) → IsLowestUnheld held low → IsHeldOrGone held (held_in new) id → IsLowestUnheld (held_in new) t)
       → StaysBeside id names now → Well new made t now
@@ -221,6 +249,7 @@ module _ (at new : Lookup) (made : ℕ) (low : Option ℕ) (names : Namers) (id 
     }),
     gone_kin,
     known_gone at new id names now well.3 beside replaces,
+    gone_few,
   )
 
 -- ** other kin

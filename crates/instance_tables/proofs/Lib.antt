@@ -4,6 +4,7 @@ pub mod Families
 pub mod Marks
 pub mod Forgotten
 pub mod Written
+pub mod Able
 pub mod Held
 pub mod Exact
 pub mod WriteExact
@@ -23,5 +24,6 @@ pub mod Born
 pub mod Released
 pub mod Disposed
 pub mod Few
+pub mod Short
 pub mod Names
 pub mod Naming

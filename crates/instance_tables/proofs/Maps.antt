@@ -1,14 +1,12 @@
 -- Changes of instances as changes of a look-up.
-use Rattle.std.proofs.Common.{◌≡◌, ◌≢◌, ℕ, suc, [], ◌∷◌, IsSome, None, inl, inr, refl, subst, ◌+◌, ◌-◌, ◌<◌, ◌≤◌, ◌^◌, List, length, false, true, nat_lt, Option, Some, is_some, Result, Ok, Err, OnErr, sym, ap, ◌∙◌, arith}
+use Rattle.std.proofs.Common.{◌≡◌, ◌≢◌, ℕ, suc, [], ◌∷◌, IsSome, None, inl, inr, refl, subst, ◌+◌, ◌-◌, ◌<◌, ◌≤◌, ◌^◌, List, length, false, true, nat_lt, Option, Some, is_some, Result, Ok, Err, IfOk, OnErr, sym, ap, ◌∙◌, arith}
 use Rattle.std.proofs.lemmas.Bool.{cases_eq}
 use Rattle.std.proofs.lemmas.Bool.Decides.{nat_tests}
 use Rattle.std.specs.Ordering.{nat_cmp}
 use Rattle.std.specs.BTreeMap.{is_at}
 use Rattle.std.specs.List.Sorted.{IsStrictlySortedBy}
 use Rattle.std.specs.Map.{keys_of}
-use Rattle.ui_machine.specs.declared.arm.Arm.{Arm}
-use Rattle.ui_machine.specs.declared.arm.Halt.{Halt}
-use Rattle.ui_machine.specs.Outcome.{After, Answer, Gives, Follows}
+use Rattle.ui_machine.specs.Outcome.{After, Answer}
 use Rattle.ui_machine.specs.State.Objects.{Object, changed, live, most_identities}
 use Rattle.ui_machine.specs.declared.ids.ObjectId.{ObjectId}
 use Rattle.instance_tables.specs.Store.{Store, with_objects, with_count, with_object, has_room}
@@ -64,13 +62,15 @@ written m id was y here = record { changed = written_here id y m (ap is_some her
 
 module _ (m : List (ℕ × Instance)) (made limit : ℕ) (floats : List ObjectId) (old : Store) (range : InRange (instances_at m) made)
     (is : store_of (instances_at m) made limit floats ≡ old) (id : ℕ) (was y : Instance) (here : instances_at m id ≡ Some was) where
-  pub written_changes : {X Y : Type 0} (view : X → Y) (change : Object → Answer (After Object Y)) (r : Result X Arm)
-      → Gives view r (change was.object) y.object → Gives view r (changed old.objects id change) (objects_of (instances_at (with_instance m id y)) made)
+  pub written_changes : {Y : Type 0} (change : Object → Answer (After Object Y)) (a : Y)
+      → change was.object ≡ Ok (record { state = y.object; answer = a })
+      → changed old.objects id change ≡ Ok (record { state = objects_of (instances_at (with_instance m id y)) made; answer = a })
   written_changes =
       changes (instances_at m) (instances_at (with_instance m id y)) made limit floats old range is id was y here (written m id was y here)
 
-  pub written_follows : {X Y : Type 0} (view : X → Y) (change : Object → Answer (After Object Y)) (r : Result X Halt)
-      → Follows view r (change was.object) y.object → Follows view r (changed old.objects id change) (objects_of (instances_at (with_instance m id y)) made)
+  pub written_follows : {Y E : Type 0} (change : Object → Answer (After Object Y)) (r : Result Y E)
+      → IfOk r (λ a. change was.object ≡ Ok (record { state = y.object; answer = a }))
+      → IfOk r (λ a. changed old.objects id change ≡ Ok (record { state = objects_of (instances_at (with_instance m id y)) made; answer = a }))
   written_follows =
       follows (instances_at m) (instances_at (with_instance m id y)) made limit floats old range is id was y here (written m id was y here)
 

@@ -1,13 +1,11 @@
 -- An index of who names whom beside instances that change.
-use Rattle.std.proofs.Common.{◌≡◌, ◌∙◌, ℕ, zero, suc, List, [], ◌∷◌, Bool, true, false, cond, ◌||◌, ◌-◌, nat_eq, nat_lt, Option, Some, None, slice_get, slice_set, inl, inr, ◌⊎◌, Result, Ok, Err, OnErr, refl, sym, ap, subst}
+use Rattle.std.proofs.Common.{◌≡◌, ◌∙◌, ℕ, zero, suc, List, [], ◌∷◌, Bool, true, false, cond, ◌||◌, ◌-◌, nat_eq, nat_lt, Option, Some, None, slice_get, slice_set, inl, inr, ◌⊎◌, Result, Ok, Err, IfOk, OnErr, refl, sym, ap, subst}
 use Rattle.std.proofs.lemmas.Bool.{cases_eq}
 use Rattle.std.specs.Option.{option_map}
-use Rattle.ui_machine.specs.declared.arm.Arm.{Arm}
 use Rattle.ui_machine.specs.declared.arm.Arm.TheVariants as arms
-use Rattle.ui_machine.specs.declared.arm.Halt.{Halt}
 use Rattle.ui_machine.specs.Definition.Values.{Value}
 use Rattle.ui_machine.specs.Definition.Values as values
-use Rattle.ui_machine.specs.Outcome.{After, Answer, ◌>>=◌, known, only_if, Gives, Follows}
+use Rattle.ui_machine.specs.Outcome.{After, Answer, ◌>>=◌, known, only_if}
 use Rattle.ui_machine.specs.Rules.Disposal.{names_object}
 use Rattle.ui_machine.specs.Rules.NotifyQueue.{frozen_less, frozen_more, less_frozen, most_freezes, queued, raised}
 use Rattle.ui_machine.specs.State.Objects.{Object, with_value}
@@ -138,34 +136,26 @@ written_names t (suc slot) v (w ∷ vs) e =
     ]
 
 -- what an object names once a value was written
-pub names_after : {X : Type 0} (view : X → Value) (r : Result X Arm) (slot t : ℕ) (v : Value) (o n : Object)
-    → Gives view r (with_value slot v o) n → OnErr r (n ≡ o) → names_any t n.values ≡ true
-    → (names_any t o.values ≡ true) ⊎ (named_by v ≡ Some t)
+pub names_after : (slot t : ℕ) (v old : Value) (o n : Object) → with_value slot v o ≡ Ok (record { state = n; answer = old })
+    → names_any t n.values ≡ true → (names_any t o.values ≡ true) ⊎ (named_by v ≡ Some t)
 unfolding with_value
-names_after view (Err arm) slot t v o n e same named = inl (ap (λ (x : Object). names_any t x.values) (sym same) ∙ named)
-names_after view (Ok x) slot t v o n e same named = by (slice_get o.values slot) e
+names_after slot t v old o n e named = by (slice_get o.values slot) e
   where
     write_in : Value → Answer (After Object Value)
     write_in w = Ok (record { state = record o { values = slice_set o.values slot v }; answer = w })
 
-    by : (old : Option Value) → (known arms.Code old >>= write_in) ≡ Ok (record { state = n; answer = view x })
+    by : (was : Option Value) → (known arms.Code was >>= write_in) ≡ Ok (record { state = n; answer = old })
         → (names_any t o.values ≡ true) ⊎ (named_by v ≡ Some t)
     by None e = absurd (cc)
     by (Some w) e =
         let now : After Object Value = record { state = record o { values = slice_set o.values slot v }; answer = w } in
-        let is : now ≡ record { state = n; answer = view x } = cc in
+        let is : now ≡ record { state = n; answer = old } = cc in
         written_names t slot v o.values (ap (λ (a : After Object Value). names_any t a.state.values) is ∙ named)
 
 -- ** freezes keep values
 
-gives_values : {X Y : Type 0} (view : X → Y) (r : Result X Arm) (o n : Object) (answer : Answer (After Object Y)) → Gives view r answer n
-    → OnErr r (n ≡ o) → ((w : After Object Y) → answer ≡ Ok w → w.state.values ≡ o.values) → n.values ≡ o.values
-gives_values view (Ok x) o n answer e same keeps = keeps (record { state = n; answer = view x }) e
-gives_values view (Err arm) o n answer e same keeps = ap (λ (x : Object). x.values) same
-
-pub frozen_values : {X : Type 0} (view : X → Unit {0}) (r : Result X Arm) (o n : Object) → Gives view r (frozen_more o) n
-    → OnErr r (n ≡ o) → n.values ≡ o.values
-frozen_values view r o n e same = gives_values view r o n (frozen_more o) e same keeps
+pub frozen_values : (o n : Object) (x : Unit {0}) → frozen_more o ≡ Ok (record { state = n; answer = x }) → n.values ≡ o.values
+frozen_values o n x e = by (nat_lt o.freezes most_freezes) (record { state = n; answer = x }) e
   where
     by : (b : Bool) (w : After Object (Unit {0}))
         → only_if b arms.Freeze (Ok (record { state = record o { freezes = suc o.freezes }; answer = tt })) ≡ Ok w
@@ -176,12 +166,8 @@ frozen_values view r o n e same = gives_values view r o n (frozen_more o) e same
         ap (λ (a : After Object (Unit {0})). a.state.values) (sym is)
     by false w e = absurd (cc)
 
-    keeps : (w : After Object (Unit {0})) → frozen_more o ≡ Ok w → w.state.values ≡ o.values
-    keeps w e = by (nat_lt o.freezes most_freezes) w e
-
-pub thawed_values : {X : Type 0} (view : X → List ℕ) (r : Result X Arm) (o n : Object) → Gives view r (frozen_less o) n
-    → OnErr r (n ≡ o) → n.values ≡ o.values
-thawed_values view r o n e same = gives_values view r o n (frozen_less o) e same keeps
+pub thawed_values : (o n : Object) (slots : List ℕ) → frozen_less o ≡ Ok (record { state = n; answer = slots }) → n.values ≡ o.values
+thawed_values o n slots e = by (nat_lt 0 o.freezes) (o.freezes - 1) (record { state = n; answer = slots }) e
   where
     by : (b : Bool) (k : ℕ) (w : After Object (List ℕ)) → only_if b arms.Freeze (Ok (less_frozen k o)) ≡ Ok w → w.state.values ≡ o.values
     by true zero w e =
@@ -192,23 +178,20 @@ thawed_values view r o n e same = gives_values view r o n (frozen_less o) e same
         ap (λ (a : After Object (List ℕ)). a.state.values) (sym is)
     by false k w e = absurd (cc)
 
-    keeps : (w : After Object (List ℕ)) → frozen_less o ≡ Ok w → w.state.values ≡ o.values
-    keeps w e = by (nat_lt 0 o.freezes) (o.freezes - 1) w e
-
-pub raised_values : {X : Type 0} (view : X → Bool) (r : Result X Halt) (slot : ℕ) (o n : Object) → Follows view r (raised slot o) n
-    → OnErr r (n ≡ o) → n.values ≡ o.values
-raised_values view (Err halt) slot o n e same = ap (λ (x : Object). x.values) same
-raised_values view (Ok x) slot o n e same = by (nat_eq o.freezes 0) e
+pub raised_values : {E : Type 0} (r : Result Bool E) (slot : ℕ) (o n : Object)
+    → IfOk r (λ now. raised slot o ≡ Ok (record { state = n; answer = now })) → OnErr r (n ≡ o) → n.values ≡ o.values
+raised_values (Err why) slot o n e same = ap (λ (x : Object). x.values) same
+raised_values (Ok x) slot o n e same = by (nat_eq o.freezes 0) e
   where
     raised_by : Bool → Answer (After Object Bool)
     raised_by b = Ok (cond b (record { state = o; answer = true }) (record { state = record o { queue = queued o.queue slot }; answer = false }))
 
-    by : (b : Bool) → raised_by b ≡ Ok (record { state = n; answer = view x }) → n.values ≡ o.values
+    by : (b : Bool) → raised_by b ≡ Ok (record { state = n; answer = x }) → n.values ≡ o.values
     by true e =
         let now : After Object Bool = record { state = o; answer = true } in
-        let is : now ≡ record { state = n; answer = view x } = cc in
+        let is : now ≡ record { state = n; answer = x } = cc in
         ap (λ (a : After Object Bool). a.state.values) (sym is)
     by false e =
         let now : After Object Bool = record { state = record o { queue = queued o.queue slot }; answer = false } in
-        let is : now ≡ record { state = n; answer = view x } = cc in
+        let is : now ≡ record { state = n; answer = x } = cc in
         ap (λ (a : After Object Bool). a.state.values) (sym is)

@@ -1,12 +1,9 @@
 -- What one change of a look-up is to the store that it is seen as.
-use Rattle.std.proofs.Common.{◌≡◌, ℕ, zero, suc, ◌+◌, ◌<◌, ◌≤◌, List, [], ◌∷◌, ◌++◌, length, Option, Some, None, Bool, ◌&&◌, nat_lt, is_some, IsSome, true, false, inl, inr, Result, Ok, Err, refl, sym, ap, ◌∙◌, arith}
+use Rattle.std.proofs.Common.{◌≡◌, ℕ, zero, suc, ◌+◌, ◌<◌, ◌≤◌, List, [], ◌∷◌, ◌++◌, length, Option, Some, None, Bool, ◌&&◌, nat_lt, is_some, IsSome, true, false, inl, inr, Result, Ok, Err, IsOk, IfOk, refl, sym, ap, subst, ◌∙◌, arith}
 use Rattle.std.proofs.lemmas.Bool.{cases_eq}
 use Rattle.std.proofs.lemmas.Bool.Decides.{nat_tests}
-use Rattle.ui_machine.specs.declared.arm.Arm.{Arm}
 use Rattle.ui_machine.specs.declared.arm.Arm.TheVariants as arms
-use Rattle.ui_machine.specs.declared.arm.Halt.{Halt}
-use Rattle.ui_machine.specs.declared.arm.Halt.TheVariants as halts
-use Rattle.ui_machine.specs.Outcome.{After, Answer, ◌>>=◌, known, Gives, Follows}
+use Rattle.ui_machine.specs.Outcome.{After, Answer, ◌>>=◌, known}
 use Rattle.ui_machine.specs.Seq.{listed}
 use Rattle.ui_machine.specs.State.Objects.{Object, Objects, living, put, live, most_identities, asked, changed}
 use Rattle.ui_machine.proofs.Listed.{read-listed, listed-same, listed-write, listed-more, length-listed}
@@ -83,22 +80,39 @@ module _ (at : Lookup) (made limit : ℕ) (floats : List ObjectId) (old : Store)
   absent_updated change none small = put_none old.objects id small (found_in ∙ ap object_in none)
       ∙ ap (λ (o : Option Object). put old.objects id (option_map change o)) (sym (found_in ∙ ap object_in none))
 
-  pub absent_asked : {X : Type 0} (question : Object → Answer X) → at id ≡ None → asked old.objects id question ≡ Err arms.Operand
+  -- what can be asked lives
+  pub never_asked : {X : Type 0} (question : Object → Answer X) → at id ≡ None → IsOk (asked old.objects id question) → ⊥
   unfolding asked
-  absent_asked question none = ap (λ (o : Option Object). known arms.Operand o >>= question) (found_in ∙ ap object_in none)
+  never_asked question none ok =
+      let no : false ≡ true = subst (λ (o : Option Object). IsOk (known arms.Operand o >>= question)) (found_in ∙ ap object_in none) ok in
+      absurd (cc)
 
   pub present_asked : {X : Type 0} (x : Instance) (question : Object → Answer X) → at id ≡ Some x
       → asked old.objects id question ≡ question x.object
   unfolding asked
   present_asked x question here = ap (λ (o : Option Object). known arms.Operand o >>= question) (found_in ∙ ap object_in here)
 
-  pub absent_changed : {X : Type 0} (change : Object → Answer (After Object X)) → at id ≡ None
-      → changed old.objects id change ≡ Err arms.Operand
+  -- and so does what can be changed, and its own object can be changed
+  pub never_changed : {X : Type 0} (change : Object → Answer (After Object X)) → at id ≡ None → IsOk (changed old.objects id change) → ⊥
   unfolding changed
-  absent_changed change none =
-      ap (λ (o : Option Object). known arms.Operand o >>= λ o. change o >>= λ w.
-      Ok (record { state = put old.objects id (Some w.state); answer = w.answer }))
-      (found_in ∙ ap object_in none)
+  never_changed {X} change none ok =
+      let no : false ≡ true = subst (λ (o : Option Object). IsOk (known arms.Operand o >>= λ o. change o >>= put_in)) (found_in ∙ ap object_in none) ok in
+      absurd (cc)
+    where
+      put_in : After Object X → Answer (After Objects X)
+      put_in w = Ok (record { state = put old.objects id (Some w.state); answer = w.answer })
+
+  pub able : {X : Type 0} (x : Instance) (change : Object → Answer (After Object X)) → at id ≡ Some x
+      → IsOk (changed old.objects id change) → IsOk (change x.object)
+  unfolding changed
+  able {X} x change here ok = by (change x.object) (subst (λ (o : Option Object). IsOk (known arms.Operand o >>= λ o. change o >>= put_in)) (found_in ∙ ap object_in here) ok)
+    where
+      put_in : After Object X → Answer (After Objects X)
+      put_in w = Ok (record { state = put old.objects id (Some w.state); answer = w.answer })
+
+      by : (a : Answer (After Object X)) → IsOk (a >>= put_in) → IsOk a
+      by (Ok w) h = refl
+      by (Err arm) h = h
 
 -- ** one instance, replaced
 
@@ -145,10 +159,14 @@ module _ (at new : Lookup) (made limit : ℕ) (floats : List ObjectId) (old : St
   given = range id (ap is_some here)
 
   -- what a change of the one object's does to all
-  pub changes : {X Y : Type 0} (view : X → Y) (change : Object → Answer (After Object Y)) (r : Result X Arm)
-      → Gives view r (change was.object) y.object → Gives view r (changed old.objects id change) (objects_of new made)
+  pub changes : {Y : Type 0} (change : Object → Answer (After Object Y)) (a : Y)
+      → change was.object ≡ Ok (record { state = y.object; answer = a })
+      → changed old.objects id change ≡ Ok (record { state = objects_of new made; answer = a })
   unfolding changed
-  changes {X} {Y} view change r h = by r h
+  changes {Y} change a e =
+      to_one ∙ ap put_in e
+      ∙ ap (λ (os : Objects). Ok (record { state = os; answer = a }))
+      (ap (λ (s : Store). put s.objects id (Some y.object)) (sym is) ∙ sym (put_back at new made (Some y) id given replaces))
     where
       put_in : Answer (After Object Y) → Answer (After Objects Y)
       put_in a = a >>= λ w. Ok (record { state = put old.objects id (Some w.state); answer = w.answer })
@@ -158,14 +176,6 @@ module _ (at new : Lookup) (made limit : ℕ) (floats : List ObjectId) (old : St
           ap (λ (o : Option Object). known arms.Operand o >>= λ o. put_in (change o))
           (found_in at made limit floats old range is id ∙ ap object_in here)
 
-      by : (r : Result X Arm) → Gives view r (change was.object) y.object
-          → Gives view r (changed old.objects id change) (objects_of new made)
-      by (Ok x) e =
-          to_one ∙ ap put_in e
-          ∙ ap (λ (os : Objects). Ok (record { state = os; answer = view x }))
-          (ap (λ (s : Store). put s.objects id (Some y.object)) (sym is) ∙ sym (put_back at new made (Some y) id given replaces))
-      by (Err arm) e = to_one ∙ ap put_in e
-
   -- and where the change cannot be refused
   pub updates : (change : Object → Object) → y.object ≡ change was.object → objects_of new made ≡ updated change id old.objects
   updates change e =
@@ -174,11 +184,12 @@ module _ (at new : Lookup) (made limit : ℕ) (floats : List ObjectId) (old : St
       ∙ ap (put old.objects id)
       (ap Some e ∙ sym (ap (option_map change) (found_in at made limit floats old range is id ∙ ap object_in here)))
 
-  pub follows : {X Y : Type 0} (view : X → Y) (change : Object → Answer (After Object Y)) (r : Result X Halt)
-      → Follows view r (change was.object) y.object → Follows view r (changed old.objects id change) (objects_of new made)
-  follows view change (Ok x) h = changes view change (Ok x) h
-  follows view change (Err halts.OutOfMemory) h = tt
-  follows {X} view change (Err (halts.Stuck arm)) h = let r : Result X Arm = Err arm in changes view change r h
+  -- and where memory may be refused
+  pub follows : {Y E : Type 0} (change : Object → Answer (After Object Y)) (r : Result Y E)
+      → IfOk r (λ a. change was.object ≡ Ok (record { state = y.object; answer = a }))
+      → IfOk r (λ a. changed old.objects id change ≡ Ok (record { state = objects_of new made; answer = a }))
+  follows change (Ok a) h = changes change a h
+  follows change (Err why) h = tt
 
   -- and where it keeps the count, the rest is as it was
   pub beside : y.mentions ≡ was.mentions → store_of new made limit floats ≡ with_objects old (objects_of new made)

@@ -4,7 +4,7 @@ use Rattle.ui_machine.specs.declared.arm.Arm.TheVariants as arms
 use Rattle.ui_machine.specs.Definition.Values as values
 use Rattle.ui_machine.specs.State.Objects as config
 use Rattle.ui_machine.specs.Outcome.{◌>>=◌, known}
-use Rattle.ui_machine.specs.State.Objects.{with_value}
+use Rattle.ui_machine.specs.State.Objects.{value_at, with_value}
 use Rattle.g_values.specs.declared.value.Value.{Value}
 use Rattle.g_values.specs.View.{value_view}
 
@@ -18,6 +18,13 @@ module _ {A B : Type 0} (f : A → B) where
   set-map [] i y = refl
   set-map (x ∷ xs) zero y = refl
   set-map (x ∷ xs) (suc i) y = ap (λ ys. f x ∷ ys) (set-map xs i y)
+
+-- a value that is there
+pub read_there : (o : config.Object) (vs : List Value) (i : ℕ) (v : Value) → o.values ≡ map value_view vs
+    → i < length vs → v ≡ get_or vs i v → value_at i o ≡ Ok (value_view v)
+read_there o vs i v is lt was =
+    ap (λ (xs : List values.Value). known arms.Code (slice_get xs i)) is
+    ∙ ap (λ x. known arms.Code x) (got value_view vs i v lt) ∙ ap (λ (x : Value). Ok (value_view x)) (sym was)
 
 -- a value written over another
 pub write_over : (o : config.Object) (vs : List Value) (i : ℕ) (v old : Value) → o.values ≡ map value_view vs

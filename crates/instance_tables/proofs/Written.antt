@@ -1,11 +1,10 @@
 -- What a property that is written moves.
-use Rattle.std.proofs.Common.{◌≡◌, ℕ, zero, suc, ◌<◌, ◌≤◌, length, get_or, List, [], ◌∷◌, Bool, true, false, Option, Some, None, slice_get, slice_set, Ok, Err, refl, ap, arith}
+use Rattle.std.proofs.Common.{◌≡◌, ℕ, zero, suc, ◌<◌, ◌≤◌, length, get_or, List, [], ◌∷◌, Bool, true, false, Option, Some, None, slice_get, slice_set, Ok, IsOk, refl, sym, ap, ◌∙◌, arith}
 use Rattle.ui_machine.specs.Seq.{read}
 use Rattle.ui_machine.specs.Definition.Values.{Value}
 use Rattle.ui_machine.specs.Definition.Values as values
 use Rattle.ui_machine.specs.State.Objects.{Object, Objects, asked, changed, living, put, value_at, with_value}
 use Rattle.ui_machine.specs.Outcome.{After, Answer, ◌>>=◌, known}
-use Rattle.ui_machine.specs.declared.arm.Arm.{Arm}
 use Rattle.ui_machine.specs.declared.arm.Arm.TheVariants as arms
 use Rattle.ui_machine.specs.State.References.{in_option, in_value}
 use Rattle.instance_tables.specs.Store.{named_by}
@@ -37,23 +36,48 @@ by_name o (values.enum type n) = refl
 by_name o (values.flags type bits) = refl
 by_name o (values.object id) = refl
 
--- what cannot be read cannot be written
-pub refused_write : (os : Objects) (id slot : ℕ) (v : Value) (arm : Arm) → asked os id (value_at slot) ≡ Err arm
-    → changed os id (with_value slot v) ≡ Err arm
+-- what a property that was written was is what could be read
+pub was_read : (os new : Objects) (id slot : ℕ) (v was : Value) → changed os id (with_value slot v) ≡ Ok (record { state = new; answer = was })
+    → asked os id (value_at slot) ≡ Ok was
 unfolding asked changed with_value
-refused_write os id slot v arm e = by (living os id) e
+was_read os new id slot v was is = by (living os id) is
   where
     put_in : After Object Value → Answer (After Objects Value)
     put_in w = Ok (record { state = put os id (Some w.state); answer = w.answer })
 
     write_in : Object → Value → Answer (After Object Value)
-    write_in x old = Ok (record { state = record x { values = slice_set x.values slot v }; answer = old })
+    write_in o old = Ok (record { state = record o { values = slice_set o.values slot v }; answer = old })
 
-    of_one : (x : Object) (o : Option Value) → known arms.Code o ≡ Err arm → ((known arms.Code o >>= write_in x) >>= put_in) ≡ Err arm
-    of_one x None f = let is : arms.Code ≡ arm = cc in ap (λ a. Err a) is
-    of_one x (Some w) f = absurd (cc)
+    of_one : (o : Object) (x : Option Value) → ((known arms.Code x >>= write_in o) >>= put_in) ≡ Ok (record { state = new; answer = was })
+        → ◌≡◌ {A = Answer Value} (known arms.Code x) (Ok was)
+    of_one o None e = absurd (cc e)
+    of_one o (Some old) e =
+        let left : record { state = put os id (Some (record o { values = slice_set o.values slot v })); answer = old } ≡ record { state = new; answer = was } = cc e in
+        ap (λ (r : After Objects Value). Ok r.answer) left
 
-    by : (o : Option Object) → (known arms.Operand o >>= value_at slot) ≡ Err arm
-        → (known arms.Operand o >>= λ x. (value_at slot x >>= write_in x) >>= put_in) ≡ Err arm
-    by None f = let is : arms.Operand ≡ arm = cc in ap (λ a. Err a) is
-    by (Some x) f = of_one x (slice_get x.values slot) f
+    by : (o : Option Object) → (known arms.Operand o >>= λ y. ((value_at slot y >>= write_in y) >>= put_in)) ≡ Ok (record { state = new; answer = was })
+        → (known arms.Operand o >>= value_at slot) ≡ Ok was
+    by None e = absurd (cc e)
+    by (Some o) e = of_one o (slice_get o.values slot) e
+
+-- so what was read before is what is answered
+pub same_read : (os before new : Objects) (id slot : ℕ) (v read was : Value) → before ≡ os → asked os id (value_at slot) ≡ Ok read
+    → changed before id (with_value slot v) ≡ Ok (record { state = new; answer = was }) → read ≡ was
+same_read os before new id slot v read was same here is =
+    let both : ◌≡◌ {A = Answer Value} (Ok read) (Ok was) =
+    sym here ∙ sym (ap (λ (xs : Objects). asked xs id (value_at slot)) same) ∙ was_read before new id slot v was is in
+    cc
+
+-- the same objects are written to, and the same are left
+pub writes_same : (os before new last : Objects) (id slot : ℕ) (v was : Value) → before ≡ os → last ≡ new
+    → changed before id (with_value slot v) ≡ Ok (record { state = new; answer = was })
+    → changed os id (with_value slot v) ≡ Ok (record { state = last; answer = was })
+writes_same os before new last id slot v was same still is =
+    ap (λ (xs : Objects). changed xs id (with_value slot v)) (sym same) ∙ is
+    ∙ ap (λ (xs : Objects). Ok (record { state = xs; answer = was })) (sym still)
+
+-- a value that can be read is one of the object's
+pub has_slot : (slot : ℕ) (vs : List Value) → IsOk (known arms.Code (slice_get vs slot)) → slot < length vs
+has_slot slot [] ok = let no : false ≡ true = ok in absurd (cc)
+has_slot zero (v ∷ vs) ok = omega arith
+has_slot (suc i) (v ∷ vs) ok = omega (arith, has_slot i vs ok)

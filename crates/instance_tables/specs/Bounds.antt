@@ -1,5 +1,5 @@
 -- How many an object can hold.
-use Rattle.std.specs.Prelude.{◌<◌, ◌^◌, ℕ, List, [], ◌∷◌, length}
+use Rattle.std.specs.Prelude.{◌≡◌, ◌<◌, ◌^◌, ℕ, Option, Some, length}
 use Rattle.ui_machine.specs.State.Objects.{Object}
 use Rattle.instance_tables.specs.declared.instance.Instance.{Instance}
 
@@ -7,7 +7,6 @@ use Rattle.instance_tables.specs.declared.instance.Instance.{Instance}
 abbrev pub HoldsFew : Object → Type 0
 HoldsFew o = (length o.values < 2 ^ 63) × (length o.children < 2 ^ 63)
 
--- so do those of each of these
-abbrev pub HoldFew : List (ℕ × Instance) → Type 0
-HoldFew [] = Unit {0}
-HoldFew (e ∷ es) = HoldsFew e.1.object × HoldFew es
+-- so do those of each object that an identity has
+abbrev pub AllHoldFew : (ℕ → Option Instance) → Type 0
+AllHoldFew at = (q : ℕ) (x : Instance) → at q ≡ Some x → HoldsFew x.object

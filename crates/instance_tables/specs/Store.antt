@@ -1,11 +1,9 @@
 -- What a table is seen as: the machine's objects, and beside each how often it is held.
 use Rattle.std.specs.Option.{option_map}
 use Rattle.std.specs.Prelude.{◌≡◌, ◌+◌, ◌&&◌, ℕ, zero, suc, nat_lt, length, map, false, true, Bool, List, [], ◌∷◌, ◌++◌, Option, Some, None, is_some, cond, nat_eq, Result, Ok, Err}
-use Rattle.ui_machine.specs.declared.arm.Arm.{Arm}
 use Rattle.ui_machine.specs.declared.ids.ObjectId.{ObjectId}
 use Rattle.ui_machine.specs.Definition.Values.{Value}
 use Rattle.ui_machine.specs.Definition.Values as values
-use Rattle.ui_machine.specs.Outcome.{Answer}
 use Rattle.ui_machine.specs.Seq.{read, write}
 use Rattle.ui_machine.specs.State.Objects.{Object, Objects, live, living, most_identities}
 use Rattle.instance_tables.specs.declared.error.CreateError.{CreateError}
@@ -116,10 +114,3 @@ abbrev pub CreatesFloating : Result ObjectId CreateError → Object → Store �
 CreatesFloating (Ok id) o old new = (has_room 0 old ≡ true) × (id.0 ≡ suc (length old.objects)) × (new ≡ with_floating id.0 (with_object o old))
 CreatesFloating (Err ObjectLimit) o old new = (has_room 0 old ≡ false) × (new ≡ old)
 CreatesFloating (Err OutOfMemory) o old new = (has_room 0 old ≡ true) × (new ≡ old)
-
--- ** answers
-
--- what code answers that changes nothing and asks for no memory
-abbrev pub Shows : {X Y : Type 0} → (X → Y) → Result X Arm → Answer Y → Type 0
-Shows view (Ok x) answer = answer ≡ Ok (view x)
-Shows view (Err arm) answer = answer ≡ Err arm

@@ -1,6 +1,6 @@
 //! Parents and children, and what floats.
 
-ghost use Rattle.std.specs.Prelude.{◌≡◌, ℕ, is_some, ◌+◌, ◌-◌, ◌*◌, ◌^◌, ◌<◌, ◌≤◌, ◌++◌, ◌∷◌, [], IfOk, IsSome, Some, None, length, nat_eq, slice_get, OnOk, OnErr};
+ghost use Rattle.std.specs.Prelude.{◌≡◌, ℕ, is_some, ◌+◌, ◌-◌, ◌^◌, ◌<◌, ◌≤◌, ◌++◌, ◌∷◌, [], IfOk, IsSome, Some, None, length, nat_eq, slice_get, OnOk, OnErr};
 ghost use Rattle.std.specs.List.{list_any};
 ghost use Rattle.ui_machine.specs.Seq.{total};
 ghost use Rattle.ui_machine.specs.State.Config.{without};
@@ -8,7 +8,7 @@ ghost use Rattle.ui_machine.specs.State.Objects.{living};
 ghost use Rattle.ui_machine.specs.State.References.{same};
 ghost use Rattle.ui_machine.specs.Rules.Children.{updated, with_child, with_parent, without_child};
 ghost use Rattle.ui_machine.specs.Rules.Disposal.{children_of};
-ghost use Rattle.instance_tables.specs.Store.{CreatesFloating, CreatesHeld, id_of, ids_of, count_of, with_count, with_objects, so_often};
+ghost use Rattle.instance_tables.specs.Store.{CreatesFloating, CreatesHeld, id_of, ids_of, count_of, with_count, with_objects};
 ghost use Rattle.instance_tables.specs.Family.{refusal_in, parent_in, Adopts, Leaves, Sinks};
 
 use crate::error::{AdoptError, CreateError};
@@ -90,6 +90,7 @@ impl Table {
 
     // One object more is among the children of the other, which holds it.
     fn hold_child(&mut self, parent: ObjectId, child: ObjectId) -> Result<(), AllocError>
+        requires parent { IsSome (living self.old.objects parent.0) }
         requires live { IsSome (living self.old.objects child.0) }
         requires room { count_of self.old.counts child.0 < 2 ^ 128 - 1 }
         ensures ok { OnOk result (self.new ≡ with_count (with_objects self.old (updated (with_child child.0) parent.0 self.old.objects)) child.0 (count_of self.old.counts child.0 + 1)) }
@@ -100,15 +101,15 @@ impl Table {
         Ok(())
     }
 
-    // Adds a child to an object.
+    // Adds a child to an object that lives.
     fn add_child(&mut self, parent: ObjectId, child: ObjectId) -> Result<(), AllocError>
+        requires live { IsSome (living self.old.objects parent.0) }
         requires given { child.0 ≤ length self.old.objects }
         ensures ok { OnOk result (self.new ≡ with_objects self.old (updated (with_child child.0) parent.0 self.old.objects)) }
-        ensures live { OnOk result (IsSome (living self.old.objects parent.0)) }
         ensures err { OnErr result (self.new ≡ self.old) }
     {
         let Some(instance) = self.instances.get_mut(parent) else {
-            return Err(AllocError);
+            unreachable!()
         };
         instance.object.add_child(child)?;
         Ok(())

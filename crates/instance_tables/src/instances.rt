@@ -11,7 +11,6 @@ ghost use Rattle.std.specs.BTreeMap.Range.{entries_between};
 ghost use Rattle.std.specs.List.Sorted.{IsStrictlySortedBy};
 ghost use Rattle.std.specs.Map.{keys_of};
 ghost use Rattle.std.specs.declared.ops.Bound.TheVariants.{Included, Unbounded};
-ghost use Rattle.instance_tables.specs.Bounds.{HoldFew};
 ghost use Rattle.instance_tables.specs.Lent.{LendsInstance};
 ghost use Rattle.instance_tables.specs.Names.{forgotten_in};
 ghost use Rattle.instance_tables.specs.Store.{id_of};
@@ -153,18 +152,6 @@ impl Instances {
             }
         }
         None
-    }
-
-    /// A law: what each has is kept in lists, which are never longer than memory. It looks at each; no program calls it.
-    pub(crate) fn hold_few(&self)
-        ensures { HoldFew self.now }
-    {
-        for (_id, key) in self.keys.iter() {
-            let Some(entry) = self.entries.get(*key) else {
-                continue;
-            };
-            entry.instance.object.holds_few();
-        }
     }
 
     /// Each weak value that names the object becomes null. All are looked at.

@@ -1,9 +1,6 @@
 //! Properties that are written, and the mentions that move with them.
 
-ghost use Rattle.std.specs.Prelude.{◌≡◌, ℕ, ◌+◌, ◌-◌, cond, true, false, Ok, Err};
-ghost use Rattle.ui_machine.specs.Definition.Values as values;
-ghost use Rattle.ui_machine.specs.declared.arm.Arm as arms;
-ghost use Rattle.ui_machine.specs.Outcome.{Gives};
+ghost use Rattle.std.specs.Prelude.{◌≡◌, ℕ, ◌+◌, ◌-◌, cond, true, false, IsOk, Ok};
 ghost use Rattle.ui_machine.specs.State.Objects.{asked, changed, living, value_at, with_value};
 ghost use Rattle.ui_machine.specs.State.References.{in_option, in_value};
 ghost use Rattle.g_values.specs.View.{value_view};
@@ -14,36 +11,24 @@ use crate::object_values::named;
 use crate::table::Table;
 use crate::weak::WeakSlots;
 use g_values::Value;
-use ui_machine::{Arm, ObjectId, Slot};
+use ui_machine::{ObjectId, Slot};
 
 impl Table {
-    /// Writes a property, and answers what it was. Where the property is strong, the old value's object is let go, and the new
-    /// one's is held, if it lives and may be held once more. An error leaves all as it was.
-    ///
-    /// # Errors
-    ///
-    /// The arm by which the machine is stuck here, if it is.
-    pub fn write(
-        &mut self,
-        weak: &WeakSlots,
-        id: ObjectId,
-        slot: Slot,
-        value: Value,
-    ) -> Result<Value, Arm>
-        ensures changes { Gives value_view result (changed self.old.objects id.0 (with_value slot (value_view value))) self.new.objects }
+    /// Writes a property of an object that lives, by a slot that it has, and answers what it was. Where the property is strong, the old
+    /// value's object is let go, and the new one's is held, if it lives and may be held once more.
+    pub fn write(&mut self, weak: &WeakSlots, id: ObjectId, slot: Slot, value: Value) -> Value
+        requires slot { IsOk (asked self.old.objects id.0 (value_at slot)) }
+        ensures changes { changed self.old.objects id.0 (with_value slot (value_view value)) ≡ Ok (record { state = self.new.objects; answer = value_view result }) }
         ensures beside { self.new ≡ record self.old { objects = self.new.objects; counts = self.new.counts } }
-        ensures refused { (arm : arms.Arm) → asked self.old.objects id.0 (value_at slot) ≡ Err arm → self.new ≡ self.old }
-        ensures moves { (was : values.Value) → asked self.old.objects id.0 (value_at slot) ≡ Ok was
-            → may_hold_any self.old (named_by (value_view value)) ≡ true
+        ensures moves { may_hold_any self.old (named_by (value_view value)) ≡ true
             → let strong = strong_in weak.now slot (living self.old.objects id.0) in
             (o : ℕ) → count_of self.new.counts o
-            ≡ count_of self.old.counts o + cond strong (in_value o (value_view value)) 0 - cond strong (in_value o was) 0 }
-        ensures lets_go { (was : values.Value) → asked self.old.objects id.0 (value_at slot) ≡ Ok was
-            → may_hold_any self.old (named_by (value_view value)) ≡ false
+            ≡ count_of self.old.counts o + cond strong (in_value o (value_view value)) 0 - cond strong (in_value o (value_view result)) 0 }
+        ensures lets_go { may_hold_any self.old (named_by (value_view value)) ≡ false
             → let strong = strong_in weak.now slot (living self.old.objects id.0) in
-            (o : ℕ) → count_of self.new.counts o ≡ count_of self.old.counts o - cond strong (in_value o was) 0 }
+            (o : ℕ) → count_of self.new.counts o ≡ count_of self.old.counts o - cond strong (in_value o (value_view result)) 0 }
     {
-        let was = named(self.read(id, slot)?);
+        let was = named(self.read(id, slot));
         let is_strong = self.is_strong(weak, id, slot);
         let to = named(&value);
         self.limit_namers(weak, to);

@@ -1,11 +1,10 @@
 //! One object.
 
-ghost use Rattle.std.specs.Prelude.{◌≡◌, ◌+◌, ◌<◌, ◌↔◌, IsTrue, map, reverse, length, nat_le, false, [], slice_get, OnOk, OnErr};
+ghost use Rattle.std.specs.Prelude.{◌≡◌, ◌+◌, ◌-◌, ◌<◌, ◌^◌, ◌↔◌, IsTrue, IfOk, Ok, map, reverse, length, nat_le, slice_get, OnOk, OnErr};
 ghost use Rattle.std.specs.Option.{option_map};
 ghost use Rattle.ui_machine.specs.State.Objects.{value_at, with_value};
 ghost use Rattle.ui_machine.specs.Rules.NotifyQueue.{raised, frozen_more, frozen_less};
 ghost use Rattle.ui_machine.specs.Rules.Children.{most_children, with_child, with_parent, without_child};
-ghost use Rattle.ui_machine.specs.Outcome.{Gives, Follows};
 ghost use Rattle.ui_machine.specs.declared.ids.ObjectId.{ObjectId};
 ghost use Rattle.g_values.specs.View.{value_view};
 ghost use Rattle.instance_tables.specs.Weak.{forgetting};
@@ -13,7 +12,7 @@ ghost use Rattle.instance_tables.specs.Bounds.{HoldsFew};
 ghost use Rattle.instance_tables.specs.Family.{KeepsKin};
 ghost use Rattle.instance_tables.specs.Names.{names_any};
 ghost use Rattle.instance_tables.specs.Release.{emptied, name_in};
-ghost use Rattle.instance_tables.specs.Store.{id_of, ids_of, made_object, Shows};
+ghost use Rattle.instance_tables.specs.Store.{id_of, ids_of, made_object};
 
 use crate::ids::remove_id;
 use crate::object_values::{drop_values, forget_values, is_named, named};
@@ -24,7 +23,7 @@ use std::alloc::{AllocError, Global};
 use std::marker::Model;
 use std::mem;
 use type_tree::TypeId;
-use ui_machine::{Arm, Halt, ObjectId, Place, Slot};
+use ui_machine::{ObjectId, Place, Slot};
 
 // The most children that an object has.
 const MOST_CHILDREN: usize = 1024;
@@ -151,6 +150,7 @@ impl Object {
     // Adds a child behind the others.
     pub(crate) fn add_child(&mut self, child: ObjectId) -> Result<(), AllocError>
         ensures ok { OnOk result (self.new ≡ with_child child.0 self.old) }
+        ensures few { OnOk result (HoldsFew self.new) }
         ensures err { OnErr result (self.new ≡ self.old) }
     {
         self.children.push(child)?;
@@ -205,34 +205,21 @@ impl Object {
         mem::replace(&mut self.children, Vec::new(alloc))
     }
 
-    /// The value of a property.
-    ///
-    /// # Errors
-    ///
-    /// The arm by which the machine is stuck here, if it is.
-    pub fn read(&self, slot: Slot) -> Result<&Value, Arm>
-        ensures { Shows (λ v. value_view v.now) result (value_at slot self.now) }
+    /// The value of a property, by a slot that it has.
+    pub fn read(&self, slot: Slot) -> &Value
+        requires slot { slot < length self.now.values }
+        ensures { value_at slot self.now ≡ Ok (value_view result.now) }
     {
-        self.values.get(usize::from(slot)).ok_or(Arm::Code)
+        &self.values[usize::from(slot)]
     }
 
-    /// Writes a property, and answers what it was.
-    ///
-    /// # Errors
-    ///
-    /// The arm by which the machine is stuck here, if it is. Nothing has changed then.
-    #[tactic(auto, unfolding(ui_machine::specs::State::Objects::with_value))]
-    pub fn write(&mut self, slot: Slot, value: Value) -> Result<Value, Arm>
-        ensures changes { Gives value_view result (with_value slot (value_view value) self.old) self.new }
+    /// Writes a property, by a slot that it has, and answers what it was.
+    pub fn write(&mut self, slot: Slot, value: Value) -> Value
+        requires slot { slot < length self.old.values }
+        ensures changes { with_value slot (value_view value) self.old ≡ Ok (record { state = self.new; answer = value_view result }) }
         ensures kin { KeepsKin self.old self.new }
-        ensures refused { OnErr result (self.new ≡ self.old) }
     {
-        let slot = usize::from(slot);
-        if slot >= self.values.len() {
-            return Err(Arm::Code);
-        }
-        let old = mem::replace(&mut self.values[slot], value);
-        Ok(old)
+        mem::replace(&mut self.values[usize::from(slot)], value)
     }
 
     /// Whether its notifications are frozen.
@@ -242,49 +229,34 @@ impl Object {
         self.queue.is_frozen()
     }
 
-    /// Adds one freeze, unless there are as many as may be.
-    ///
-    /// # Errors
-    ///
-    /// The arm by which the machine is stuck here, if it is. Nothing has changed then.
-    pub fn freeze(&mut self) -> Result<(), Arm>
-        ensures changes { Gives (λ _. tt) result (frozen_more self.old) self.new }
+    /// Adds one freeze, where there are fewer than may be.
+    pub fn freeze(&mut self)
+        requires { self.old.freezes < 2 ^ 64 - 1 }
+        ensures changes { frozen_more self.old ≡ Ok (record { state = self.new; answer = tt }) }
         ensures kin { KeepsKin self.old self.new }
-        ensures refused { OnErr result (self.new ≡ self.old) }
     {
-        if !self.queue.can_freeze() {
-            return Err(Arm::Freeze);
-        }
         self.queue.freeze();
-        Ok(())
     }
 
-    /// Takes one freeze off, and answers the notifications that are then made, the last first.
-    ///
-    /// # Errors
-    ///
-    /// The arm by which the machine is stuck here, if it is. Nothing has changed then.
-    pub fn thaw(&mut self, alloc: Global) -> Result<Vec<Slot>, Arm>
-        ensures changes { Gives (λ slots. reverse slots.items) result (frozen_less self.old) self.new }
+    /// Takes one freeze off, where there is one, and answers the notifications that are then made, the last first.
+    pub fn thaw(&mut self, alloc: Global) -> Vec<Slot>
+        requires { 0 < self.old.freezes }
+        ensures changes { frozen_less self.old ≡ Ok (record { state = self.new; answer = reverse result.items }) }
         ensures kin { KeepsKin self.old self.new }
-        ensures refused { OnErr result (self.new ≡ self.old) }
     {
-        if !self.queue.is_frozen() {
-            return Err(Arm::Freeze);
-        }
         let Some(slots) = self.queue.thaw() else {
-            return Ok(Vec::new(alloc));
+            return Vec::new(alloc);
         };
-        Ok(slots)
+        slots
     }
 
     /// Queues a notification while frozen, and else answers that it is to be made at once.
     ///
     /// # Errors
     ///
-    /// `Halt::OutOfMemory` if memory is refused, and `Halt::Stuck` where the machine is stuck here. Nothing has changed then.
-    pub fn add(&mut self, slot: Slot) -> Result<bool, Halt>
-        ensures changes { Follows (λ now. now) result (raised slot self.old) self.new }
+    /// `AllocError` if memory is refused. Nothing has changed then.
+    pub fn add(&mut self, slot: Slot) -> Result<bool, AllocError>
+        ensures changes { IfOk result (λ now. raised slot self.old ≡ Ok (record { state = self.new; answer = now })) }
         ensures kin { KeepsKin self.old self.new }
         ensures refused { OnErr result (self.new ≡ self.old) }
     {

@@ -1,16 +1,13 @@
 //! The objects by their identities.
 
-ghost use Rattle.std.specs.Prelude.{◌≡◌, ℕ, ◌+◌, ◌-◌, ◌<◌, ◌≤◌, ◌^◌, ◌↔◌, [], IfSome, IsSome, IsTrue, is_some, None, Ok, map, reverse, OnOk, OnErr};
+ghost use Rattle.std.specs.Prelude.{◌≡◌, ℕ, ◌+◌, ◌-◌, ◌<◌, ◌^◌, ◌↔◌, [], IfOk, IfSome, IsOk, IsSome, IsTrue, is_some, None, Ok, reverse, OnErr};
 ghost use Rattle.ui_machine.specs.State.Objects.{asked, changed, living, value_at, with_value};
 ghost use Rattle.ui_machine.specs.State.References.{next_unheld};
 ghost use Rattle.ui_machine.specs.Rules.NotifyQueue.{raised, frozen_more, frozen_less};
 ghost use Rattle.ui_machine.specs.Rules.Sets.{is_disposed};
 ghost use Rattle.ui_machine.specs.Rules.Disposal.{peer_of};
-ghost use Rattle.ui_machine.specs.Outcome.{Gives, Follows};
 ghost use Rattle.g_values.specs.View.{value_view};
-ghost use Rattle.ui_machine.specs.declared.ids.ObjectId.{ObjectId};
-ghost use Rattle.ui_machine.specs.declared.ids.Place.{Place};
-ghost use Rattle.instance_tables.specs.Store.{Shows, count_of, freezes_in, id_of, with_count, with_objects, has_room, may_hold, so_often, Creates};
+ghost use Rattle.instance_tables.specs.Store.{count_of, freezes_in, id_of, with_count, with_objects, has_room, may_hold, so_often, Creates};
 
 use crate::error::CreateError;
 use crate::instance::Instance;
@@ -20,10 +17,10 @@ use crate::object::Object;
 use crate::object_values::named;
 use crate::unheld::{lower, lowest_beside, lowest_with};
 use g_values::Value;
-use std::alloc::Global;
+use std::alloc::{AllocError, Global};
 use std::marker::Model;
 use type_tree::TypeId;
-use ui_machine::{Arm, Halt, ObjectId, Place, Slot};
+use ui_machine::{ObjectId, Place, Slot};
 
 /// The objects that live, and how often each is held.
 #[derive(Drop)]
@@ -47,13 +44,15 @@ impl Model for Table {
     ghost use Rattle.instance_tables.specs.Store.{id_of};
     ghost use Rattle.instance_tables.specs.View.{instances_at, store_of, held_in, InRange, IsLowestUnheld, KinInRange};
     ghost use Rattle.instance_tables.specs.Names.{NamersKnow};
+    ghost use Rattle.instance_tables.specs.Bounds.{AllHoldFew};
 
     ghost view = { λ t. store_of (instances_at t.instances) t.made t.limit t.floating.items };
 
     ghost invariant = { λ t. InRange (instances_at t.instances) t.made
         × IsLowestUnheld (held_in (instances_at t.instances)) (id_of t.unheld)
         × KinInRange (instances_at t.instances) t.made
-        × NamersKnow t.namers (instances_at t.instances) };
+        × NamersKnow t.namers (instances_at t.instances)
+        × AllHoldFew (instances_at t.instances) };
 }
 
 impl Table {
@@ -108,6 +107,8 @@ impl Table {
         let Some(id) = self.made.checked_add(1) else {
             return Err(CreateError::ObjectLimit);
         };
+        // For the proof: how many values it has.
+        object.holds_few();
         self.namers.add_names(&object, ObjectId(id));
         let instance = Instance {
             object,
@@ -129,32 +130,26 @@ impl Table {
         self.instances.contains(id)
     }
 
-    /// The class of an object.
-    ///
-    /// # Errors
-    ///
-    /// The arm by which the machine is stuck here, if it is.
-    pub fn class_of(&self, id: ObjectId) -> Result<TypeId, Arm>
-        ensures { Shows (λ class. class) result (asked self.now.objects id.0 (λ o. Ok o.class)) }
+    /// The class of an object that lives.
+    pub fn class_of(&self, id: ObjectId) -> TypeId
+        requires live { IsSome (living self.now.objects id.0) }
+        ensures { asked self.now.objects id.0 (λ o. Ok o.class) ≡ Ok result }
     {
         let Some(instance) = self.instances.get(id) else {
-            return Err(Arm::Operand);
+            unreachable!()
         };
-        Ok(instance.object.class())
+        instance.object.class()
     }
 
-    /// The place of an object.
-    ///
-    /// # Errors
-    ///
-    /// The arm by which the machine is stuck here, if it is.
-    pub fn place_of(&self, id: ObjectId) -> Result<Place, Arm>
-        ensures { Shows (λ (place : Place). place.0) result (asked self.now.objects id.0 (λ o. Ok o.place)) }
+    /// The place of an object that lives.
+    pub fn place_of(&self, id: ObjectId) -> Place
+        requires live { IsSome (living self.now.objects id.0) }
+        ensures { asked self.now.objects id.0 (λ o. Ok o.place) ≡ Ok result.0 }
     {
         let Some(instance) = self.instances.get(id) else {
-            return Err(Arm::Operand);
+            unreachable!()
         };
-        Ok(instance.object.place())
+        instance.object.place()
     }
 
     /// Whether an object lives and was disposed.
@@ -177,29 +172,26 @@ impl Table {
         instance.object.peer()
     }
 
-    /// The value of a property.
-    ///
-    /// # Errors
-    ///
-    /// The arm by which the machine is stuck here, if it is.
-    pub fn read(&self, id: ObjectId, slot: Slot) -> Result<&Value, Arm>
-        ensures { Shows (λ v. value_view v.now) result (asked self.now.objects id.0 (value_at slot)) }
+    /// The value of a property of an object that lives, by a slot that it has.
+    pub fn read(&self, id: ObjectId, slot: Slot) -> &Value
+        requires slot { IsOk (asked self.now.objects id.0 (value_at slot)) }
+        ensures { asked self.now.objects id.0 (value_at slot) ≡ Ok (value_view result.now) }
     {
         let Some(instance) = self.instances.get(id) else {
-            return Err(Arm::Operand);
+            unreachable!()
         };
         instance.object.read(slot)
     }
 
     // Writes a property, and answers what it was. Who holds what is the caller's to count.
-    pub(crate) fn replace(&mut self, id: ObjectId, slot: Slot, value: Value) -> Result<Value, Arm>
-        ensures changes { Gives value_view result (changed self.old.objects id.0 (with_value slot (value_view value))) self.new.objects }
+    pub(crate) fn replace(&mut self, id: ObjectId, slot: Slot, value: Value) -> Value
+        requires slot { IsOk (asked self.old.objects id.0 (value_at slot)) }
+        ensures changes { changed self.old.objects id.0 (with_value slot (value_view value)) ≡ Ok (record { state = self.new.objects; answer = value_view result }) }
         ensures beside { self.new ≡ with_objects self.old self.new.objects }
-        ensures refused { OnErr result (self.new ≡ self.old) }
     {
         self.namers.add_any(named(&value), id);
         let Some(instance) = self.instances.get_mut(id) else {
-            return Err(Arm::Operand);
+            unreachable!()
         };
         instance.object.write(slot, value)
     }
@@ -214,51 +206,44 @@ impl Table {
         instance.object.is_frozen()
     }
 
-    /// Adds one freeze to an object.
-    ///
-    /// # Errors
-    ///
-    /// The arm by which the machine is stuck here, if it is. Nothing has changed then.
-    pub fn freeze(&mut self, id: ObjectId) -> Result<(), Arm>
-        ensures changes { Gives (λ _. tt) result (changed self.old.objects id.0 frozen_more) self.new.objects }
+    /// Adds one freeze to an object that lives and may be frozen once more.
+    pub fn freeze(&mut self, id: ObjectId)
+        requires able { IsOk (changed self.old.objects id.0 frozen_more) }
+        ensures changes { changed self.old.objects id.0 frozen_more ≡ Ok (record { state = self.new.objects; answer = tt }) }
         ensures beside { self.new ≡ with_objects self.old self.new.objects }
-        ensures refused { OnErr result (self.new ≡ self.old) }
     {
         let Some(instance) = self.instances.get_mut(id) else {
-            return Err(Arm::Operand);
+            unreachable!()
         };
-        instance.object.freeze()
+        instance.object.freeze();
     }
 
-    /// Takes one freeze off an object, and answers the notifications that are then made, the last first.
-    ///
-    /// # Errors
-    ///
-    /// The arm by which the machine is stuck here, if it is. Nothing has changed then.
-    pub fn thaw(&mut self, id: ObjectId) -> Result<Vec<Slot>, Arm>
-        ensures changes { Gives (λ slots. reverse slots.items) result (changed self.old.objects id.0 frozen_less) self.new.objects }
+    /// Takes one freeze off an object that is frozen, and answers the notifications that are then made, the last first.
+    pub fn thaw(&mut self, id: ObjectId) -> Vec<Slot>
+        requires able { IsOk (changed self.old.objects id.0 frozen_less) }
+        ensures changes { changed self.old.objects id.0 frozen_less ≡ Ok (record { state = self.new.objects; answer = reverse result.items }) }
         ensures beside { self.new ≡ with_objects self.old self.new.objects }
-        ensures refused { OnErr result (self.new ≡ self.old) }
     {
         let alloc = self.alloc;
         let Some(instance) = self.instances.get_mut(id) else {
-            return Err(Arm::Operand);
+            unreachable!()
         };
         instance.object.thaw(alloc)
     }
 
-    /// Queues a notification while the object is frozen, and else answers that it is to be made at once.
+    /// Queues a notification while the object, which lives, is frozen, and else answers that it is to be made at once.
     ///
     /// # Errors
     ///
-    /// `Halt::OutOfMemory` if memory is refused, and `Halt::Stuck` where the machine is stuck here. Nothing has changed then.
-    pub fn add(&mut self, id: ObjectId, slot: Slot) -> Result<bool, Halt>
-        ensures changes { Follows (λ now. now) result (changed self.old.objects id.0 (raised slot)) self.new.objects }
+    /// `AllocError` if memory is refused. Nothing has changed then.
+    pub fn add(&mut self, id: ObjectId, slot: Slot) -> Result<bool, AllocError>
+        requires live { IsSome (living self.old.objects id.0) }
+        ensures changes { IfOk result (λ now. changed self.old.objects id.0 (raised slot) ≡ Ok (record { state = self.new.objects; answer = now })) }
         ensures beside { self.new ≡ with_objects self.old self.new.objects }
         ensures refused { OnErr result (self.new ≡ self.old) }
     {
         let Some(instance) = self.instances.get_mut(id) else {
-            return Err(Halt::Stuck(Arm::Operand));
+            unreachable!()
         };
         instance.object.add(slot)
     }

@@ -1,16 +1,14 @@
 -- Classes, numbers of properties and peers that objects keep as the objects change.
-use Rattle.std.proofs.Common.{◌≡◌, refl, sym, ap, ◌∙◌, ℕ, zero, suc, ◌<◌, max, length, List, [], ◌∷◌, ◌++◌, Bool, true, false, map, nat_lt, nat_eq, cond, Option, None, Some, Result, Ok, Err, slice_get, slice_set, length-set, subst, ◌-◌, ◌⊎◌, inl, inr, OnErr, arith}
+use Rattle.std.proofs.Common.{◌≡◌, refl, sym, ap, ◌∙◌, ℕ, zero, suc, ◌<◌, max, length, List, [], ◌∷◌, ◌++◌, Bool, true, false, map, nat_lt, nat_eq, cond, Option, None, Some, Result, Ok, Err, slice_get, slice_set, length-set, subst, ◌-◌, ◌⊎◌, inl, inr, IfOk, OnErr, arith}
 use Rattle.std.specs.Option.{ForSome, option_map}
 use Rattle.std.proofs.lemmas.List.{length-map}
-use Rattle.ui_machine.specs.declared.arm.Halt.{Halt}
-use Rattle.ui_machine.specs.declared.arm.Arm.{Arm}
 use Rattle.ui_machine.specs.declared.arm.Arm.TheVariants as arms
 use Rattle.ui_machine.specs.Definition.{Definition}
 use Rattle.ui_machine.specs.Definition.Lookups as machine
 use Rattle.ui_machine.specs.Definition.Properties.{Spec}
 use Rattle.ui_machine.specs.Definition.Types.{GType}
 use Rattle.ui_machine.specs.Definition.Values.{Value}
-use Rattle.ui_machine.specs.Outcome.{After, Answer, Follows, Gives, known, only_if, ◌>>=◌}
+use Rattle.ui_machine.specs.Outcome.{After, Answer, known, only_if, ◌>>=◌}
 use Rattle.ui_machine.specs.Seq.{read, write}
 use Rattle.ui_machine.specs.State.Objects.{Object, Objects, changed, living, put, with_value}
 use Rattle.ui_machine.specs.Rules.Children.{updated, with_child, with_parent, without_child}
@@ -24,10 +22,6 @@ use Rattle.instance_tables.proofs.Disposed.{known_by}
 use Rattle.instance_tables.specs.Family.{Adopts, Leaves, parent_in}
 use Rattle.instance_tables.specs.declared.error.AdoptError.{AdoptError}
 use Rattle.instance_tables.specs.declared.error.AdoptError.TheVariants.{NotLiving, HasParent, ChildLimit, OutOfMemory}
-use Rattle.instance_tables.specs.Release.{values_in}
-use Rattle.g_values.specs.View.{value_view}
-use Rattle.g_values.specs.declared.value.Value as code
-use Rattle.instances.proofs.Living.{writes_there}
 use Rattle.instances.specs.Lent.{AreApart, AreLent, IsFree, peer_at}
 use Rattle.instances.specs.Making.{born}
 use Rattle.instances.specs.Slotted.{AreSlotted}
@@ -273,16 +267,11 @@ raising_keeps slot o a e = by (nat_eq o.freezes 0) (record { state = o; answer =
     by true w v same_w same_v h = let is : w ≡ a = cc h in sym (ap (λ (x : After Object Bool). lasting_of x.state) is) ∙ same_w
     by false w v same_w same_v h = let is : v ≡ a = cc h in sym (ap (λ (x : After Object Bool). lasting_of x.state) is) ∙ same_v
 
--- whatever the code answers
-pub fewer_gives : {X Y : Type 0} (view : X → Y) (r : Result X Arm) (s n : Store) (id : ℕ) (change : Object → Answer (After Object Y)) → KeepsLasting change
-    → Gives view r (changed s.objects id change) n.objects → OnErr r (n ≡ s) → NoMore s.objects n.objects
-fewer_gives view (Ok x) s n id change keeps gives same = fewer_changed s.objects n.objects id change (view x) keeps gives
-fewer_gives view (Err arm) s n id change keeps gives same = same_objects s.objects n.objects (ap (λ (y : Store). y.objects) same)
-
-pub fewer_follows : {X Y : Type 0} (view : X → Y) (r : Result X Halt) (s n : Store) (id : ℕ) (change : Object → Answer (After Object Y)) → KeepsLasting change
-    → Follows view r (changed s.objects id change) n.objects → OnErr r (n ≡ s) → NoMore s.objects n.objects
-fewer_follows view (Ok x) s n id change keeps gives same = fewer_changed s.objects n.objects id change (view x) keeps gives
-fewer_follows view (Err halt) s n id change keeps gives same = same_objects s.objects n.objects (ap (λ (y : Store). y.objects) same)
+-- where memory may be refused
+pub fewer_follows : {Y E : Type 0} (r : Result Y E) (s n : Store) (id : ℕ) (change : Object → Answer (After Object Y)) → KeepsLasting change
+    → IfOk r (λ a. changed s.objects id change ≡ Ok (record { state = n.objects; answer = a })) → OnErr r (n ≡ s) → NoMore s.objects n.objects
+fewer_follows (Ok a) s n id change keeps is same = fewer_changed s.objects n.objects id change a keeps is
+fewer_follows (Err why) s n id change keeps is same = same_objects s.objects n.objects (ap (λ (y : Store). y.objects) same)
 
 -- ** disposed and finalised in a table
 
@@ -377,10 +366,3 @@ pub slotted_floating : (types : List GType) (specs : List (List Spec)) (id : ℕ
     → (has_room 0 s ≡ true) × (id ≡ suc (length s.objects)) × (n ≡ with_floating id (with_object o s)) → AreSlotted types specs n.objects
 slotted_floating types specs id s n o are full created =
     subst (AreSlotted types specs) (sym (ap (λ (x : Store). x.objects) created.2)) (slotted_born types specs id s (with_object o s) o are full (created.0, created.1, refl))
-
--- ** a property that is written, by a slot that is there
-
-pub fewer_writing : (r : Result code.Value Arm) (s n : Store) (id slot : ℕ) (v : Value) → slot < length (values_in (living s.objects id))
-    → Gives value_view r (changed s.objects id (with_value slot v)) n.objects → NoMore s.objects n.objects
-fewer_writing (Ok x) s n id slot v small gives = fewer_changed s.objects n.objects id (with_value slot v) (value_view x) (writing_keeps slot v) gives
-fewer_writing (Err arm) s n id slot v small gives = absurd (writes_there s.objects id slot v arm small gives)

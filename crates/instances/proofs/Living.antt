@@ -1,20 +1,20 @@
 -- What a table answers of an object that lives.
-use Rattle.std.proofs.Common.{◌+◌, ◌≡◌, refl, ap, ◌∙◌, ℕ, zero, suc, ◌<◌, ◌-◌, ◌^◌, List, [], ◌∷◌, true, length, nat_lt, Option, None, Some, IsSome, Ok, Err, slice_get, slice_set, arith}
+use Rattle.std.proofs.Common.{◌+◌, ◌≡◌, refl, ap, ◌∙◌, ℕ, zero, suc, ◌<◌, ◌-◌, ◌^◌, List, [], ◌∷◌, Bool, true, length, nat_lt, Option, None, Some, IsSome, Result, Ok, Err, IsOk, IfOk, slice_get, arith}
 use Rattle.std.specs.Option.{option_map}
 use Rattle.std.proofs.lemmas.Bool.Decides.{nat_tests}
-use Rattle.ui_machine.specs.declared.arm.Arm.{Arm}
 use Rattle.ui_machine.specs.declared.arm.Arm.TheVariants as arms
 use Rattle.ui_machine.specs.Definition.Properties.{Spec}
 use Rattle.ui_machine.specs.Definition.Types.{GType}
 use Rattle.ui_machine.specs.Definition.Values.{Value}
 use Rattle.ui_machine.specs.Outcome.{After, Answer, known, ◌>>=◌}
-use Rattle.ui_machine.specs.State.Objects.{Object, Objects, asked, changed, class_in, living, put, value_at, with_value}
+use Rattle.ui_machine.specs.State.Objects.{Object, Objects, asked, changed, class_in, living, put, value_at}
 use Rattle.ui_machine.specs.Rules.NotifyQueue.{frozen_less, frozen_more, less_frozen, raised}
 use Rattle.param_specs.specs.Table.{specs_of}
 use Rattle.instance_tables.specs.Release.{values_in}
-use Rattle.instance_tables.specs.Store.{Store, count_of, freezes_in, with_count}
+use Rattle.instance_tables.specs.Store.{Store, count_of, freezes_in, with_count, with_objects}
 use Rattle.instance_tables.proofs.Families.{was_made}
 use Rattle.instance_tables.proofs.Moves.{count_here}
+use Rattle.instances.specs.Calls.{Changes}
 use Rattle.instances.specs.Slotted.{AreSlotted}
 
 -- ** what is read
@@ -27,26 +27,18 @@ asked_there {X} os id f x is = by (living os id) is
     by None e = absurd (cc e)
     by (Some o) e = let here : f o ≡ x = cc e in ap Some here
 
-pub not_refused : {X : Type 0} (os : Objects) (id : ℕ) (f : Object → X) (arm : Arm) → IsSome (living os id) → asked os id (λ o. Ok (f o)) ≡ Err arm → ⊥
-unfolding asked
-not_refused {X} os id f arm lives is = by (living os id) lives is
-  where
-    by : (o : Option Object) → IsSome o → (known arms.Operand o >>= λ y. Ok (f y)) ≡ Err arm → ⊥
-    by None some e = absurd (cc some)
-    by (Some o) some e = absurd (cc e)
+value_there : (vs : List Value) (slot : ℕ) → slot < length vs → IsOk (known arms.Code (slice_get vs slot))
+value_there [] slot small = absurd (omega (arith, small))
+value_there (v ∷ vs) zero small = refl
+value_there (v ∷ vs) (suc slot) small = value_there vs slot (omega (arith, small))
 
-value_there : (vs : List Value) (slot : ℕ) (arm : Arm) → slot < length vs → known arms.Code (slice_get vs slot) ≡ Err arm → ⊥
-value_there [] slot arm small e = omega (arith, small)
-value_there (v ∷ vs) zero arm small e = absurd (cc e)
-value_there (v ∷ vs) (suc slot) arm small e = value_there vs slot arm (omega (arith, small)) e
-
-pub reads_there : (os : Objects) (id slot : ℕ) (arm : Arm) → slot < length (values_in (living os id)) → asked os id (value_at slot) ≡ Err arm → ⊥
+pub reads_there : (os : Objects) (id slot : ℕ) → slot < length (values_in (living os id)) → IsOk (asked os id (value_at slot))
 unfolding asked
-reads_there os id slot arm small is = by (living os id) small is
+reads_there os id slot small = by (living os id) small
   where
-    by : (o : Option Object) → slot < length (values_in o) → (known arms.Operand o >>= value_at slot) ≡ Err arm → ⊥
-    by None inside e = omega (arith, inside)
-    by (Some o) inside e = value_there o.values slot arm inside e
+    by : (o : Option Object) → slot < length (values_in o) → IsOk (known arms.Operand o >>= value_at slot)
+    by None inside = absurd (omega (arith, inside))
+    by (Some o) inside = value_there o.values slot inside
 
 -- an object has the slots of its class
 pub slots_there : (types : List GType) (specs : List (List Spec)) (os : Objects) (id class : ℕ) → AreSlotted types specs os → class_in os id ≡ Some class
@@ -66,23 +58,23 @@ abbrev Allows : {X : Type 0} → (Object → Answer (After Object X)) → Option
 Allows change None = ⊥
 Allows {X} change (Some o) = (a : After Object X) × (change o ≡ Ok a)
 
-changes_there : {X : Type 0} (os : Objects) (id : ℕ) (change : Object → Answer (After Object X)) (arm : Arm) → Allows change (living os id) → changed os id change ≡ Err arm → ⊥
+changes_there : {X : Type 0} (os : Objects) (id : ℕ) (change : Object → Answer (After Object X)) → Allows change (living os id) → IsOk (changed os id change)
 unfolding changed
-changes_there {X} os id change arm may is = by (living os id) may is
+changes_there {X} os id change may = by (living os id) may
   where
     put_in : After Object X → Answer (After Objects X)
     put_in w = Ok (record { state = put os id (Some w.state); answer = w.answer })
 
-    of_one : (r : Answer (After Object X)) (a : After Object X) → r ≡ Ok a → (r >>= put_in) ≡ Err arm → ⊥
-    of_one (Err other) a ok e = absurd (cc ok)
-    of_one (Ok w) a ok e = absurd (cc e)
+    of_one : (r : Answer (After Object X)) (a : After Object X) → r ≡ Ok a → IsOk (r >>= put_in)
+    of_one (Err other) a ok = absurd (cc ok)
+    of_one (Ok w) a ok = refl
 
-    by : (o : Option Object) → Allows change o → (known arms.Operand o >>= λ y. (change y >>= put_in)) ≡ Err arm → ⊥
-    by None allowed e = allowed
-    by (Some o) allowed e = of_one (change o) allowed.0 allowed.1 e
+    by : (o : Option Object) → Allows change o → IsOk (known arms.Operand o >>= λ y. (change y >>= put_in))
+    by None allowed = absurd allowed
+    by (Some o) allowed = of_one (change o) allowed.0 allowed.1
 
-pub freezes_there : (os : Objects) (id : ℕ) (arm : Arm) → IsSome (living os id) → freezes_in (living os id) < 2 ^ 64 - 1 → changed os id frozen_more ≡ Err arm → ⊥
-freezes_there os id arm lives room is = changes_there os id frozen_more arm (by (living os id) lives room) is
+pub freezes_there : (os : Objects) (id : ℕ) → IsSome (living os id) → freezes_in (living os id) < 2 ^ 64 - 1 → IsOk (changed os id frozen_more)
+freezes_there os id lives room = changes_there os id frozen_more (by (living os id) lives room)
   where
     by : (o : Option Object) → IsSome o → freezes_in o < 2 ^ 64 - 1 → Allows frozen_more o
     by None some few = absurd (cc some)
@@ -90,8 +82,8 @@ freezes_there os id arm lives room is = changes_there os id frozen_more arm (by 
         let yes : nat_lt o.freezes 18446744073709551615 ≡ true = grind (arith, nat_tests) in
         (record { state = record o { freezes = suc o.freezes }; answer = tt }, rw yes refl)
 
-pub thaws_there : (os : Objects) (id : ℕ) (arm : Arm) → 0 < freezes_in (living os id) → changed os id frozen_less ≡ Err arm → ⊥
-thaws_there os id arm frozen is = changes_there os id frozen_less arm (by (living os id) frozen) is
+pub thaws_there : (os : Objects) (id : ℕ) → 0 < freezes_in (living os id) → IsOk (changed os id frozen_less)
+thaws_there os id frozen = changes_there os id frozen_less (by (living os id) frozen)
   where
     by : (o : Option Object) → 0 < freezes_in o → Allows frozen_less o
     by None some = omega (arith, some)
@@ -99,32 +91,12 @@ thaws_there os id arm frozen is = changes_there os id frozen_less arm (by (livin
         let yes : nat_lt 0 o.freezes ≡ true = grind (arith, nat_tests) in
         (less_frozen (o.freezes - 1) o, rw yes refl)
 
-pub raises_there : (os : Objects) (id slot : ℕ) (arm : Arm) → IsSome (living os id) → changed os id (raised slot) ≡ Err arm → ⊥
-raises_there os id slot arm lives is = changes_there os id (raised slot) arm (by (living os id) lives) is
-  where
-    by : (o : Option Object) → IsSome o → Allows (raised slot) o
-    by None some = absurd (cc some)
-    by (Some o) some = (_, refl)
-
-written_there : (vs : List Value) (slot : ℕ) → slot < length vs → IsSome (slice_get vs slot)
-written_there [] slot small = absurd (omega (arith, small))
-written_there (v ∷ vs) zero small = refl
-written_there (v ∷ vs) (suc slot) small = written_there vs slot (omega (arith, small))
-
-pub writes_there : (os : Objects) (id slot : ℕ) (v : Value) (arm : Arm) → slot < length (values_in (living os id)) → changed os id (with_value slot v) ≡ Err arm → ⊥
-unfolding with_value
-writes_there os id slot v arm small is = changes_there os id (with_value slot v) arm (by (living os id) small) is
-  where
-    write_in : Object → Value → Answer (After Object Value)
-    write_in o old = Ok (record { state = record o { values = slice_set o.values slot v }; answer = old })
-
-    of_one : (o : Object) (x : Option Value) → IsSome x → (a : After Object Value) × ((known arms.Code x >>= write_in o) ≡ Ok a)
-    of_one o None some = absurd (cc some)
-    of_one o (Some old) some = (_, refl)
-
-    by : (o : Option Object) → slot < length (values_in o) → Allows (with_value slot v) o
-    by None inside = omega (arith, inside)
-    by (Some o) inside = of_one o (slice_get o.values slot) (written_there o.values slot inside)
+-- a notification that is raised changes one object
+pub raises : {E : Type 0} (r : Result Bool E) (id slot : ℕ) (s n : Store)
+    → IfOk r (λ now. changed s.objects id (raised slot) ≡ Ok (record { state = n.objects; answer = now })) → n ≡ with_objects s n.objects
+    → IfOk r (λ now. Changes id (raised slot) now s n)
+raises (Ok now) id slot s n is beside = record { objects = is; beside = beside }
+raises (Err why) id slot s n is beside = tt
 
 -- ** counts
 

@@ -1,6 +1,6 @@
 //! What is changed of one object of a heap.
 
-ghost use Rattle.std.specs.Prelude.{◌≡◌, ◌<◌, ◌^◌, ◌+◌, ◌-◌, ℕ, IfOk, IsSome, OnErr, OnOk, reverse};
+ghost use Rattle.std.specs.Prelude.{◌≡◌, ◌<◌, ◌^◌, ◌+◌, ◌-◌, IfOk, IsSome, OnErr, reverse};
 ghost use Rattle.ui_machine.specs.Rules.NotifyQueue.{frozen_less, frozen_more, raised};
 ghost use Rattle.ui_machine.specs.State.Objects.{living};
 ghost use Rattle.g_values.specs.View.{value_view};
@@ -11,7 +11,7 @@ ghost use Rattle.instances.specs.Heaps.{ChangesObjects, marks_of, objects_of};
 use crate::heaps::Heap;
 use g_values::Value;
 use std::alloc::AllocError;
-use ui_machine::{Halt, ObjectId, Slot};
+use ui_machine::{ObjectId, Slot};
 
 impl Heap<'_> {
     /// Writes a property of an object that lives, by a slot of its class, and answers what it was. Where the property is strong, the old
@@ -21,10 +21,7 @@ impl Heap<'_> {
         ensures writes { Writes (marks_of self.old) id.0 slot (value_view result) (value_view value) (objects_of self.old) (objects_of self.new) }
         ensures beside { ChangesObjects self.old self.new }
     {
-        let Ok(was) = self.table.write(self.classes.weak, id, slot, value) else {
-            unreachable!()
-        };
-        was
+        self.table.write(self.classes.weak, id, slot, value)
     }
 
     /// Holds an object once more.
@@ -54,9 +51,7 @@ impl Heap<'_> {
         ensures freezes { Changes id.0 frozen_more tt (objects_of self.old) (objects_of self.new) }
         ensures beside { ChangesObjects self.old self.new }
     {
-        let Ok(()) = self.table.freeze(id) else {
-            unreachable!()
-        };
+        self.table.freeze(id);
     }
 
     /// Takes one freeze off an object that is frozen, and answers the notifications that are then made, the last first.
@@ -65,10 +60,7 @@ impl Heap<'_> {
         ensures thaws { Changes id.0 frozen_less (reverse result.items) (objects_of self.old) (objects_of self.new) }
         ensures beside { ChangesObjects self.old self.new }
     {
-        let Ok(slots) = self.table.thaw(id) else {
-            unreachable!()
-        };
-        slots
+        self.table.thaw(id)
     }
 
     /// Queues a notification while an object is frozen, and else answers that it is to be made at once.
@@ -82,10 +74,6 @@ impl Heap<'_> {
         ensures err { OnErr result (objects_of self.new ≡ objects_of self.old) }
         ensures beside { ChangesObjects self.old self.new }
     {
-        match self.table.add(id, slot) {
-            Ok(now) => Ok(now),
-            Err(Halt::OutOfMemory) => Err(AllocError),
-            Err(Halt::Stuck(_)) => unreachable!(),
-        }
+        self.table.add(id, slot)
     }
 }

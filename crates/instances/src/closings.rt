@@ -1,15 +1,13 @@
 //! Peers that are closed with their objects.
 
-ghost use Rattle.std.specs.Prelude.{◌≡◌, ℕ, ◌<◌, ◌≤◌, Some, fold, length};
+ghost use Rattle.std.specs.Prelude.{◌≡◌, ℕ, ◌<◌, Some, fold, length};
 ghost use Rattle.ui_machine.specs.Rules.Disposal.{peers_closed};
 ghost use Rattle.ui_machine.specs.State.Objects.{living};
 ghost use Rattle.native_peers.specs.Matching.{as_peers};
 ghost use Rattle.native_peers.specs.Pool.{entries, relations, seen};
 ghost use Rattle.native_peers.specs.Seen.{SameRelations};
-ghost use Rattle.instances.specs.Heaps.{objects_of};
 ghost use Rattle.instances.specs.Lent.{AreLent, peer_at};
 
-use crate::heaps::Heap;
 use instance_tables::Table;
 use native_peers::{Peer, PeerPool};
 use ui_machine::ObjectId;

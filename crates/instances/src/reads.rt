@@ -48,10 +48,7 @@ impl Heap<'_> {
         ensures slots { (slot : ℕ) → slot < length (specs_of (classes_of self.now).types.now (classes_of self.now).specs.now result)
             → HasSlot (objects_of self.now) id.0 slot }
     {
-        let Ok(class) = self.table.class_of(id) else {
-            unreachable!()
-        };
-        class
+        self.table.class_of(id)
     }
 
     /// The place of an object.
@@ -59,10 +56,7 @@ impl Heap<'_> {
         requires { IsSome (living (objects_of self.now).objects id.0) }
         ensures { option_map (λ (o : machine.Object). o.place) (living (objects_of self.now).objects id.0) ≡ Some result.0 }
     {
-        let Ok(place) = self.table.place_of(id) else {
-            unreachable!()
-        };
-        place
+        self.table.place_of(id)
     }
 
     /// Whether an object lives and was disposed.
@@ -91,9 +85,6 @@ impl Heap<'_> {
         requires { HasSlot (objects_of self.now) id.0 slot }
         ensures { asked (objects_of self.now).objects id.0 (value_at slot) ≡ Ok (value_view result.now) }
     {
-        let Ok(value) = self.table.read(id, slot) else {
-            unreachable!()
-        };
-        value
+        self.table.read(id, slot)
     }
 }

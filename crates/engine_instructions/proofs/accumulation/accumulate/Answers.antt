@@ -10,8 +10,21 @@ use Rattle.engine_world.specs.declared.task.Transfers.TheVariants as at
 use Rattle.engine_instructions.specs.CollectView.{collects}
 use Rattle.engine_instructions.proofs.Collecting.{collect_suited, collect_unheard, collect_unknown, collected_as, collected_counts, still_begun, still_ends, collects_object, leaves_as}
 use Rattle.engine_world.proofs.Ableness.{no_arm}
+use Rattle.engine_world.proofs.LivingObjects.{lives_where}
 use Rattle.engine_world.proofs.Registers.{table_world}
 use Rattle.engine_instructions.proofs.accumulation.accumulate.Goals as goal
+
+pub class_of-class-requires : goal.class_of-class-requires
+class_of-class-requires c = record {
+  live =
+      let d = c.args.definition.now in
+      let e = c.args.engine.now in
+      let w = c.args.cursor in
+      let hs = e.world.handlers.handlers in
+      rw c.object-object.ensures
+      (lives_where (world_of e.world).objects w.object _ (λ arm is. no_arm _ arm c.requires.able
+      (collect_unheard d (world_of e.world) (emission_of w c.args.args.items c.args.by_event) (entries_to_come w hs c.args.transfers) (agenda_of d e) (option_map value_view c.args.given) arm is)));
+}
 
 pub unreachable-requires : goal.unreachable-requires
 unreachable-requires c =
@@ -19,20 +32,10 @@ unreachable-requires c =
     let e = c.args.engine.now in
     let w = c.args.cursor in
     let hs = e.world.handlers.handlers in
-    no_arm _ _ c.requires.able
-    (collect_unheard d (world_of e.world) (emission_of w c.args.args.items c.args.by_event) (entries_to_come w hs c.args.transfers) (agenda_of d e) (option_map value_view c.args.given) _
-    (rw c.object-object.ensures at c.in_default.ensures))
-
-pub unreachable-requires-in_default-signal : goal.unreachable-requires-in_default-signal
-unreachable-requires-in_default-signal c =
-    let d = c.args.definition.now in
-    let e = c.args.engine.now in
-    let w = c.args.cursor in
-    let hs = e.world.handlers.handlers in
-    let none = sym c.signal.ensures ∙ ap (option_map declared_view) c.in_default-signal.is in
+    let none = sym c.signal.ensures ∙ ap (option_map declared_view) c.in_default.is in
     no_arm _ _ c.requires.able
     (collect_unknown d (world_of e.world) (emission_of w c.args.args.items c.args.by_event) (entries_to_come w hs c.args.transfers) (agenda_of d e) (option_map value_view c.args.given) _
-    (rw c.object-object.ensures at c.in-Ok.ensures) (rw c.signal-number.ensures at none))
+    (rw c.object-object.ensures at c.class_of-class.ensures) (rw c.signal-number.ensures at none))
 
 pub returns-clause-step : goal.returns-clause-step
 returns-clause-step c =
@@ -45,7 +48,7 @@ returns-clause-step c =
     let given = option_map value_view c.args.given in
     let declared = sym c.signal.ensures ∙ ap (option_map declared_view) c.in-Some.is in
     collect_suited d (world_of e.world) (emission_of w args c.args.by_event) (entries_to_come w hs c.args.transfers) (agenda_of d e) given _
-    (rw c.object-object.ensures at c.in-Ok.ensures) s (rw c.signal-number.ensures at declared) c.requires.able
+    (rw c.object-object.ensures at c.class_of-class.ensures) s (rw c.signal-number.ensures at declared) c.requires.able
     ∙ leaves_as _ _ _ _ (sym (table_world e c.collect.new.table c.collect.ensures.only))
     (ap (λ (t : Task). t ∷ agenda_of d e) (collected_as w hs args c.args.by_event c.args.transfers c.requires.ends s given)
     ∙ ap (λ (b : Bool). Emitting (emission_of (collects s.accumulator given w) args c.args.by_event) (entries_to_come (collects s.accumulator given w) hs (cond b (at.Due []) c.args.transfers)) ∷ agenda_of d e) (sym c.in_ok-is_last.ensures.last)

@@ -1,14 +1,11 @@
-use Rattle.std.proofs.Common.{Vec, map, string_bytes, sym, ap}
-use Rattle.std.specs.Global.{Global}
+use Rattle.std.proofs.Common.{map, string_bytes, sym, ap}
 use Rattle.frames.specs.FrameView.{frame_view}
-use Rattle.g_values.specs.View.{value_view}
-use Rattle.g_values.specs.declared.value.Value.{Value}
 use Rattle.bytecode.specs.Computing.{registers_of}
 use Rattle.bytecode.specs.View.{number_of}
 use Rattle.engine_world.specs.View.{world_of}
-use Rattle.engine_world.proofs.Ableness.{finds_on, no_arm}
+use Rattle.engine_world.proofs.Ableness.{no_arm}
 use Rattle.engine_instructions.specs.CallingView.{called_view}
-use Rattle.engine_instructions.proofs.ObjectSteps.{operand_lives}
+use Rattle.engine_instructions.proofs.ObjectSteps.{all_set, operand_lives}
 use Rattle.engine_instructions.proofs.PeerCalls.{called_able, is_due, values_able}
 use Rattle.engine_instructions.proofs.calls.due_call.Goals as goal
 
@@ -22,19 +19,18 @@ unreachable-requires c =
     c.object_in-object.result.0 c.object_in-object.ensures in
     no_arm _ _ able (sym (rw c.as_str-name.ensures.value at c.in_default.ensures.called))
 
-pub rule_out_stuck-requires : goal.rule_out_stuck-requires
-rule_out_stuck-requires c =
+pub values_at-requires : goal.values_at-requires
+values_at-requires c =
     let f = frame_view c.args.frame.now in
     let call = c.args.call.now in
     let able = values_able c.args.definition.now (world_of c.args.engine.now.world) f call.to.0 call.object.0 (string_bytes call.method) (map number_of call.args.items) c.requires.able
     c.object_in-object.result.0 c.object_in-object.ensures (called_view c.in-Some.called) (rw c.as_str-name.ensures.value at c.in-Some.ensures.called) in
-    let read = rw c.as_slice-from.ensures.value at (c.values_at.ensures f (ap registers_of (sym c.as_slice-registers.ensures.value))) in
-    record { unstuck = finds_on (λ (vs : Vec Value Global). map value_view vs.items) _ _ able read }
+    record { set = rw c.as_slice-from.ensures.value (all_set f call.args.items _ (ap registers_of (sym c.as_slice-registers.ensures.value)) able) }
 
 pub returns : goal.returns
 returns c =
     let f = frame_view c.args.frame.now in
     let call = c.args.call.now in
-    let read = rw c.as_slice-from.ensures.value at (c.values_at.ensures f (ap registers_of (sym c.as_slice-registers.ensures.value))) in
+    let read = rw c.as_slice-from.ensures.value at (c.in_ok-args.ensures f (ap registers_of (sym c.as_slice-registers.ensures.value))) in
     is_due c.args.definition.now (world_of c.args.engine.now.world) f call.to.0 call.object.0 (string_bytes call.method) (map number_of call.args.items) c.requires.able
-    c.object_in-object.result.0 c.object_in-object.ensures (called_view c.in-Some.called) (rw c.as_str-name.ensures.value at c.in-Some.ensures.called) _ (rw c.in_ok-args.ensures.ok at read)
+    c.object_in-object.result.0 c.object_in-object.ensures (called_view c.in-Some.called) (rw c.as_str-name.ensures.value at c.in-Some.ensures.called) _ read

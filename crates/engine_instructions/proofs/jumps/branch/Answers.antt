@@ -5,7 +5,8 @@ use Rattle.ui_machine.specs.Seq.{read}
 use Rattle.ui_machine.specs.State.Config.{Started}
 use Rattle.ui_machine.specs.Steps.{left}
 use Rattle.g_values.specs.declared.value.Value.{Value}
-use Rattle.bytecode.specs.Computing.{of_one, registers_of, truth_of}
+use Rattle.bytecode.specs.Computing.{registers_of}
+use Rattle.frames.specs.Computing.{of_one, truth_of}
 use Rattle.frames.specs.FrameView.{frame_view}
 use Rattle.engine_world.specs.EngineView.{config_of}
 use Rattle.engine_world.specs.TaskView.{agenda_of}

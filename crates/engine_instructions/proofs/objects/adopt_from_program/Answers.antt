@@ -1,4 +1,4 @@
-use Rattle.std.proofs.Common.{ap, subst, sym, ◌∙◌}
+use Rattle.std.proofs.Common.{ap, subst, sym, ◌∙◌, arith}
 use Rattle.std.specs.Prelude.{OnErr, OnOk, Result, Ok, Err, is_some}
 use Rattle.frames.specs.FrameView.{frame_view}
 use Rattle.std.specs.declared.alloc.AllocError.{AllocError}
@@ -56,6 +56,7 @@ join_objects-requires c = record {
       let f = frame_view c.args.frame in
       adopts_able d e c.write_register.new.engine f c.args.to.0 c.args.parent.0 c.args.child.0 c.object_in-parent.result.0 c.object_in-child.result.0 c.object_in-parent.ensures c.object_in-child.ensures
       c.is_none-is_free.result (none_as _ c.is_none-is_free.result (ap is_some (sym c.refusal.ensures) ∙ c.is_none-is_free.ensures)) c.in_ok-write_register.ensures.step c.requires.able;
+  counted = record { taken = nothing; counts = c.in_ok-write_register.ensures.counted; little = λ o. omega arith };
 }
 
 pub returns-clause-step : goal.returns-clause-step

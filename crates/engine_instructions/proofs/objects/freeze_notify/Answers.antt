@@ -13,7 +13,7 @@ use Rattle.engine_instructions.proofs.ObjectSteps.{freeze_none, freeze_stuck, fr
 use Rattle.engine_instructions.proofs.Pushed.{frame_held, freeze_alike, objects_world}
 use Rattle.engine_world.proofs.Registers.{stops_left}
 use Rattle.ui_machine.specs.declared.arm.Halt.TheVariants as halts
-use Rattle.engine_world.proofs.Ableness.{no_arm, none_stops}
+use Rattle.engine_world.proofs.Ableness.{is_ok, no_arm, none_stops}
 use Rattle.engine_instructions.proofs.objects.freeze_notify.Goals as goal
 
 pub object_in-object-requires : goal.object_in-object-requires
@@ -26,14 +26,16 @@ object_in-object-requires c = record {
       (stops_left e.counted (agenda_of c.args.definition.now e) (freezing w f c.args.object.0) (halts.Stuck arm) (freeze_none w f c.args.object.0 (halts.Stuck arm) none)));
 }
 
-pub unreachable-requires : goal.unreachable-requires
-unreachable-requires c =
-    let e = c.args.engine.now in
-    let w = world_of e.world in
-    let f = frame_view c.args.frame in
-    no_arm _ _ c.requires.able
-    (stuck_left c.args.definition.now e (freezing w f c.args.object.0) _
-    (freeze_stuck w f c.args.object.0 c.object_in-object.result.0 c.object_in-object.ensures _ c.in_default.ensures.changes))
+pub freeze-requires : goal.freeze-requires
+freeze-requires c = record {
+  able =
+      let e = c.args.engine.now in
+      let w = world_of e.world in
+      let f = frame_view c.args.frame in
+      is_ok _ (λ arm is. no_arm _ arm c.requires.able
+      (stuck_left c.args.definition.now e (freezing w f c.args.object.0) arm
+      (freeze_stuck w f c.args.object.0 c.object_in-object.result.0 c.object_in-object.ensures arm is)));
+}
 
 pub returns-clause-step : goal.returns-clause-step
 returns-clause-step c =
@@ -43,7 +45,7 @@ returns-clause-step c =
     let f = frame_view c.args.frame in
     let t = c.freeze.new.self in
     goes_on_left d (with_table e t) c.push_frame.new.engine f (freezing w f c.args.object.0)
-    (freezes w f c.args.object.0 c.object_in-object.result.0 c.object_in-object.ensures t.objects c.in-Ok.ensures.changes
+    (freezes w f c.args.object.0 c.object_in-object.result.0 c.object_in-object.ensures t.objects c.freeze.ensures.changes
     ∙ ap (λ (v : World). goes_on v [] f) (sym (objects_world e t c.freeze.ensures.beside)))
     c.push_frame.ensures.beside (c.in_ok-push_frame.ensures.agenda d)
 
@@ -54,4 +56,4 @@ returns-clause-counted c =
     let f = frame_view c.args.frame in
     let t = c.freeze.new.self in
     frame_held d (with_table e t) c.push_frame.new.engine f (c.in_ok-push_frame.ensures.counted d)
-    ((keeps_change d e t c.object_in-object.result.0 frozen_more tt (freeze_alike d) c.in-Ok.ensures.changes c.freeze.ensures.beside).at (λ o. in_frame o f) c.requires.counted)
+    ((keeps_change d e t c.object_in-object.result.0 frozen_more tt (freeze_alike d) c.freeze.ensures.changes c.freeze.ensures.beside).at (λ o. in_frame o f) c.requires.counted)

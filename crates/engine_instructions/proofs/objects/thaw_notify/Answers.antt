@@ -14,7 +14,7 @@ use Rattle.engine_instructions.proofs.Pushed.{count_pushed, frame_held, objects_
 use Rattle.engine_world.proofs.Registers.{stops_left}
 use Rattle.engine_instructions.proofs.Starting.{started_left}
 use Rattle.ui_machine.specs.declared.arm.Halt.TheVariants as halts
-use Rattle.engine_world.proofs.Ableness.{no_arm, none_stops}
+use Rattle.engine_world.proofs.Ableness.{is_ok, no_arm, none_stops}
 use Rattle.engine_instructions.proofs.objects.thaw_notify.Goals as goal
 
 pub object_in-object-requires : goal.object_in-object-requires
@@ -27,14 +27,16 @@ object_in-object-requires c = record {
       (stops_left e.counted (agenda_of c.args.definition.now e) (thaw_notify w f c.args.object.0) (halts.Stuck arm) (thaw_none w f c.args.object.0 (halts.Stuck arm) none)));
 }
 
-pub unreachable-requires : goal.unreachable-requires
-unreachable-requires c =
-    let e = c.args.engine.now in
-    let w = world_of e.world in
-    let f = frame_view c.args.frame in
-    no_arm _ _ c.requires.able
-    (stuck_left c.args.definition.now e (thaw_notify w f c.args.object.0) _
-    (thaw_stuck w f c.args.object.0 c.object_in-object.result.0 c.object_in-object.ensures _ c.in_default.ensures.changes))
+pub thaw-slots-requires : goal.thaw-slots-requires
+thaw-slots-requires c = record {
+  able =
+      let e = c.args.engine.now in
+      let w = world_of e.world in
+      let f = frame_view c.args.frame in
+      is_ok _ (λ arm is. no_arm _ arm c.requires.able
+      (stuck_left c.args.definition.now e (thaw_notify w f c.args.object.0) arm
+      (thaw_stuck w f c.args.object.0 c.object_in-object.result.0 c.object_in-object.ensures arm is)));
+}
 
 pub returns-clause-step : goal.returns-clause-step
 returns-clause-step c =
@@ -42,14 +44,14 @@ returns-clause-step c =
     let e = c.args.engine.now in
     let w = world_of e.world in
     let f = frame_view c.args.frame in
-    let t = c.thaw.new.self in
+    let t = c.thaw-slots.new.self in
     let m = with_table e t in
     let b = c.push_frame.new.engine in
     let id = c.object_in-object.result.0 in
-    let slots = reverse c.in-Ok.slots.items in
+    let slots = reverse c.thaw-slots.result.items in
     started_left e.counted (agenda_of d e) (thaw_notify w f c.args.object.0) (with_objects w t.objects) (Thawing id slots ∷ []) f _ _ _
-    (thaws w f c.args.object.0 id c.object_in-object.ensures t.objects slots c.in-Ok.ensures.changes)
-    (c.push_task.ensures.world ∙ world_pushed d m b f c.push_frame.ensures.beside ∙ objects_world e t c.thaw.ensures.beside)
+    (thaws w f c.args.object.0 id c.object_in-object.ensures t.objects slots c.thaw-slots.ensures.changes)
+    (c.push_task.ensures.world ∙ world_pushed d m b f c.push_frame.ensures.beside ∙ objects_world e t c.thaw-slots.ensures.beside)
     (c.in_ok-push_task.ensures.agenda d ∙ ap (λ ts. Thawing id c.new.result ∷ ts) (c.in_ok-push_frame.ensures.agenda d) ∙ ap (λ (l : List ℕ). Thawing id l ∷ Running f ∷ agenda_of d e) c.new.ensures)
     (c.push_task.ensures.same ∙ count_pushed d m b f c.push_frame.ensures.beside)
 
@@ -58,7 +60,7 @@ returns-clause-counted c =
     let d = c.args.definition.now in
     let e = c.args.engine.now in
     let f = frame_view c.args.frame in
-    let t = c.thaw.new.self in
+    let t = c.thaw-slots.new.self in
     (c.in_ok-push_task.ensures.counted d).at nothing
     (frame_held d (with_table e t) c.push_frame.new.engine f (c.in_ok-push_frame.ensures.counted d)
-    ((keeps_change d e t c.object_in-object.result.0 frozen_less _ (frozen_alike d) c.in-Ok.ensures.changes c.thaw.ensures.beside).at (λ o. in_frame o f) c.requires.counted))
+    ((keeps_change d e t c.object_in-object.result.0 frozen_less _ (frozen_alike d) c.thaw-slots.ensures.changes c.thaw-slots.ensures.beside).at (λ o. in_frame o f) c.requires.counted))

@@ -6,20 +6,20 @@ use Rattle.bytecode.specs.Computing.{registers_of}
 use Rattle.frames.specs.FrameView.{frame_view}
 use Rattle.frames.specs.Operand.{identity_in}
 use Rattle.engine_world.specs.View.{world_of}
-use Rattle.engine_world.proofs.Ableness.{able_as, no_arm, tested}
+use Rattle.engine_world.proofs.Ableness.{able_as, is_ok, no_arm, tested}
 use Rattle.engine_instructions.proofs.ObjectSteps.{operand_by}
 use Rattle.engine_instructions.proofs.operands.object_in.Goals as goal
 
-pub unreachable-requires : goal.unreachable-requires
-unreachable-requires c =
-    let read = ap (λ rs. identity_in (registers_of rs) c.args.from.0) (sym c.as_slice.ensures.value) ∙ c.in_default.ensures in
-    no_arm _ _ c.requires.able (operand_by (world_of c.args.engine.now.world) (frame_view c.args.frame.now) c.args.from.0 _ read)
+pub identity_at-requires : goal.identity_at-requires
+identity_at-requires c =
+    let same = ap (λ rs. identity_in (registers_of rs) c.args.from.0) c.as_slice.ensures.value in
+    rw same (is_ok _ (λ arm is. no_arm _ arm c.requires.able (operand_by (world_of c.args.engine.now.world) (frame_view c.args.frame.now) c.args.from.0 _ is)))
 
 pub returns : goal.returns
 returns c =
     let w = world_of c.args.engine.now.world in
-    let id = c.in-Ok.object.0 in
-    let read = ap (λ rs. identity_in (registers_of rs) c.args.from.0) (sym c.as_slice.ensures.value) ∙ c.in-Ok.ensures in
+    let id = c.identity_at.result.0 in
+    let read = ap (λ rs. identity_in (registers_of rs) c.args.from.0) (sym c.as_slice.ensures.value) ∙ c.identity_at.ensures in
     let by = operand_by w (frame_view c.args.frame.now) c.args.from.0 (Ok id) read in
     let live : is_some (living w.objects id) ≡ true = tested _ arms.Operand (Ok id) (able_as by c.requires.able) in
     by ∙ ap (λ b. only_if b arms.Operand (Ok id)) live

@@ -1,18 +1,22 @@
 use Rattle.std.proofs.Common.{None, Some, sym, ◌∙◌}
 use Rattle.engine_world.specs.View.{world_of}
 use Rattle.engine_world.proofs.Ableness.{no_arm}
+use Rattle.engine_world.proofs.LivingObjects.{lives_where}
 use Rattle.engine_instructions.proofs.PropertySteps.{no_class_at, slot_by}
 use Rattle.engine_instructions.proofs.properties.slot_at.Goals as goal
 
+pub class_of-class-requires : goal.class_of-class-requires
+class_of-class-requires c = record {
+  live =
+      let w = world_of c.args.engine.now.world in
+      lives_where w.objects c.args.object.0 _ (λ arm is. no_arm _ arm c.requires.able (no_class_at c.args.definition.now w c.args.object.0 c.args.property.now arm is));
+}
+
 pub unreachable-requires : goal.unreachable-requires
 unreachable-requires c =
-    no_arm _ _ c.requires.able (no_class_at c.args.definition.now (world_of c.args.engine.now.world) c.args.object.0 c.args.property.now _ c.in_default.ensures)
-
-pub unreachable-requires-in_default-slot : goal.unreachable-requires-in_default-slot
-unreachable-requires-in_default-slot c =
     no_arm _ _ c.requires.able
-    (slot_by c.args.definition.now (world_of c.args.engine.now.world) c.args.object.0 c.args.property.now c.in-Ok.class None c.in-Ok.ensures (sym c.slot.ensures ∙ c.in_default-slot.is))
+    (slot_by c.args.definition.now (world_of c.args.engine.now.world) c.args.object.0 c.args.property.now c.class_of-class.result None c.class_of-class.ensures (sym c.slot.ensures ∙ c.in_default.is))
 
 pub returns : goal.returns
 returns c =
-    slot_by c.args.definition.now (world_of c.args.engine.now.world) c.args.object.0 c.args.property.now c.in-Ok.class (Some c.in-Some.slot) c.in-Ok.ensures (sym c.slot.ensures ∙ c.in-Some.is)
+    slot_by c.args.definition.now (world_of c.args.engine.now.world) c.args.object.0 c.args.property.now c.class_of-class.result (Some c.in-Some.slot) c.class_of-class.ensures (sym c.slot.ensures ∙ c.in-Some.is)

@@ -1,7 +1,9 @@
 use Rattle.std.proofs.Common.{◌≡◌, ap, subst, sym}
 use Rattle.ui_machine.specs.declared.arm.Halt.TheVariants as halts
 use Rattle.ui_machine.specs.Instructions.{in_front, instruction_step}
-use Rattle.bytecode.specs.Computing.{instruction_of, registers_of, writes}
+use Rattle.bytecode.specs.Computing.{instruction_of, registers_of}
+use Rattle.frames.specs.Computing.{writes}
+use Rattle.frames.proofs.FromRegisters.{reads}
 use Rattle.bytecode.specs.declared.computations.Computed.{Computed}
 use Rattle.frames.specs.FrameView.{frame_view}
 use Rattle.engine_world.specs.TaskView.{agenda_of}
@@ -10,14 +12,13 @@ use Rattle.engine_world.proofs.Ableness.{no_arm}
 use Rattle.engine_instructions.proofs.Programs.{left_stops}
 use Rattle.engine_instructions.proofs.registers.compute_register.Goals as goal
 
-pub rule_out_stuck-requires : goal.rule_out_stuck-requires
-rule_out_stuck-requires c = record {
-  unstuck = λ arm is.
-      let d = c.args.definition.now in
-      let e = c.args.engine.now in
-      no_arm _ arm c.requires.able (left_stops e.counted _ (halts.Stuck arm)
-      ((rw is at c.compute.ensures.computed) d (world_of e.world) (agenda_of d e) (frame_view c.args.frame) c.args.to.0 (sym c.types-types.ensures.types) (ap (λ rs. registers_of rs) (sym c.as_slice-registers.ensures.value))));
-}
+pub compute-requires-clause-reads : goal.compute-requires-clause-reads
+compute-requires-clause-reads c =
+    let d = c.args.definition.now in
+    let e = c.args.engine.now in
+    let reads = reads d (world_of e.world) (agenda_of d e) (frame_view c.args.frame) c.args.to.0 c.args.computation.now
+    (λ arm is. no_arm _ arm c.requires.able (left_stops e.counted _ (halts.Stuck arm) is)) in
+    rw (c.types-types.ensures.types, c.as_slice-registers.ensures.value) reads
 
 pub returns-in-TooLong-clause-step : goal.returns-in-TooLong-clause-step
 returns-in-TooLong-clause-step c =
@@ -26,6 +27,6 @@ returns-in-TooLong-clause-step c =
     let w = world_of e.world in
     let f = frame_view c.args.frame in
     let rest = agenda_of d e in
-    let comes = (rw c.in_ok-computed.ensures.ok at c.compute.ensures.computed) d w rest f c.args.to.0 (sym c.types-types.ensures.types) (ap (λ rs. registers_of rs) (sym c.as_slice-registers.ensures.value)) in
+    let comes = c.in_ok-computed.ensures.computed d w rest f c.args.to.0 (sym c.types-types.ensures.types) (ap (λ rs. registers_of rs) (sym c.as_slice-registers.ensures.value)) in
     let long = subst (λ (x : Computed). instruction_step d w rest f (instruction_of c.args.computation.now c.args.to.0) ≡ in_front rest (writes d w f c.args.to.0 x)) c.in-TooLong.is comes in
     rw long c.write_null_and_say_limit.ensures.step

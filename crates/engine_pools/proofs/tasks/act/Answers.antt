@@ -1,6 +1,7 @@
 use Rattle.std.proofs.Common.{Result, Ok, refl}
 use Rattle.std.specs.declared.alloc.AllocError.{AllocError}
 use Rattle.engine_world.proofs.Counts.{done_plain}
+use Rattle.engine_world.proofs.Rooms.{task_counted}
 use Rattle.engine_instructions.proofs.Whole.{leads_whole}
 use Rattle.engine_pools.proofs.tasks.act.Goals as goal
 
@@ -11,7 +12,10 @@ done = Ok tt
 -- ** the machine is not stuck there
 
 pub validate_and_set-requires : goal.validate_and_set-requires
-validate_and_set-requires c = record { able = rw c.in-Setting.is at c.requires.able }
+validate_and_set-requires c = record {
+  able = rw c.in-Setting.is at c.requires.able;
+  counted = task_counted c.args.definition.now c.args.engine.now c.args.task c.requires.counted;
+}
 
 pub notify-requires : goal.notify-requires
 notify-requires c = record { able = rw c.in-Notifying.is at c.requires.able }
@@ -38,7 +42,10 @@ pub build-requires-clause-able : goal.build-requires-clause-able
 build-requires-clause-able c = rw c.in-Building.is at c.requires.able
 
 pub adopt_from_build-requires : goal.adopt_from_build-requires
-adopt_from_build-requires c = record { able = rw c.in-Adopting.is at c.requires.able }
+adopt_from_build-requires c = record {
+  able = rw c.in-Adopting.is at c.requires.able;
+  counted = task_counted c.args.definition.now c.args.engine.now c.args.task c.requires.counted;
+}
 
 pub bind_from_build-requires-clause-able : goal.bind_from_build-requires-clause-able
 bind_from_build-requires-clause-able c = rw c.in-Binding.is at c.requires.able

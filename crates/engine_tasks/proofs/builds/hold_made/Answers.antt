@@ -18,6 +18,7 @@ use Rattle.ui_machine.specs.Rules.Construction.{constructed}
 use Rattle.engine_world.specs.Able.{Able}
 use Rattle.ui_machine.specs.State.Objects.{asked}
 use Rattle.engine_world.proofs.Ableness.{in_uncounted, no_arm}
+use Rattle.engine_world.proofs.LivingObjects.{lives_where}
 use Rattle.engine_tasks.proofs.builds.hold_made.Goals as goal
 
 module _ (w : World) (id place : ℕ) (at : asked w.objects id (λ o. Ok o.place) ≡ Ok place) (able : Able (constructed w id true)) where
@@ -29,20 +30,22 @@ module _ (w : World) (id place : ℕ) (at : asked w.objects id (λ o. Ok o.place
       by true h = h
       by false h = absurd (no_arm (constructed w id true) arms.Code able (held_before w id place at h))
 
-pub unreachable-requires : goal.unreachable-requires
-unreachable-requires c =
-    let w = world_of c.args.engine.now.world in
-    let id = c.args.object.0 in
-    no_arm (constructed w id true) _ (in_uncounted _ _ _ c.requires.able) (no_object w id _ c.in_default.ensures)
+pub place_of-place-requires : goal.place_of-place-requires
+place_of-place-requires c = record {
+  live =
+      let w = world_of c.args.engine.now.world in
+      let id = c.args.object.0 in
+      lives_where w.objects id _ (λ arm is. no_arm (constructed w id true) arm (in_uncounted _ _ _ c.requires.able) (no_object w id arm is));
+}
 
 pub returns-clause-step : goal.returns-clause-step
 returns-clause-step c =
     let w = world_of c.args.engine.now.world in
     let rest = agenda_of c.args.definition.now c.args.engine.now in
-    let there = unbuilt_there w c.args.object.0 c.in-Ok.place.0 c.in-Ok.ensures (in_uncounted _ _ _ c.requires.able) in
+    let there = unbuilt_there w c.args.object.0 c.place_of-place.result.0 c.place_of-place.ensures (in_uncounted _ _ _ c.requires.able) in
     let floats = ap (λ (s : Store). s.floating) c.sink.ensures.beside in
     let objects = ap (λ (s : Store). s.objects) c.sink.ensures.beside in
-    ap (uncounted rest c.args.engine.now.counted) (held_now w c.args.object.0 c.in-Ok.place.0 c.in-Ok.ensures there)
+    ap (uncounted rest c.args.engine.now.counted) (held_now w c.args.object.0 c.place_of-place.result.0 c.place_of-place.ensures there)
     ∙ rw (floats, objects, c.hold_any.ensures.only.floating, c.hold_any.ensures.only.objects, c.in_ok-set_builder_entry.ensures) refl
 
 pub returns-clause-counted : goal.returns-clause-counted
@@ -51,11 +54,11 @@ returns-clause-counted c =
     let e = c.args.engine.now in
     let w = world_of e.world in
     let id = c.args.object.0 in
-    let place = c.in-Ok.place.0 in
+    let place = c.place_of-place.result.0 in
     let b = map held_of e.world.builder.items in
     let n = map held_of c.set_builder_entry.new.builder.items in
     let a = agenda_of d e in
-    let there = unbuilt_there w c.args.object.0 c.in-Ok.place.0 c.in-Ok.ensures (in_uncounted _ _ _ c.requires.able) in
+    let there = unbuilt_there w c.args.object.0 c.place_of-place.result.0 c.place_of-place.ensures (in_uncounted _ _ _ c.requires.able) in
     let more : (o : ℕ) → total (in_held o) n ≡ total (in_held o) b + same o id =
     λ o. ap (λ (hs : List BuilderEntry). total (in_held o) hs) c.in_ok-set_builder_entry.ensures ∙ total-written (in_held o) unbuilt b place (built id) refl (holds_nothing o (builder_entry w place) there) in
     keeps_by d e _ refl (λ g. g) refl (stays d e _ refl refl) (λ taken _ h.

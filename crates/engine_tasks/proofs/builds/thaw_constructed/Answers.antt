@@ -2,17 +2,23 @@ use Rattle.std.proofs.Common.{rules}
 use Rattle.ui_machine.specs.Rules.Construction.{thawing_made}
 use Rattle.ui_machine.specs.Rules.NotifyQueue.{frozen_less}
 use Rattle.engine_world.proofs.Counts.{keeps_on, keeps_change, frozen_alike}
+use Rattle.engine_world.proofs.Ableness.{first, in_uncounted}
+use Rattle.engine_tasks.proofs.Asking.{answers}
 use Rattle.engine_tasks.proofs.builds.thaw_constructed.Goals as goal
+
+pub thaw-slots-requires : goal.thaw-slots-requires
+unfolding thawing_made
+thaw-slots-requires c = record { able = answers _ (first _ _ (in_uncounted _ _ _ c.requires.able)) }
 
 pub returns-clause-step : goal.returns-clause-step
 unfolding thawing_made
 returns-clause-step c =
     let first = c.in_ok-push_task.ensures.agenda c.args.definition.now in
     let second = c.in_ok-push_task-2.ensures.agenda c.args.definition.now in
-    rw (c.in_ok-push_task-2.ensures.world, c.in_ok-push_task.ensures.world, c.in_ok-push_task-2.ensures.same, c.in_ok-push_task.ensures.same, second, first, c.in-Ok.ensures.changes) (search rules)
+    rw (c.in_ok-push_task-2.ensures.world, c.in_ok-push_task.ensures.world, c.in_ok-push_task-2.ensures.same, c.in_ok-push_task.ensures.same, second, first, c.thaw-slots.ensures.changes) (search rules)
 
 pub returns-clause-counted : goal.returns-clause-counted
 returns-clause-counted c =
     let d = c.args.definition.now in
-    keeps_on d _ _ _ (keeps_change d c.args.engine.now c.thaw.new.self c.args.object.0 frozen_less _ (frozen_alike d) c.in-Ok.ensures.changes c.thaw.ensures.beside)
+    keeps_on d _ _ _ (keeps_change d c.args.engine.now c.thaw-slots.new.self c.args.object.0 frozen_less _ (frozen_alike d) c.thaw-slots.ensures.changes c.thaw-slots.ensures.beside)
     (keeps_on d _ _ _ (c.in_ok-push_task.ensures.counted d) (c.in_ok-push_task-2.ensures.counted d))

@@ -14,7 +14,7 @@ use Rattle.engine_world.proofs.Ableness.{in_uncounted, no_arm, none_stops}
 use Rattle.ui_machine.specs.declared.arm.Halt.{Halt}
 use Rattle.ui_machine.specs.declared.arm.Halt.TheVariants as halts
 use Rattle.std.specs.declared.alloc.AllocError.{AllocError}
-use Rattle.engine_world.proofs.Counts.{keeps_on}
+use Rattle.engine_world.proofs.Counts.{keeps_on, still_counted}
 use Rattle.engine_world.proofs.Left.{same_agenda}
 use Rattle.ui_machine.specs.declared.arm.Arm.{Arm}
 use Rattle.ui_machine.specs.Outcome.{Answer}
@@ -70,6 +70,7 @@ join-requires c =
     let kin = kin_of c.kin_at-kin.result in
     record {
       able = rw c.push_task.ensures.world (able_joined d w place items (in_uncounted _ _ _ c.requires.able) kin c.kin_at-kin.ensures);
+      counted = still_counted d c.args.engine.now c.push_task.new.engine (c.in_ok-push_task.ensures.counted d) c.requires.counted;
     }
 
 pub returns-clause-step : goal.returns-clause-step

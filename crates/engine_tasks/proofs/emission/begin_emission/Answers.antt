@@ -24,10 +24,21 @@ use Rattle.engine_tasks.proofs.Emitted.{beginning_starts, begun_as, begin_unhear
 use Rattle.engine_world.proofs.Left.{left_with}
 use Rattle.engine_world.proofs.Notified.{counted_on}
 use Rattle.engine_world.proofs.Ableness.{in_counted, able_as, no_arm}
+use Rattle.engine_world.proofs.LivingObjects.{lives_where}
 use Rattle.engine_tasks.proofs.emission.begin_emission.Goals as goal
 
 pub count-requires : goal.count-requires
 count-requires c = record { few = (in_counted (agenda_of c.args.definition.now c.args.engine.now) c.args.engine.now.counted _ c.requires.able).0 }
+
+pub class_of-class-requires : goal.class_of-class-requires
+class_of-class-requires c = record {
+  live =
+      let d = c.args.definition.now in
+      let w = world_of c.args.engine.now.world in
+      let m = c.args.emission in
+      let able = (in_counted (agenda_of d c.args.engine.now) c.args.engine.now.counted _ c.requires.able).1 in
+      rw c.count.ensures (lives_where w.objects m.object.0 _ (λ arm is. no_arm (beginning_emission d w (new_of m)) arm able (begin_unheard d w (new_of m) arm is)));
+}
 
 pub unreachable-requires : goal.unreachable-requires
 unreachable-requires c =
@@ -35,16 +46,8 @@ unreachable-requires c =
     let w = world_of c.args.engine.now.world in
     let m = c.args.emission in
     let able = (in_counted (agenda_of d c.args.engine.now) c.args.engine.now.counted _ c.requires.able).1 in
-    no_arm (beginning_emission d w (new_of m)) _ able (begin_unheard d w (new_of m) _ (rw c.count.ensures at c.in_default.ensures))
-
-pub unreachable-requires-in_default-signal : goal.unreachable-requires-in_default-signal
-unreachable-requires-in_default-signal c =
-    let d = c.args.definition.now in
-    let w = world_of c.args.engine.now.world in
-    let m = c.args.emission in
-    let able = (in_counted (agenda_of d c.args.engine.now) c.args.engine.now.counted _ c.requires.able).1 in
-    let none = sym c.signal.ensures ∙ ap (option_map declared_view) c.in_default-signal.is in
-    no_arm (beginning_emission d w (new_of m)) _ able (begin_unknown d w (new_of m) _ (rw c.count.ensures at c.in-Ok.ensures) none)
+    let none = sym c.signal.ensures ∙ ap (option_map declared_view) c.in_default.is in
+    no_arm (beginning_emission d w (new_of m)) _ able (begin_unknown d w (new_of m) _ (rw c.count.ensures at c.class_of-class.ensures) none)
 
 pub unreachable-requires-in_default-emission : goal.unreachable-requires-in_default-emission
 unreachable-requires-in_default-emission c =
@@ -52,9 +55,9 @@ unreachable-requires-in_default-emission c =
     let w = world_of c.args.engine.now.world in
     let m = c.args.emission in
     let able = (in_counted (agenda_of d c.args.engine.now) c.args.engine.now.counted _ c.requires.able).1 in
-    let g = λ (s : Signal). walk_for 0 s.accumulator (planned d c.in-Ok.class m.object.0 m.signal (new_of m).detail s) in
+    let g = λ (s : Signal). walk_for 0 s.accumulator (planned d c.class_of-class.result m.object.0 m.signal (new_of m).detail s) in
     let none = begun_none (λ (x : Emission). begun x 0) g _ (ap (option_map (λ (x : Emission). begun x 0)) (sym c.in_default-emission.is) ∙ c.emission.ensures 0) in
-    no_arm (beginning_emission d w (new_of m)) _ able (begin_unknown d w (new_of m) _ (rw c.count.ensures at c.in-Ok.ensures) none)
+    no_arm (beginning_emission d w (new_of m)) _ able (begin_unknown d w (new_of m) _ (rw c.count.ensures at c.class_of-class.ensures) none)
 
 pub returns-clause-step : goal.returns-clause-step
 returns-clause-step c =
@@ -64,19 +67,19 @@ returns-clause-step c =
     let m = c.args.emission in
     let is = c.count.ensures in
     let w = world_of f.world in
-    let class = c.in-Ok.class in
+    let class = c.class_of-class.result in
     let rest = agenda_of d e in
     let n = e.counted in
     let last = f.world.handlers.last in
     let s = declared_view c.in-Some.declared in
     let declared = sym c.signal.ensures ∙ ap (option_map declared_view) c.in-Some.is in
     let able = able_as (ap (λ (h : Engine). beginning_emission d (world_of h.world) (new_of m)) (sym is)) (in_counted rest n _ c.requires.able).1 in
-    let fit = begin_fit d w (new_of m) class c.in-Ok.ensures s declared able in
+    let fit = begin_fit d w (new_of m) class c.class_of-class.ensures s declared able in
     let g = λ (s : Signal). walk_for last s.accumulator (planned d class m.object.0 m.signal (new_of m).detail s) in
     let found = ap (option_map (λ (x : Emission). begun x last)) (sym c.in-Some-emission.is) ∙ c.emission.ensures last in
     let walk = begun_as (λ (x : Emission). begun x last) g c.in-Some-emission.planned _ s found declared in
     let rises = subst (λ (h : Engine). Numbered 0 h.world.handlers.handlers h.world.handlers.last) (sym is) c.last-last.ensures.rises in
-    let starts_so = beginning_starts d w rises m class c.in-Ok.ensures s declared fit (begun c.in-Some-emission.planned last) walk in
+    let starts_so = beginning_starts d w rises m class c.class_of-class.ensures s declared fit (begun c.in-Some-emission.planned last) walk in
     let line = c.in_ok-line.ensures ∙ ap (λ (types : List GType). text_of_line types (lines.emit m.object.0 s.name (new_of m).detail (new_of m).args)) c.types-types.ensures.types in
     let world = c.in_ok-start_emission.ensures.world ∙ ap (λ (text : List ℕ). with_line text w) line in
     let agenda = c.in_ok-start_emission.ensures.agenda d

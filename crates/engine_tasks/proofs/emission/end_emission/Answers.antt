@@ -17,35 +17,39 @@ use Rattle.engine_world.proofs.Registers.{tasks_world}
 use Rattle.ui_machine.specs.State.Config.{World}
 use Rattle.engine_world.specs.declared.engine.Engine.{Engine}
 use Rattle.engine_world.proofs.Ableness.{in_left, no_arm}
+use Rattle.engine_world.proofs.LivingObjects.{lives_where}
 use Rattle.engine_tasks.proofs.emission.end_emission.Goals as goal
 
 -- what the arguments hold, as a slice
 slice : (vs now : List Value) → now ≡ vs → (o : ℕ) → total (in_value o) (map value_view now) ≡ total (in_value o) (map value_view vs)
 slice vs now is o = ap (λ (xs : List Value). total (in_value o) (map value_view xs)) is
 
+pub class_of-class-requires : goal.class_of-class-requires
+class_of-class-requires c = record {
+  live =
+      let d = c.args.definition.now in
+      let e = c.args.engine.now in
+      let m = emission_of c.args.cursor c.args.args.items c.args.by_event in
+      rw c.object-object.ensures
+      (lives_where (world_of e.world).objects m.object _
+      (λ arm is. no_arm (ending d (world_of e.world) m (agenda_of d e)) arm (in_left e.counted _ c.requires.able) (end_unheard d (world_of e.world) m (agenda_of d e) arm is)));
+}
+
 pub unreachable-requires : goal.unreachable-requires
 unreachable-requires c =
     let d = c.args.definition.now in
     let e = c.args.engine.now in
     let m = emission_of c.args.cursor c.args.args.items c.args.by_event in
+    let none = sym c.signal.ensures ∙ ap (option_map declared_view) c.in_default.is in
     no_arm (ending d (world_of e.world) m (agenda_of d e)) _ (in_left e.counted _ c.requires.able)
-    (end_unheard d (world_of e.world) m (agenda_of d e) _ (rw c.object-object.ensures at c.in_default.ensures))
-
-pub unreachable-requires-in_default-signal : goal.unreachable-requires-in_default-signal
-unreachable-requires-in_default-signal c =
-    let d = c.args.definition.now in
-    let e = c.args.engine.now in
-    let m = emission_of c.args.cursor c.args.args.items c.args.by_event in
-    let none = sym c.signal.ensures ∙ ap (option_map declared_view) c.in_default-signal.is in
-    no_arm (ending d (world_of e.world) m (agenda_of d e)) _ (in_left e.counted _ c.requires.able)
-    (end_unknown d (world_of e.world) m (agenda_of d e) _ (rw c.object-object.ensures at c.in-Ok.ensures) (rw c.signal-number.ensures at none))
+    (end_unknown d (world_of e.world) m (agenda_of d e) _ (rw c.object-object.ensures at c.class_of-class.ensures) (rw c.signal-number.ensures at none))
 
 pub result_of-value-requires : goal.result_of-value-requires
 result_of-value-requires c = record {
   known =
       let d = c.args.definition.now in
       let declared = sym c.signal.ensures ∙ ap (option_map declared_view) c.in-Some.is in
-      (c.types-types.ensures.basic.signal_kinds c.in-Ok.class c.signal-number.result (declared_view c.in-Some.signal) declared).result;
+      (c.types-types.ensures.basic.signal_kinds c.class_of-class.result c.signal-number.result (declared_view c.in-Some.signal) declared).result;
 }
 
 pub pass_down-requires : goal.pass_down-requires
@@ -57,7 +61,7 @@ pass_down-requires c =
     let v = option_map value_view c.result_of-value.result in
     let is = c.result_of-value.ensures ∙ ap (λ (x : Option values.Value). result_of d (option_map kind_view c.in-Some.signal.result) x) c.value.ensures in
     record {
-      able = able_to_pass d (world_of e.world) m (agenda_of d e) _ (rw c.object-object.ensures at c.in-Ok.ensures) (declared_view c.in-Some.signal) (rw c.signal-number.ensures at declared) v is
+      able = able_to_pass d (world_of e.world) m (agenda_of d e) _ (rw c.object-object.ensures at c.class_of-class.ensures) (declared_view c.in-Some.signal) (rw c.signal-number.ensures at declared) v is
           (in_left e.counted _ c.requires.able);
       held = record { at = λ o. omega (arith, c.requires.counted.exact o) };
     }
@@ -105,7 +109,7 @@ returns-clause-step c =
     let declared = sym c.signal.ensures ∙ ap (option_map declared_view) c.in-Some.is in
     let v = option_map value_view c.result_of-value.result in
     let is = c.result_of-value.ensures ∙ ap (λ (x : Option values.Value). result_of d (option_map kind_view c.in-Some.signal.result) x) c.value.ensures in
-    let ends = end_known d (world_of e.world) m (agenda_of d e) _ (rw c.object-object.ensures at c.in-Ok.ensures) (declared_view c.in-Some.signal) (rw c.signal-number.ensures at declared) v is
+    let ends = end_known d (world_of e.world) m (agenda_of d e) _ (rw c.object-object.ensures at c.class_of-class.ensures) (declared_view c.in-Some.signal) (rw c.signal-number.ensures at declared) v is
     (agenda_of d b) c.in_ok-pass_down.ensures.agenda in
     let only = both_only g.world.table c.let_go_values.new.table c.let_go_any.new.table c.let_go_values.ensures.only c.let_go_any.ensures.only in
     left_kept e.counted _ _ (agenda_of d b) (world_of g.world) (agenda_of d g) g.counted ends

@@ -27,10 +27,21 @@ use Rattle.engine_tasks.proofs.Emitted.{begun_as, begun_some, notifying_starts, 
 use Rattle.engine_world.proofs.Left.{left_with}
 use Rattle.engine_world.proofs.Notified.{counted_on, unnamed, unknown, unheard}
 use Rattle.engine_world.proofs.Ableness.{in_counted, no_arm}
+use Rattle.engine_world.proofs.LivingObjects.{lives_where}
 use Rattle.engine_tasks.proofs.notifications.notify.Goals as goal
 
 pub count-requires : goal.count-requires
 count-requires c = record { few = (in_counted (agenda_of c.args.definition.now c.args.engine.now) c.args.engine.now.counted _ c.requires.able).0 }
+
+pub class_of-class-requires : goal.class_of-class-requires
+class_of-class-requires c = record {
+  live =
+      let d = c.args.definition.now in
+      let w = world_of c.args.engine.now.world in
+      let id = c.args.object.0 in
+      let able = (in_counted (agenda_of d c.args.engine.now) c.args.engine.now.counted _ c.requires.able).1 in
+      rw c.count.ensures (lives_where w.objects id _ (λ arm is. no_arm (notifying d w id c.args.slot) arm able (unheard d w id c.args.slot arm is)));
+}
 
 pub unreachable-requires : goal.unreachable-requires
 unreachable-requires c =
@@ -38,16 +49,8 @@ unreachable-requires c =
     let w = world_of c.args.engine.now.world in
     let id = c.args.object.0 in
     let able = (in_counted (agenda_of d c.args.engine.now) c.args.engine.now.counted _ c.requires.able).1 in
-    no_arm (notifying d w id c.args.slot) _ able (unheard d w id c.args.slot _ (rw c.count.ensures at c.in_default.ensures))
-
-pub unreachable-requires-in_default-spec : goal.unreachable-requires-in_default-spec
-unreachable-requires-in_default-spec c =
-    let d = c.args.definition.now in
-    let w = world_of c.args.engine.now.world in
-    let id = c.args.object.0 in
-    let able = (in_counted (agenda_of d c.args.engine.now) c.args.engine.now.counted _ c.requires.able).1 in
-    let none = sym c.spec.ensures ∙ ap (option_map (λ (s : Bor Spec). spec_view s.now)) c.in_default-spec.is in
-    no_arm (notifying d w id c.args.slot) _ able (unnamed d w id c.args.slot _ (rw c.count.ensures at c.in-Ok.ensures) none)
+    let none = sym c.spec.ensures ∙ ap (option_map (λ (s : Bor Spec). spec_view s.now)) c.in_default.is in
+    no_arm (notifying d w id c.args.slot) _ able (unnamed d w id c.args.slot _ (rw c.count.ensures at c.class_of-class.ensures) none)
 
 pub unreachable-requires-in_default-emission : goal.unreachable-requires-in_default-emission
 unreachable-requires-in_default-emission c =
@@ -56,9 +59,9 @@ unreachable-requires-in_default-emission c =
     let id = c.args.object.0 in
     let able = (in_counted (agenda_of d c.args.engine.now) c.args.engine.now.counted _ c.requires.able).1 in
     let some = sym c.spec.ensures ∙ ap (option_map (λ (s : Bor Spec). spec_view s.now)) c.in-Some.is in
-    let g = λ (s : Signal). walk_for 0 s.accumulator (planned d c.in-Ok.class id 0 (Some (string_bytes c.in_ok-name.name)) s) in
+    let g = λ (s : Signal). walk_for 0 s.accumulator (planned d c.class_of-class.result id 0 (Some (string_bytes c.in_ok-name.name)) s) in
     let none = begun_none (λ (m : Emission). begun m 0) g _ (ap (option_map (λ (m : Emission). begun m 0)) (sym c.in_default-emission.is) ∙ c.emission.ensures 0) in
-    no_arm (notifying d w id c.args.slot) _ able (unknown d w id c.args.slot _ (rw c.count.ensures at c.in-Ok.ensures) _ some none)
+    no_arm (notifying d w id c.args.slot) _ able (unknown d w id c.args.slot _ (rw c.count.ensures at c.class_of-class.ensures) _ some none)
 
 pub returns-clause-step : goal.returns-clause-step
 returns-clause-step c =
@@ -68,7 +71,7 @@ returns-clause-step c =
     let is = c.count.ensures in
     let w = world_of f.world in
     let id = c.args.object.0 in
-    let class = c.in-Ok.class in
+    let class = c.class_of-class.result in
     let rest = agenda_of d e in
     let n = e.counted in
     let p = spec_view c.in-Some.spec.now in
@@ -81,7 +84,7 @@ returns-clause-step c =
     let walk = begun_as (λ (m : Emission). begun m last) (g (string_bytes c.in_ok-name.name)) c.in-Some-emission.emission _ declared.0 found declared.1 ∙ ap (λ (detail : List ℕ). g detail declared.0) name in
     let rises = subst (λ (h : Engine). Numbered 0 h.world.handlers.handlers h.world.handlers.last) (sym is) c.last-last.ensures.rises in
     let due = c.in_ok-due.ensures in
-    let starts_so = notifying_starts d w rises id c.args.slot class c.in_ok-due.due due c.in-Ok.ensures p some declared.0 declared.1 (begun c.in-Some-emission.emission last) walk in
+    let starts_so = notifying_starts d w rises id c.args.slot class c.in_ok-due.due due c.class_of-class.ensures p some declared.0 declared.1 (begun c.in-Some-emission.emission last) walk in
     let line = (rw c.as_str-2.ensures.value at c.in_ok-line.ensures) ∙ ap (λ (types : List GType). text_of_line types (lines.notify id p.name)) c.types.ensures.types in
     let world = c.in_ok-start_emission.ensures.world ∙ ap (λ (text : List ℕ). with_line text w) line in
     let agenda = c.in_ok-start_emission.ensures.agenda d

@@ -1,9 +1,22 @@
 use Rattle.std.proofs.Common.{◌≡◌, true, ap, string_bytes, rules, ◌∙◌}
-use Rattle.engine_world.specs.View.{with_line}
-use Rattle.ui_machine.specs.Rules.Sets.{raising}
+use Rattle.ui_machine.specs.Rules.Sets.{raising, raising_if}
 use Rattle.ui_machine.specs.Rules.NotifyQueue.{raised}
+use Rattle.ui_machine.specs.State.Objects.{changed}
 use Rattle.engine_world.proofs.Counts.{keeps_on, keeps_said, keeps_change, raised_alike}
+use Rattle.engine_world.specs.View.{with_line, world_of}
+use Rattle.engine_world.proofs.Ableness.{able_as, first, in_uncounted}
+use Rattle.engine_world.proofs.LivingObjects.{lives_changed}
 use Rattle.engine_tasks.proofs.sets.say_and_raise.Goals as goal
+
+pub add-requires : goal.add-requires
+unfolding raising
+add-requires c = record {
+  live =
+      let told : c.args.is_told ≡ true = search rules in
+      let w = with_line (string_bytes c.args.line) (world_of c.args.engine.now.world) in
+      let able = able_as (ap (λ b. raising_if b w c.args.object.0 c.args.slot) told) (in_uncounted _ _ _ c.requires.able) in
+      lives_changed w.objects c.args.object.0 (raised c.args.slot) (first (changed w.objects c.args.object.0 (raised c.args.slot)) _ able);
+}
 
 pub returns-then-branch-clause-step : goal.returns-then-branch-clause-step
 unfolding raising
@@ -17,11 +30,11 @@ returns-then-branch-clause-step c =
 pub returns-then-branch-clause-counted : goal.returns-then-branch-clause-counted
 returns-then-branch-clause-counted c =
     let d = c.args.definition.now in
-    keeps_on d _ _ _ (keeps_change d c.args.engine.now c.add.new.self c.args.object.0 (raised c.args.slot) _ (raised_alike d c.args.slot) (rw c.in_ok-rule_out_stuck.ensures.ok at c.add.ensures.changes) c.add.ensures.beside)
+    keeps_on d _ _ _ (keeps_change d c.args.engine.now c.add.new.self c.args.object.0 (raised c.args.slot) _ (raised_alike d c.args.slot) c.in_ok-add.ensures.changes c.add.ensures.beside)
     (keeps_on d _ _ _ (c.in_ok-push_task.ensures.counted d) (keeps_said d c.push_task.new.engine c.say-then-branch.new.self c.say-then-branch.ensures.beside))
 
 pub returns-clause-counted : goal.returns-clause-counted
 returns-clause-counted c =
     let d = c.args.definition.now in
-    keeps_on d _ _ _ (keeps_change d c.args.engine.now c.add.new.self c.args.object.0 (raised c.args.slot) _ (raised_alike d c.args.slot) (rw c.in_ok-rule_out_stuck.ensures.ok at c.add.ensures.changes) c.add.ensures.beside)
+    keeps_on d _ _ _ (keeps_change d c.args.engine.now c.add.new.self c.args.object.0 (raised c.args.slot) _ (raised_alike d c.args.slot) c.in_ok-add.ensures.changes c.add.ensures.beside)
     (keeps_said d _ c.say-2.new.self c.say-2.ensures.beside)

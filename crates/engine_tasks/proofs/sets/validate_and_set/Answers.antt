@@ -1,6 +1,7 @@
-use Rattle.std.proofs.Common.{sym, ap, ◌∙◌}
+use Rattle.std.proofs.Common.{◌≡◌, true, sym, ap, subst, ◌∙◌}
+use Rattle.ui_machine.specs.Definition.Values.{Value}
 use Rattle.ui_machine.specs.State.Objects.{class_in}
-use Rattle.ui_machine.specs.Rules.Sets.{without_disposed, setting, spec_at}
+use Rattle.ui_machine.specs.Rules.Sets.{lives, without_disposed, setting, spec_at}
 use Rattle.ui_machine.specs.Steps.{uncounted}
 use Rattle.g_values.specs.View.{value_view}
 use Rattle.param_specs.specs.View.{spec_view}
@@ -8,6 +9,7 @@ use Rattle.param_specs.specs.Validation.{Takes}
 use Rattle.engine_world.specs.View.{world_of}
 use Rattle.engine_world.specs.TaskView.{agenda_of}
 use Rattle.engine_tasks.proofs.PlainSets.{no_spec_set, set_fits, written_so, refused_so, taken_so}
+use Rattle.engine_tasks.proofs.WrittenValues.{written_lives}
 use Rattle.engine_world.proofs.Left.{left_alone}
 use Rattle.engine_world.proofs.Ableness.{able_as, in_uncounted, no_arm, none_stops}
 use Rattle.engine_tasks.proofs.sets.validate_and_set.Goals as goal
@@ -46,7 +48,12 @@ write_and_notify-requires c =
     let taken : Takes c.types.result.now s x = rw c.types.ensures.types (taken_so d w id slot s is plain x able) in
     let valid = c.without_disposed-without_disposed.ensures ∙ ap (without_disposed w.objects (spec_view s)) (rw c.types.ensures.types at (c.validate-valid.ensures.value taken (class_in w.objects) knows)) in
     let told = written_so d w id slot s is plain x able _ (value_view c.without_disposed-without_disposed.result) c.if-refuses.ensures (rw c.types.ensures.types at (c.validate-valid.ensures.changed taken (class_in w.objects) knows)) valid in
-    record { able = able_as (ap (uncounted (agenda_of d c.args.engine.now) c.args.engine.now.counted) (ap (setting d w id slot) (sym same) ∙ told)) c.requires.able }
+    let alive = (set_fits d w id slot (value_view x) (spec_view s) is able).1 in
+    record {
+      able = able_as (ap (uncounted (agenda_of d c.args.engine.now) c.args.engine.now.counted) (ap (setting d w id slot) (sym same) ∙ told)) c.requires.able;
+      lives = subst (λ (v : Value). lives w.objects v ≡ true) (sym valid) (written_lives w.objects d.types (spec_view s) plain (value_view x) alive);
+      counted = c.requires.counted;
+    }
 
 pub returns-then-refuses-clause-step : goal.returns-then-refuses-clause-step
 returns-then-refuses-clause-step c =

@@ -1,11 +1,23 @@
 use Rattle.std.proofs.Common.{map, refl}
 use Rattle.instance_tables.proofs.Exact.{join_exact}
+use Rattle.instance_tables.proofs.Families.{both_live}
+use Rattle.engine_world.proofs.Rooms.{held_room}
 use Rattle.ui_machine.specs.State.Objects.{living}
 use Rattle.engine_world.specs.View.{held_of}
 use Rattle.engine_world.specs.TaskView.{agenda_of}
 use Rattle.engine_world.proofs.Counts.{beside_of, to_counted, from_counted, keeps_by, keeps_on, keeps_said, with_table, stays}
 use Rattle.engine_world.proofs.Kin.{parent_lives}
 use Rattle.engine_world.proofs.children.adopt.Goals as goal
+
+pub adopt-requires : goal.adopt-requires
+adopt-requires c = record {
+  room =
+      let e = c.args.engine.now in
+      let t = e.world.table in
+      let child = c.args.kin.child.0 in
+      held_room t child
+      (c.never_full.ensures c.args.definition.now c.requires.counted child (both_live t c.args.kin.parent.0 child c.requires.free).1);
+}
 
 pub returns-clause-counted : goal.returns-clause-counted
 returns-clause-counted c =

@@ -3,7 +3,7 @@ use Rattle.ui_machine.specs.State.Objects.{Object}
 use Rattle.ui_machine.specs.State.References.{in_object}
 use Rattle.engine_world.specs.View.{held_of}
 use Rattle.engine_world.specs.TaskView.{agenda_of}
-use Rattle.engine_world.proofs.Counts.{keeps_by, beside_of, to_counted, from_counted, made_counted, stays}
+use Rattle.engine_world.proofs.Counts.{keeps_by, beside_of, to_counted, from_counted, stays}
 use Rattle.engine_world.proofs.objects.create_object.Goals as goal
 
 pub returns-clause-counted : goal.returns-clause-counted
@@ -15,6 +15,5 @@ returns-clause-counted c none =
     let x = c.new-object.result in
     let empty : (o : ℕ) → in_object d o (Some x) ≡ 0 = λ o. ap (λ (y : Object). in_object d o (Some y)) c.new-object.ensures ∙ omega (arith, none o) in
     keeps_by d e _ refl (λ g. g) refl (stays d e _ refl refl) (λ taken _ h.
-    from_counted d taken c.float.new.table b a
-    (c.in_ok-float.ensures.counted d (beside_of taken b a)
-    (made_counted d taken (beside_of taken b a) e.world.table c.create.new.self x c.in-Ok.ensures.2 empty (to_counted d taken e.world.table b a h))))
+    from_counted d taken c.add.new.table b a
+    (c.in-Ok.ensures.added.counted d (beside_of taken b a) empty (to_counted d taken e.world.table b a h)))

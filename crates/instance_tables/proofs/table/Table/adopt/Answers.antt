@@ -30,3 +30,6 @@ give_parent-requires-clause-kin c p e =
     ∙ length_updated (with_child c.args.child.0) old.objects c.args.parent.0 (was_made old.objects c.args.parent.0 live.0).1 in
     let same : c.args.parent.0 ≡ p = cc in
     omega (arith, many, same, (was_made old.objects c.args.parent.0 live.0).1)
+
+pub hold_child-requires-clause-parent : goal.hold_child-requires-clause-parent
+hold_child-requires-clause-parent c = (both_live c.args.self.now c.args.parent.0 c.args.child.0 (sym c.refusal.ensures ∙ c.in_default.is)).0

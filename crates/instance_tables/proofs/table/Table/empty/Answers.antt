@@ -12,6 +12,7 @@ use Rattle.instance_tables.specs.declared.instance.Instance.{Instance}
 use Rattle.instance_tables.proofs.Families.{length_updated, was_made}
 use Rattle.instance_tables.proofs.Shown.{found_in, not_absent}
 use Rattle.instance_tables.proofs.Maps.{written_updates, written_beside}
+use Rattle.instance_tables.proofs.Short.{emptied_few}
 use Rattle.instance_tables.proofs.Kin.{children_made, named_well, childless_given}
 use Rattle.instance_tables.proofs.table.Table.empty.Goals as goal
 
@@ -32,6 +33,8 @@ invariant_of-self-2 c =
     named_well c.self.inside.instances _ _ c.self.inside.namers _ _ y here c.self.invariant c.dispose.new.self
     (childless_given (instances_at c.self.inside.instances) _ _ c.self.invariant.2 c.in-Some.instance.now here c.dispose.new.object
     (ap (λ (o : Object). o.children) c.dispose.ensures.object) (ap (λ (o : Object). o.parent) c.dispose.ensures.object))
+    (emptied_few c.args.weak.now c.in-Some.instance.now.object c.dispose.new.object (c.self.invariant.4 c.args.id.0 c.in-Some.instance.now here)
+    c.dispose.ensures.object)
     refl c.dispose.ensures.others c.dispose.ensures.names
 
 pub returns-clause-objects : goal.returns-clause-objects

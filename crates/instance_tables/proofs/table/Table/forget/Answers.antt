@@ -4,6 +4,7 @@ use Rattle.instance_tables.specs.Store.{id_of, with_objects}
 use Rattle.instance_tables.specs.Weak.{forgetting}
 use Rattle.instance_tables.specs.Names.{forgotten_in}
 use Rattle.instance_tables.specs.View.{object_in, count_in, instances_at}
+use Rattle.instance_tables.proofs.Short.{forgetting_few}
 use Rattle.instance_tables.proofs.Forgotten.{all_changed, one_object, one_count, still_known, all_forgets, nothing_forgets}
 use Rattle.instance_tables.proofs.table.Table.forget.Goals as goal
 
@@ -26,5 +27,6 @@ pub invariant_of-self : goal.invariant_of-self
 invariant_of-self c =
     still_known (instances_at c.self.inside.instances) (instances_at c.forget_everywhere.new.instances) c.self.inside.made
     (id_of c.self.inside.unheld) c.self.inside.namers c.forget_everywhere.new.namers (forgotten_in c.args.weak.now c.args.id.0)
-    (λ x. refl) (λ x. record { children = refl; parent = refl }) c.forget_everywhere.ensures.forgotten c.forget_everywhere.ensures.known
+    (λ x. refl) (λ x. record { children = refl; parent = refl }) (λ x few. forgetting_few c.args.weak.now c.args.id.0 x.object few)
+    c.forget_everywhere.ensures.forgotten c.forget_everywhere.ensures.known
     c.self.invariant

@@ -7,6 +7,7 @@ use Rattle.instance_tables.specs.Store.{id_of, Store}
 use Rattle.instance_tables.specs.declared.instance.Instance.{Instance}
 use Rattle.instance_tables.proofs.Shown.{given_out, absent_updated}
 use Rattle.instance_tables.proofs.Maps.{written_updates, written_beside}
+use Rattle.instance_tables.proofs.Short.{parent_few}
 use Rattle.instance_tables.proofs.Kin.{kin_well, parent_given}
 use Rattle.instance_tables.proofs.table.Table.give_parent.Goals as goal
 
@@ -37,5 +38,7 @@ invariant_of-self-2 c =
     let y : Instance = record { object = c.give_parent.new.self; mentions = c.in-Some.instance.now.mentions } in
     kin_well c.self.inside.instances _ _ c.self.inside.namers _ _ y here c.self.invariant
     (parent_given (instances_at c.self.inside.instances) _ _ c.self.invariant.2 c.in-Some.instance.now here c.give_parent.new.self (id_of c.args.parent) c.give_parent.ensures
-    (λ p e. omega (arith, made, c.requires.kin p e))) refl
+    (λ p e. omega (arith, made, c.requires.kin p e)))
+    (parent_few (id_of c.args.parent) c.in-Some.instance.now.object c.give_parent.new.self (c.self.invariant.4 c.args.id.0 c.in-Some.instance.now here)
+    c.give_parent.ensures) refl
     (ap (λ (o : Object). o.values) c.give_parent.ensures)

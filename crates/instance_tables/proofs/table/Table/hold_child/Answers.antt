@@ -6,7 +6,7 @@ use Rattle.instance_tables.proofs.Families.{still_live, was_made}
 use Rattle.instance_tables.proofs.table.Table.hold_child.Goals as goal
 
 pub add_child-requires : goal.add_child-requires
-add_child-requires c = record { given = (was_made c.args.self.now.objects c.args.child.0 c.requires.live).1 }
+add_child-requires c = record { live = c.requires.parent; given = (was_made c.args.self.now.objects c.args.child.0 c.requires.live).1 }
 
 pub hold-requires-clause-live : goal.hold-requires-clause-live
 hold-requires-clause-live c =

@@ -6,6 +6,7 @@ use Rattle.instance_tables.specs.Store.{Store}
 use Rattle.instance_tables.specs.declared.instance.Instance.{Instance}
 use Rattle.instance_tables.proofs.Shown.{absent_updated, found_in}
 use Rattle.instance_tables.proofs.Maps.{written_updates, written_beside}
+use Rattle.instance_tables.proofs.Short.{without_few}
 use Rattle.instance_tables.proofs.Kin.{kin_well, without_given}
 use Rattle.instance_tables.proofs.table.Table.remove_child.Goals as goal
 use Rattle.ui_machine.specs.Seq.{total}
@@ -53,5 +54,7 @@ invariant_of-self-2 c =
     let here = sym c.get_mut.ensures.value ∙ ap option_copied_mut c.in-Some.is in
     let y : Instance = record { object = c.remove_child.new.self; mentions = c.in-Some.instance.now.mentions } in
     kin_well c.self.inside.instances _ _ c.self.inside.namers _ _ y here c.self.invariant
-    (without_given (instances_at c.self.inside.instances) _ _ c.self.invariant.2 c.in-Some.instance.now here c.remove_child.new.self c.args.child.0 c.remove_child.ensures.object) refl
+    (without_given (instances_at c.self.inside.instances) _ _ c.self.invariant.2 c.in-Some.instance.now here c.remove_child.new.self c.args.child.0 c.remove_child.ensures.object)
+    (without_few c.args.child.0 c.remove_child.result c.in-Some.instance.now.object c.remove_child.new.self
+    (c.self.invariant.4 c.args.parent.0 c.in-Some.instance.now here) c.remove_child.ensures.object c.remove_child.ensures.count) refl
     (ap (λ (o : Object). o.values) c.remove_child.ensures.object)
