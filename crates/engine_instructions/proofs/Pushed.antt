@@ -10,7 +10,7 @@ use Rattle.ui_machine.specs.Instructions.{in_front}
 use Rattle.ui_machine.specs.Instructions.Objects.{adopting}
 use Rattle.ui_machine.specs.Instructions.Properties.{then_goes_on}
 use Rattle.ui_machine.specs.Instructions.Registers.{operand_in, written_to}
-use Rattle.ui_machine.specs.Outcome.{After, Answer, Goes, Stops, only_if}
+use Rattle.ui_machine.specs.Outcome.{After, Answer, Stops, only_if}
 use Rattle.ui_machine.specs.Rules.Children.{updated, with_parent, without_child}
 use Rattle.ui_machine.specs.Rules.NotifyQueue.{frozen_more, most_freezes}
 use Rattle.ui_machine.specs.State.Config.{Config, Started, World}
@@ -36,11 +36,7 @@ use Rattle.engine_instructions.proofs.Adopting.{adopt_stops, adopts, adopts_some
 use Rattle.engine_world.proofs.Counts.{Alike, beside_of, from_counted, keeps_by, sunk_exact, taken_alike, to_counted, with_table, stays}
 use Rattle.engine_world.proofs.Left.{same_agenda}
 use Rattle.engine_world.proofs.Registers.{stops_left}
-use Rattle.engine_instructions.proofs.Starting.{goes_then, stops_as, stops_elsewhere, written_elsewhere}
-
--- an answer of code that may halt
-abbrev as_halt : {X : Type 0} → X → Result X Halt
-as_halt x = Ok x
+use Rattle.engine_instructions.proofs.Starting.{leads_then, stops_as, stops_elsewhere, written_elsewhere}
 
 uncounted_able : (rest : List Task) (n : ℕ) (a : Answer Started) → Able a → Able (uncounted rest n a)
 uncounted_able rest n (Ok s) able = tt
@@ -59,21 +55,14 @@ module _ (d : Definition) (e b : Engine) (f : Frame) where
     count_pushed = ap (λ (x : Engine). x.counted) beside
 
     -- what a step before it comes to
-    pub goes_before : {X : Type 0} (result : Result X Halt) (a : World → Answer Started) (new : Config) → agenda_of d b ≡ Running f ∷ agenda_of d e
-        → Goes result (uncounted (agenda_of d b) b.counted (a (world_of b.world))) new
-        → Goes result (left e.counted (in_front (agenda_of d e) (then_goes_on f (a (world_of e.world))))) new
-    goes_before {X} result a new agenda goes =
-        goes_then e.counted (agenda_of d e) result f (a (world_of e.world)) new
-        (subst (λ (w : World). Goes result (uncounted (Running f ∷ agenda_of d e) e.counted (a w)) new) world_pushed
-        (subst (λ n. Goes result (uncounted (Running f ∷ agenda_of d e) n (a (world_of b.world))) new) count_pushed
-        (subst (λ (ts : List Task). Goes result (uncounted ts b.counted (a (world_of b.world))) new) agenda goes)))
-
-    -- the same of code that is not stuck
     pub leads_before : {X : Type 0} (result : Result X AllocError) (a : World → Answer Started) (new : Config) → agenda_of d b ≡ Running f ∷ agenda_of d e
         → Leads result (uncounted (agenda_of d b) b.counted (a (world_of b.world))) new
         → Leads result (left e.counted (in_front (agenda_of d e) (then_goes_on f (a (world_of e.world))))) new
-    leads_before {X} (Ok x) a new agenda leads = goes_before {X = X} (as_halt x) a new agenda leads
-    leads_before {X} (Err error) a new agenda leads = tt
+    leads_before {X} result a new agenda leads =
+        leads_then e.counted (agenda_of d e) result f (a (world_of e.world)) new
+        (subst (λ (w : World). Leads result (uncounted (Running f ∷ agenda_of d e) e.counted (a w)) new) world_pushed
+        (subst (λ n. Leads result (uncounted (Running f ∷ agenda_of d e) n (a (world_of b.world))) new) count_pushed
+        (subst (λ (ts : List Task). Leads result (uncounted ts b.counted (a (world_of b.world))) new) agenda leads)))
 
     pub raising_able : (a : World → Answer Started) → Able (then_goes_on f (a (world_of e.world))) → Able (uncounted (agenda_of d b) b.counted (a (world_of b.world)))
     unfolding then_goes_on

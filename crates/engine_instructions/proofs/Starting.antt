@@ -7,7 +7,7 @@ use Rattle.ui_machine.specs.Definition.Values.{Value}
 use Rattle.ui_machine.specs.Instructions.{in_front}
 use Rattle.ui_machine.specs.Instructions.Properties.{then_goes_on}
 use Rattle.ui_machine.specs.Instructions.Registers.{goes_on, with_register, written_to}
-use Rattle.ui_machine.specs.Outcome.{Answer, Goes, Stops, ◌>>=◌}
+use Rattle.ui_machine.specs.Outcome.{Answer, Stops, ◌>>=◌}
 use Rattle.ui_machine.specs.State.Config.{Config, Started, World}
 use Rattle.ui_machine.specs.State.Tasks.{Frame, Registers, Running, Task}
 use Rattle.ui_machine.specs.Steps.{left, uncounted}
@@ -28,14 +28,12 @@ module _ (n : ℕ) (rest : List Task) where
       ∙ rw (world, agenda, count) refl
 
   -- a step that starts something before the program goes on
-  pub goes_then : {X : Type 0} (result : Result X Halt) (f : Frame) (a : Answer Started) (new : Config)
-      → Goes result (uncounted (Running f ∷ rest) n a) new → Goes result (left n (in_front rest (then_goes_on f a))) new
+  pub leads_then : {X : Type 0} (result : Result X AllocError) (f : Frame) (a : Answer Started) (new : Config)
+      → Leads result (uncounted (Running f ∷ rest) n a) new → Leads result (left n (in_front rest (then_goes_on f a))) new
   unfolding left in_front then_goes_on
-  goes_then {X} (Ok x) f (Ok s) new goes = ap (λ (l : List Task). Ok (record { world = s.world; agenda = l; counted = n })) (append_assoc s.tasks (Running f ∷ []) rest) ∙ goes
-  goes_then {X} (Ok x) f (Err arm) new goes = absurd (cc goes)
-  goes_then {X} (Err halts.OutOfMemory) f a new goes = tt
-  goes_then {X} (Err (halts.Stuck arm)) f (Ok s) new goes = absurd (cc goes)
-  goes_then {X} (Err (halts.Stuck arm)) f (Err other) new goes = goes
+  leads_then {X} (Ok x) f (Ok s) new leads = ap (λ (l : List Task). Ok (record { world = s.world; agenda = l; counted = n })) (append_assoc s.tasks (Running f ∷ []) rest) ∙ leads
+  leads_then {X} (Ok x) f (Err arm) new leads = absurd (cc leads)
+  leads_then {X} (Err error) f a new leads = tt
 
   -- ** a register that is written in one world, and in another
 

@@ -29,24 +29,7 @@ abbrev pub only_if : {A E : Type 0} → Bool → E → Result A E → Result A E
 only_if true e answer = answer
 only_if false e answer = Err e
 
--- ** what contracts say of code beside an answer
-
--- The code's answer, seen by view, is the machine's, and what the code leaves is what the machine leaves.
-abbrev pub Gives : {S X Y : Type 0} → (X → Y) → Result X Arm → Answer (After S Y) → S → Type 0
-Gives view (Ok x) answer new = answer ≡ Ok (record { state = new; answer = view x })
-Gives view (Err arm) answer new = answer ≡ Err arm
-
--- why the code stopped: it found no memory, of which the machine knows nothing, or the machine is stuck there
+-- why code that follows the machine stopped: it found no memory, of which the machine knows nothing, or the machine is stuck there
 abbrev pub Stops : {A : Type 0} → Halt → Answer A → Type 0
 Stops halts.OutOfMemory answer = Unit {0}
 Stops (halts.Stuck arm) answer = answer ≡ Err arm
-
--- what `Gives` says, of code that asks for memory
-abbrev pub Follows : {S X Y : Type 0} → (X → Y) → Result X Halt → Answer (After S Y) → S → Type 0
-Follows view (Ok x) answer new = answer ≡ Ok (record { state = new; answer = view x })
-Follows view (Err halt) answer new = Stops halt answer
-
--- code that answers nothing but what it leaves
-abbrev pub Goes : {S X : Type 0} → Result X Halt → Answer S → S → Type 0
-Goes (Ok x) answer new = answer ≡ Ok new
-Goes (Err halt) answer new = Stops halt answer

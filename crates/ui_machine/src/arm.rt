@@ -1,10 +1,5 @@
 //! Why a step of the machine is not made.
 
-ghost use Rattle.std.specs.Prelude.{◌≡◌};
-ghost use Rattle.ui_machine.specs.declared.arm.Halt.TheVariants.{OutOfMemory, Stuck};
-
-use std::alloc::{AllocError, AllocFailed};
-
 /// Why the first task of the machine can't act. No run of an accepted definition meets one (proved in `law_sessions`); a definition that
 /// nobody has judged may.
 #[derive(Clone, Copy, Debug, PartialEq, Eq)]
@@ -42,28 +37,4 @@ pub enum Arm {
 pub enum Halt {
     OutOfMemory,
     Stuck(Arm),
-}
-
-impl From<Arm> for Halt {
-    ghost from_gives = { λ arm halt. halt ≡ Stuck arm };
-
-    fn from(arm: Arm) -> Halt {
-        Halt::Stuck(arm)
-    }
-}
-
-impl From<AllocError> for Halt {
-    ghost from_gives = { λ _ halt. halt ≡ OutOfMemory };
-
-    fn from(_error: AllocError) -> Halt {
-        Halt::OutOfMemory
-    }
-}
-
-impl<T: Drop> From<AllocFailed<T>> for Halt {
-    ghost from_gives = { λ _ halt. halt ≡ OutOfMemory };
-
-    fn from(_error: AllocFailed<T>) -> Halt {
-        Halt::OutOfMemory
-    }
 }
