@@ -25,6 +25,7 @@ use Rattle.law_typing.specs.Good.Bindings.{BindingGood, HeldGood, SourceGood}
 use Rattle.law_typing.specs.Good.ComingDown.{Down, down, none}
 use Rattle.law_typing.specs.Good.Emissions.{EmissionFits}
 use Rattle.law_typing.specs.Good.Handlers.{HandlerGood}
+use Rattle.law_typing.specs.Good.Living.{AllNamesLiving, EmissionNamesLiving, IsLiving, NamesLiving, TaskNamesLiving, WorldNamesLiving}
 use Rattle.law_typing.specs.Good.Objects.{ObjectsGood}
 use Rattle.law_typing.specs.Good.Standing.{Lives, LivesIf, Standing, class_by, holds, lives_by, standing, view}
 use Rattle.law_typing.specs.Graph.{graph}
@@ -44,7 +45,7 @@ use Rattle.law_tasks.proofs.StepsProofs.{steps_keep_good}
 use Rattle.law_sessions.specs.Dispatches.{Throughout}
 use Rattle.law_sessions.proofs.DispatchProofs.{stays}
 use Rattle.law_sessions.proofs.EntryProofs.{IsPrinted, build_printed, printed_few, request_printed, source_printed}
-use Rattle.law_living.specs.Living.{AllNamesLiving, BuildsNameLiving, EmissionNamesLiving, IsLiving, NamesLiving, RequestsNameLiving, RestsNameLiving, SourcesNameLiving, TaskNamesLiving, WorldNamesLiving}
+use Rattle.law_living.specs.Living.{BuildsNameLiving, RequestsNameLiving, RestsNameLiving, SourcesNameLiving}
 
 -- each of a list by what is so of each
 each_so : {A : Type 0} (P Q : A → Type 0) → ((x : A) → P x → Q x) → (xs : List A) → Each P xs → Each Q xs

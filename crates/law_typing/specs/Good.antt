@@ -10,6 +10,7 @@ pub mod Programs
 pub mod Emissions
 pub mod Builds
 pub mod Requests
+pub mod Living
 pub mod Agenda
 pub mod Freezes
 use Rattle.std.specs.Prelude.{◌≡◌, ℕ, ◌+◌, ◌≤◌, [], length, Some}
