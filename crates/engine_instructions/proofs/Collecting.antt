@@ -23,7 +23,7 @@ use Rattle.signal_core.specs.Emission.{Due, Walk, is_over, stopped}
 use Rattle.engine_world.specs.Able.{Able}
 use Rattle.engine_world.specs.KnownHandlers.{AllTakeKnownHandlers, EndsWithoutTransfers}
 use Rattle.engine_instructions.specs.CollectView.{collects, stops_at}
-use Rattle.engine_world.specs.Counting.{Counts, OnlyCounts}
+use Rattle.engine_world.specs.Counting.{Counts, MayHold, OnlyCounts}
 use Rattle.engine_world.specs.TaskView.{agenda_of, emission_of, entries_to_come, task_of, tasks_of}
 use Rattle.engine_world.specs.declared.engine.Engine.{Engine}
 use Rattle.engine_world.specs.declared.task.Stack.{Stack}
@@ -223,6 +223,17 @@ gives_nothing d w given old new tasks first back is able =
     by (Some v) able = absurd able
 
 -- ** counts
+
+-- what it has collected may be held where what it is given may be, and what it had
+pub collected_may : (t : Store) (w : Walk) (a : Option Accumulator) (given : Option Value) → MayHold t (λ o. in_register o given) → MayHold t (λ o. in_register o w.value)
+    → MayHold t (λ o. in_register o (collects a given w).value)
+collected_may t w a None may again = again
+collected_may t w a (Some v) may again = by (is_over w.stage) (is_last a v)
+  where
+    by : (over last : Bool) → MayHold t (λ o. in_register o (cond over w (cond last (stopped (record w { value = Some v })) (record w { value = Some v }))).value)
+    by true last = again
+    by false true = may
+    by false false = may
 
 -- an emission that goes on with what it has collected
 pub collected_counts : (d : Definition) (e : Engine) (t : Store) (s : Stack) (taken : ℕ → ℕ) (old new : Emission) (entries : List PlanEntry) → OnlyCounts e.world.table t

@@ -19,3 +19,4 @@ mod Creating
 mod SourceSteps
 mod Unbinding
 mod PeerCalls
+mod Holding

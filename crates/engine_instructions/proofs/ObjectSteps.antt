@@ -1,5 +1,5 @@
 -- What instructions on objects come to, by what they find.
-use Rattle.std.proofs.Common.{◌≡◌, ◌∙◌, refl, ap, subst, arith, ℕ, zero, suc, map, All, Bool, true, false, not, cond, List, [], ◌∷◌, Option, None, Some, IsSome, is_some, Ok, Err}
+use Rattle.std.proofs.Common.{◌≡◌, ◌∙◌, refl, ap, subst, arith, ℕ, zero, suc, map, All, Bool, true, false, not, cond, List, [], ◌∷◌, Option, None, Some, IfSome, IsSome, is_some, Ok, Err}
 use Rattle.ui_machine.specs.declared.arm.Arm.{Arm}
 use Rattle.ui_machine.specs.declared.arm.Arm.TheVariants as arms
 use Rattle.ui_machine.specs.declared.arm.Halt.{Halt}
@@ -9,7 +9,7 @@ use Rattle.ui_machine.specs.Definition.Places.{Place}
 use Rattle.ui_machine.specs.Definition.Values.{Value}
 use Rattle.ui_machine.specs.Definition.Values as values
 use Rattle.ui_machine.specs.Instructions.Objects.{disposed_once, disposing, freezing, look_up_object, or_null, orphaning, sinking, thaw_notify}
-use Rattle.ui_machine.specs.Instructions.Registers.{gives, goes_on, identity_of, operand_in, value_in, values_in}
+use Rattle.ui_machine.specs.Instructions.Registers.{data_in, gives, goes_on, identity_of, operand_in, value_in, values_in}
 use Rattle.ui_machine.specs.Outcome.{After, Answer, Stops, known, only_if, ◌>>=◌}
 use Rattle.ui_machine.specs.Rules.Build.{identity_held}
 use Rattle.ui_machine.specs.Rules.Children.{orphaned}
@@ -47,6 +47,16 @@ operand_lives w f object id is = by_value (value_in f object) is
     by_value : (v : Answer Value) → (v >>= λ v. identity_of v >>= λ i. only_if (is_some (living w.objects i)) arms.Operand (Ok i)) ≡ Ok id → IsSome (living w.objects id)
     by_value (Err arm) e = absurd (cc e)
     by_value (Ok v) e = by_identity (identity_of v) e
+
+-- and so does data
+pub data_lives : (w : World) (f : Frame) (from arg : Option ℕ) → data_in w f from ≡ Ok arg → IfSome arg (λ id. IsSome (living w.objects id))
+unfolding data_in
+data_lives w f None arg is = let none : None ≡ arg = cc is in subst (λ (i : Option ℕ). IfSome i (λ id. IsSome (living w.objects id))) none tt
+data_lives w f (Some from) arg is = by (operand_in w f from) refl is
+  where
+    by : (found : Answer ℕ) → operand_in w f from ≡ found → (found >>= λ i. Ok (Some i)) ≡ Ok arg → IfSome arg (λ id. IsSome (living w.objects id))
+    by (Err arm) there e = absurd (cc e)
+    by (Ok id) there e = let same : Some id ≡ arg = cc e in subst (λ (i : Option ℕ). IfSome i (λ id. IsSome (living w.objects id))) same (operand_lives w f from id there)
 
 -- an operand, by the identity that the register has
 pub operand_by : (w : World) (f : Frame) (from : ℕ) (id : Answer ℕ) → identity_in f.registers from ≡ id → operand_in w f from ≡ (id >>= λ i. only_if (is_some (living w.objects i)) arms.Operand (Ok i))

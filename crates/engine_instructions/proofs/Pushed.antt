@@ -1,5 +1,5 @@
 -- The rest of a program that was put before the other tasks, and what instructions on objects leave behind it.
-use Rattle.std.proofs.Common.{◌≡◌, ◌∙◌, refl, sym, ap, subst, ℕ, suc, ◌+◌, Bool, true, false, not, nat_lt, List, ◌∷◌, map, Option, None, Some, is_some, Result, Ok, Err, arith}
+use Rattle.std.proofs.Common.{◌≡◌, ◌∙◌, refl, sym, ap, subst, ℕ, suc, ◌+◌, Bool, true, false, not, nat_lt, List, ◌∷◌, map, Option, None, Some, IsSome, is_some, Result, Ok, Err, arith}
 use Rattle.std.specs.Prelude.{IfOk, is_none}
 use Rattle.ui_machine.specs.declared.arm.Arm.TheVariants as arms
 use Rattle.ui_machine.specs.declared.arm.Halt.{Halt}
@@ -15,7 +15,7 @@ use Rattle.ui_machine.specs.Rules.Children.{updated, with_parent, without_child}
 use Rattle.ui_machine.specs.Rules.NotifyQueue.{frozen_more, most_freezes}
 use Rattle.ui_machine.specs.State.Config.{Config, Started, World}
 use Rattle.ui_machine.specs.State.Config as config
-use Rattle.ui_machine.specs.State.Objects.{Object, Objects}
+use Rattle.ui_machine.specs.State.Objects.{Object, Objects, living}
 use Rattle.ui_machine.specs.State.References.{in_object}
 use Rattle.ui_machine.specs.State.Tasks.{Frame, Running, Task}
 use Rattle.ui_machine.specs.Steps.{left, uncounted}
@@ -53,6 +53,10 @@ module _ (d : Definition) (e b : Engine) (f : Frame) where
 
     pub count_pushed : b.counted ≡ e.counted
     count_pushed = ap (λ (x : Engine). x.counted) beside
+
+    -- what lives still does
+    pub lives_pushed : (id : ℕ) → IsSome (living e.world.table.objects id) → IsSome (living b.world.table.objects id)
+    lives_pushed id lives = subst (λ (w : World). IsSome (living w.objects id)) (sym world_pushed) lives
 
     -- what a step before it comes to
     pub leads_before : {X : Type 0} (result : Result X AllocError) (a : World → Answer Started) (new : Config) → agenda_of d b ≡ Running f ∷ agenda_of d e

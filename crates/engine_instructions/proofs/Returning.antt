@@ -1,5 +1,5 @@
 -- How a program ends.
-use Rattle.std.proofs.Common.{◌≡◌, ◌∙◌, refl, ap, ℕ, Option, None, Some, Ok, List}
+use Rattle.std.proofs.Common.{◌≡◌, ◌∙◌, refl, ap, ℕ, ◌≤◌, Option, None, Some, Ok, List, arith}
 use Rattle.ui_machine.specs.declared.arm.Arm.TheVariants as arms
 use Rattle.ui_machine.specs.Definition.{Definition}
 use Rattle.ui_machine.specs.Definition.Lookups.{program_at}
@@ -10,11 +10,15 @@ use Rattle.ui_machine.specs.Instructions.Registers.{value_in}
 use Rattle.ui_machine.specs.Outcome.{Answer, known, only_if, ◌>>=◌}
 use Rattle.ui_machine.specs.Rules.Accumulation.{given_down, suits}
 use Rattle.ui_machine.specs.Rules.Transform.{kind_fits}
+use Rattle.ui_machine.specs.Seq.{read}
 use Rattle.ui_machine.specs.State.Config.{World}
 use Rattle.ui_machine.specs.State.Objects.{class_in}
+use Rattle.ui_machine.specs.State.References.{in_register}
 use Rattle.ui_machine.specs.State.Tasks.{Frame, Task}
 use Rattle.engine_world.specs.Able.{Able}
+use Rattle.engine_world.specs.Counting.{in_frame}
 use Rattle.engine_world.proofs.Ableness.{able_as, first, past}
+use Rattle.engine_world.proofs.Lists.{read-within}
 use Rattle.engine_instructions.proofs.Tested.{passes}
 
 -- ** what it gives
@@ -30,6 +34,18 @@ register_able f from able = first (value_in f from) (λ v. Ok (Some v)) able
 pub gives_nothing : (f : Frame) → given_by f None ≡ Ok None
 unfolding given_by
 gives_nothing f = refl
+
+-- it is what a register holds, or nothing
+pub given_within : (f : Frame) (from : Option ℕ) (v : Option Value) (o : ℕ) → given_by f from ≡ Ok v → in_register o v ≤ in_frame o f
+unfolding given_by
+given_within f None v o is = let none : None ≡ v = cc is in omega (arith, ap (in_register o) none)
+given_within f (Some from) v o is = by (read None f.registers from) refl is
+  where
+    by : (r : Option Value) → read None f.registers from ≡ r → (known arms.Register r >>= λ x. Ok (Some x)) ≡ Ok v → in_register o v ≤ in_frame o f
+    by None there e = absurd (cc e)
+    by (Some x) there e =
+        let same : Some x ≡ v = cc e in
+        omega (arith, read-within (in_register o) None f.registers from refl, ap (in_register o) there, ap (in_register o) same)
 
 module _ (d : Definition) (w : World) (f : Frame) (from : Option ℕ) (p : Program) (is : program_at d f.program ≡ Some p) where
   abbrev fitting : Option Value → Answer (Option Value)

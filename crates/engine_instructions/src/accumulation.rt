@@ -1,6 +1,6 @@
 //! What programs give: an emission collects it (GObject manual, Signals: GSignalAccumulator).
 
-ghost use Rattle.std.specs.Prelude.{◌≡◌, ℕ, ◌+◌, ◌≤◌, [], cond, option_map, IfOk, OnOk};
+ghost use Rattle.std.specs.Prelude.{◌≡◌, ℕ, ◌+◌, ◌≤◌, [], cond, option_map, OnOk};
 ghost use Rattle.ui_machine.specs.Rules.Accumulation.{down_to_emission, given_down};
 ghost use Rattle.ui_machine.specs.Definition as machine;
 ghost use Rattle.ui_machine.specs.Rules.MainLoop.{kept_source};
@@ -13,14 +13,14 @@ ghost use Rattle.engine_world.specs.Able.{Able, Leads};
 ghost use Rattle.engine_world.specs.Quiet.{IsQuiet};
 ghost use Rattle.engine_world.specs.declared.task.Transfers.TheVariants as at;
 ghost use Rattle.engine_instructions.specs.CollectView.{collects, stops_at};
-ghost use Rattle.engine_world.specs.Counting.{Counts, HoldsTasks, KeepsCounts, OnlyCounts, OnlyTasks};
+ghost use Rattle.engine_world.specs.Counting.{Counts, HoldsTasks, IsCounted, KeepsCounts, MayHold, OnlyCounts, OnlyTasks};
 ghost use Rattle.engine_world.specs.SourceView.{HoldsSources};
 ghost use Rattle.engine_world.specs.TaskView.{agenda_of, emission_of, entries_to_come};
 ghost use Rattle.engine_world.specs.View.{world_of};
 
 use definitions::Definition;
 use engine_world::engine::Engine;
-use engine_world::references::{accumulated, hold_any, let_go_any};
+use engine_world::references::{accumulated, hold_any, let_go_any, never_full};
 use engine_world::sources::answer_source;
 use engine_world::task::{Task, Transfers};
 use g_values::Value;
@@ -35,22 +35,23 @@ fn collect(
     cursor: &mut Cursor,
     accumulator: Option<Accumulator>,
     given: Option<Value>,
-) -> Result<bool, AllocError>
+) -> bool
     requires held { (o : ℕ) → in_register o cursor.now.value ≤ count_of table.now.counts o }
-    ensures last { IfOk result (λ last. last ≡ stops_at (option_map accumulator_of accumulator) (option_map value_view given)) }
-    ensures taken { OnOk result (cursor.new ≡ collects (option_map accumulator_of accumulator) (option_map value_view given) cursor.old) }
+    requires may { MayHold table.now (λ o. in_register o (collects (option_map accumulator_of accumulator) (option_map value_view given) cursor.now).value) }
+    ensures last { result ≡ stops_at (option_map accumulator_of accumulator) (option_map value_view given) }
+    ensures taken { cursor.new ≡ collects (option_map accumulator_of accumulator) (option_map value_view given) cursor.old }
     ensures only { OnlyCounts table.old table.new }
-    ensures counts { OnOk result ((o : ℕ) → count_of table.new.counts o + in_register o cursor.old.value ≡ count_of table.old.counts o + in_register o cursor.new.value) }
+    ensures counts { (o : ℕ) → count_of table.new.counts o + in_register o cursor.old.value ≡ count_of table.old.counts o + in_register o cursor.new.value }
 {
     let Some(value) = given else {
-        return Ok(false);
+        return false;
     };
     let held = accumulated(cursor);
     let is_last = is_last(accumulator, &value);
     cursor.collect(value, is_last);
-    hold_any(table, accumulated(cursor))?;
+    hold_any(table, accumulated(cursor));
     let_go_any(table, held);
-    Ok(is_last)
+    is_last
 }
 
 // The transfers of an emission, of which none are left where it stopped.
@@ -77,6 +78,8 @@ fn accumulate(
     requires able { Able (down_to_emission definition.now (world_of engine.now.world) (emission_of cursor args.items by_event) (entries_to_come cursor engine.now.world.handlers.handlers transfers)
         (agenda_of definition.now engine.now) (option_map value_view given)) }
     requires held { (o : ℕ) → in_register o cursor.value ≤ count_of engine.now.world.table.counts o }
+    requires may { MayHold engine.now.world.table (λ o. in_register o (option_map value_view given)) }
+    requires again { MayHold engine.now.world.table (λ o. in_register o cursor.value) }
     requires begun { cursor.greatest ≤ engine.now.world.handlers.last }
     requires ends { EndsWithoutTransfers cursor transfers }
     ensures step { Leads result
@@ -98,7 +101,7 @@ fn accumulate(
         &mut cursor,
         signal.accumulator,
         given,
-    )?;
+    );
     let left = unless_stopped(engine.alloc, transfers, is_last);
     engine.stack.push(Task::Emitting {
         cursor,
@@ -133,6 +136,8 @@ pub(crate) fn give_down(
 ) -> Result<(), AllocError>
     requires able { Able (given_down definition.now (world_of engine.now.world) (agenda_of definition.now engine.now) (option_map value_view given)) }
     requires held { HoldsTasks definition.now engine.now }
+    requires may { MayHold engine.now.world.table (λ o. in_register o (option_map value_view given)) }
+    requires counted { IsCounted definition.now engine.now }
     requires sources { HoldsSources engine.now }
     requires begun { AllTakeKnownHandlers engine.now.world.handlers.last engine.now.stack }
     ensures step { Leads result
@@ -142,6 +147,8 @@ pub(crate) fn give_down(
     ensures same { engine.new.counted ≡ engine.old.counted }
     ensures counted { OnOk result (KeepsCounts definition.now engine.old engine.new) }
 {
+    // For the proof: what an emission has collected lives, and may be held once more.
+    never_full(engine);
     let Some(task) = engine.stack.pop() else {
         return Ok(());
     };

@@ -8,7 +8,7 @@ ghost use Rattle.frames.specs.FrameView.{frame_view};
 ghost use Rattle.engine_world.specs.Counting.{Counts, in_frame, nothing};
 ghost use Rattle.engine_world.specs.EngineView.{config_of};
 ghost use Rattle.engine_instructions.specs.EmitView.{emission_by_code, emit_of};
-ghost use Rattle.engine_world.specs.Able.{Able, Leads};
+ghost use Rattle.engine_world.specs.Able.{Able, Leads, LeadsToLiving};
 ghost use Rattle.engine_world.specs.Quiet.{IsQuiet};
 ghost use Rattle.engine_world.specs.TaskView.{agenda_of, new_of};
 ghost use Rattle.engine_world.specs.View.{world_of};
@@ -86,6 +86,7 @@ pub(crate) fn emit_from_program(
     emit: Emit<'_>,
 ) -> Result<(), AllocError>
     requires able { Able (left engine.now.counted (in_front (agenda_of definition.now engine.now) (emitting definition.now (world_of engine.now.world) (frame_view frame) object.0 (emit_of emit)))) }
+    requires names { LeadsToLiving (left engine.now.counted (in_front (agenda_of definition.now engine.now) (emitting definition.now (world_of engine.now.world) (frame_view frame) object.0 (emit_of emit)))) }
     requires counted { Counts definition.now (λ o. in_frame o (frame_view frame)) engine.now }
     ensures step { Leads result
         (left engine.old.counted (in_front (agenda_of definition.now engine.old) (emitting definition.now (world_of engine.old.world) (frame_view frame) object.0 (emit_of emit.entry))))

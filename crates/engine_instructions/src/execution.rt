@@ -13,7 +13,7 @@ ghost use Rattle.engine_world.specs.View.{world_of};
 ghost use Rattle.engine_world.specs.TaskView.{agenda_of};
 ghost use Rattle.engine_world.specs.Counting.{Counts, in_frame, nothing};
 ghost use Rattle.engine_world.specs.EngineView.{config_of};
-ghost use Rattle.engine_world.specs.Able.{Able, Leads, LeadsWithoutGone};
+ghost use Rattle.engine_world.specs.Able.{Able, Leads, LeadsToLiving, LeadsWithoutGone};
 ghost use Rattle.engine_instructions.specs.ClosedPeers.{LeavesClosed};
 
 use crate::calls::call_from_program;
@@ -54,6 +54,7 @@ pub fn execute(
     instruction: &Instruction,
 ) -> Result<(), AllocError>
     requires able { Able (left engine.now.counted (instruction_step definition.now (world_of engine.now.world) (agenda_of definition.now engine.now) (frame_view frame) (instruction_view instruction.now))) }
+    requires names { LeadsToLiving (left engine.now.counted (instruction_step definition.now (world_of engine.now.world) (agenda_of definition.now engine.now) (frame_view frame) (instruction_view instruction.now))) }
     requires program { program_at definition.now (frame_view frame).program ≡ Some (program_view program.now) }
     requires known { HasKnownKinds definition.now.types instruction.now }
     requires result { IfSome program.now.result (IsKnown definition.now.types) }
@@ -126,6 +127,7 @@ fn execute_on_properties(
     instruction: &PropertyInstruction,
 ) -> Result<(), AllocError>
     requires able { Able (left engine.now.counted (instruction_step definition.now (world_of engine.now.world) (agenda_of definition.now engine.now) (frame_view frame) (property_instruction_view instruction.now))) }
+    requires names { LeadsToLiving (left engine.now.counted (instruction_step definition.now (world_of engine.now.world) (agenda_of definition.now engine.now) (frame_view frame) (property_instruction_view instruction.now))) }
     requires counted { Counts definition.now (λ o. in_frame o (frame_view frame)) engine.now }
     ensures step { Leads result
         (left engine.old.counted (instruction_step definition.now (world_of engine.old.world) (agenda_of definition.now engine.old) (frame_view frame) (property_instruction_view instruction.now)))
@@ -160,6 +162,7 @@ fn execute_on_objects(
     instruction: &ObjectInstruction,
 ) -> Result<(), AllocError>
     requires able { Able (left engine.now.counted (instruction_step definition.now (world_of engine.now.world) (agenda_of definition.now engine.now) (frame_view frame) (object_instruction_view instruction.now))) }
+    requires names { LeadsToLiving (left engine.now.counted (instruction_step definition.now (world_of engine.now.world) (agenda_of definition.now engine.now) (frame_view frame) (object_instruction_view instruction.now))) }
     requires counted { Counts definition.now (λ o. in_frame o (frame_view frame)) engine.now }
     ensures step { LeadsWithoutGone result
         (left engine.old.counted (instruction_step definition.now (world_of engine.old.world) (agenda_of definition.now engine.old) (frame_view frame) (object_instruction_view instruction.now)))
@@ -190,6 +193,7 @@ fn execute_on_signals(
     instruction: &SignalInstruction,
 ) -> Result<(), AllocError>
     requires able { Able (left engine.now.counted (instruction_step definition.now (world_of engine.now.world) (agenda_of definition.now engine.now) (frame_view frame) (signal_instruction_view instruction.now))) }
+    requires names { LeadsToLiving (left engine.now.counted (instruction_step definition.now (world_of engine.now.world) (agenda_of definition.now engine.now) (frame_view frame) (signal_instruction_view instruction.now))) }
     requires counted { Counts definition.now (λ o. in_frame o (frame_view frame)) engine.now }
     ensures step { LeadsWithoutGone result
         (left engine.old.counted (instruction_step definition.now (world_of engine.old.world) (agenda_of definition.now engine.old) (frame_view frame) (signal_instruction_view instruction.now)))

@@ -13,7 +13,7 @@ ghost use Rattle.frames.specs.FrameView.{frame_view};
 ghost use Rattle.instance_tables.specs.Family.{parent_in};
 ghost use Rattle.instance_tables.specs.Weak.{Knows};
 ghost use Rattle.machine_laws.specs.GoneLaws.{pruned};
-ghost use Rattle.engine_world.specs.Able.{Able, Leads, LeadsWithoutGone};
+ghost use Rattle.engine_world.specs.Able.{Able, Leads, LeadsToLiving, LeadsWithoutGone};
 ghost use Rattle.engine_world.specs.Quiet.{IsQuiet};
 ghost use Rattle.engine_world.specs.View.{world_of};
 ghost use Rattle.engine_world.specs.TaskView.{agenda_of};
@@ -49,6 +49,7 @@ pub(crate) fn look_up_object(
     id: &str,
 ) -> Result<(), AllocError>
     requires able { Able (left engine.now.counted (in_front (agenda_of definition.now engine.now) (look_up_object definition.now (world_of engine.now.world) (frame_view frame) to.0 id.now))) }
+    requires names { LeadsToLiving (left engine.now.counted (in_front (agenda_of definition.now engine.now) (look_up_object definition.now (world_of engine.now.world) (frame_view frame) to.0 id.now))) }
     requires counted { Counts definition.now (λ o. in_frame o (frame_view frame)) engine.now }
     ensures step { Leads result
         (left engine.old.counted (in_front (agenda_of definition.now engine.old) (look_up_object definition.now (world_of engine.old.world) (frame_view frame) to.0 id.now)))

@@ -8,12 +8,12 @@ ghost use Rattle.ui_machine.specs.Rules.Sets.{raising};
 ghost use Rattle.ui_machine.specs.Steps.{left, uncounted};
 ghost use Rattle.g_values.specs.View.{value_view};
 ghost use Rattle.frames.specs.FrameView.{frame_view};
-ghost use Rattle.engine_world.specs.Able.{Able, Leads};
+ghost use Rattle.engine_world.specs.Able.{Able, Leads, LeadsToLiving};
 ghost use Rattle.engine_world.specs.Quiet.{IsQuiet};
 ghost use Rattle.engine_world.specs.View.{world_of};
 ghost use Rattle.engine_instructions.specs.PropertyView.{readable_value};
 ghost use Rattle.engine_world.specs.TaskView.{agenda_of};
-ghost use Rattle.engine_world.specs.Counting.{Counts, KeepsCounts, in_frame, nothing};
+ghost use Rattle.engine_world.specs.Counting.{Counts, IsCounted, KeepsCounts, in_frame, nothing};
 ghost use Rattle.engine_world.specs.EngineView.{config_of};
 
 use crate::operands::object_in;
@@ -77,6 +77,7 @@ pub(crate) fn get_property(
     property: &str,
 ) -> Result<(), AllocError>
     requires able { Able (left engine.now.counted (in_front (agenda_of definition.now engine.now) (get_property definition.now (world_of engine.now.world) (frame_view frame) to.0 object.0 property.now))) }
+    requires names { LeadsToLiving (left engine.now.counted (in_front (agenda_of definition.now engine.now) (get_property definition.now (world_of engine.now.world) (frame_view frame) to.0 object.0 property.now))) }
     requires counted { Counts definition.now (λ o. in_frame o (frame_view frame)) engine.now }
     ensures step { Leads result
         (left engine.old.counted (in_front (agenda_of definition.now engine.old) (get_property definition.now (world_of engine.old.world) (frame_view frame) to.0 object.0 property.now)))
@@ -130,6 +131,7 @@ fn raise(
     slot: Slot,
 ) -> Result<(), AllocError>
     requires able { Able (uncounted (agenda_of definition.now engine.now) engine.now.counted (raising (world_of engine.now.world) object.0 slot)) }
+    requires counted { IsCounted definition.now engine.now }
     ensures step { Leads result
         (uncounted (agenda_of definition.now engine.old) engine.old.counted (raising (world_of engine.old.world) object.0 slot))
         (config_of definition.now engine.new) }

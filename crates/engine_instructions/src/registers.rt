@@ -1,15 +1,16 @@
 //! Instructions that touch registers alone.
 
-ghost use Rattle.std.specs.Prelude.{Some, option_map, OnOk, OnErr};
+ghost use Rattle.std.specs.Prelude.{Some, option_map, IfSome, OnOk, OnErr};
 ghost use Rattle.ui_machine.specs.Instructions.{in_front, instruction_step};
 ghost use Rattle.ui_machine.specs.Instructions.Registers.{written_to};
 ghost use Rattle.ui_machine.specs.Output.Lines as lines;
 ghost use Rattle.ui_machine.specs.State.Config.{said};
 ghost use Rattle.ui_machine.specs.Steps.{left};
+ghost use Rattle.law_typing.specs.Good.Living.{NamesLiving};
 ghost use Rattle.g_values.specs.View.{value_view};
 ghost use Rattle.bytecode.specs.Computing.{HasKnownKind, instruction_of};
 ghost use Rattle.frames.specs.FrameView.{frame_view};
-ghost use Rattle.engine_world.specs.Able.{Able, Leads};
+ghost use Rattle.engine_world.specs.Able.{Able, Leads, LeadsToLiving};
 ghost use Rattle.engine_world.specs.Quiet.{IsQuiet};
 ghost use Rattle.engine_world.specs.View.{world_of};
 ghost use Rattle.engine_world.specs.TaskView.{agenda_of};
@@ -21,6 +22,7 @@ use definitions::Definition;
 use engine_world::children::say_limit;
 use engine_world::engine::Engine;
 use engine_world::program_frames::{push_frame, put};
+use engine_world::references::never_full;
 use frames::{Frame, compute};
 use g_values::Value;
 use std::alloc::AllocError;
@@ -35,6 +37,7 @@ pub(crate) fn write_register(
     value: Option<Value>,
 ) -> Result<(), AllocError>
     requires able { Able (left engine.now.counted (in_front (agenda_of definition.now engine.now) (written_to (world_of engine.now.world) to.0 (option_map value_view value) (frame_view frame)))) }
+    requires names { IfSome (option_map value_view value) (NamesLiving (world_of engine.now.world)) }
     requires counted { Counts definition.now (λ o. in_frame o (frame_view frame)) engine.now }
     ensures step { Leads result
         (left engine.old.counted (in_front (agenda_of definition.now engine.old) (written_to (world_of engine.old.world) to.0 (option_map value_view value) (frame_view frame))))
@@ -42,9 +45,10 @@ pub(crate) fn write_register(
     ensures quiet { OnErr result (IsQuiet (world_of engine.old.world) (world_of engine.new.world)) }
     ensures counted { OnOk result (Counts definition.now nothing engine.new) }
 {
-    // For the proof: the clauses speak of the definition.
+    // For the proof: the clauses speak of the definition, and what lives may be held once more.
     let _ = definition;
-    put(&mut engine.world.table, &mut frame, to, value)?;
+    never_full(engine);
+    put(&mut engine.world.table, &mut frame, to, value);
     push_frame(engine, frame)?;
     Ok(())
 }
@@ -60,6 +64,7 @@ pub(crate) fn write_null_and_say_limit(
 ) -> Result<(), AllocError>
     requires able { Able (left engine.now.counted (in_front (agenda_of definition.now engine.now)
         (written_to (said definition.now (world_of engine.now.world) (lines.limit word.now)) to.0 (Some (value_view value)) (frame_view frame)))) }
+    requires names { NamesLiving (world_of engine.now.world) (value_view value) }
     requires counted { Counts definition.now (λ o. in_frame o (frame_view frame)) engine.now }
     ensures step { Leads result
         (left engine.old.counted (in_front (agenda_of definition.now engine.old)
@@ -68,7 +73,9 @@ pub(crate) fn write_null_and_say_limit(
     ensures quiet { OnErr result (IsQuiet (world_of engine.old.world) (world_of engine.new.world)) }
     ensures counted { OnOk result (Counts definition.now nothing engine.new) }
 {
-    put(&mut engine.world.table, &mut frame, to, Some(value))?;
+    // For the proof: what lives may be held once more.
+    never_full(engine);
+    put(&mut engine.world.table, &mut frame, to, Some(value));
     push_frame(engine, frame)?;
     say_limit(engine, definition, word)?;
     Ok(())
@@ -83,6 +90,7 @@ pub(crate) fn compute_register(
     computation: &Computation,
 ) -> Result<(), AllocError>
     requires able { Able (left engine.now.counted (instruction_step definition.now (world_of engine.now.world) (agenda_of definition.now engine.now) (frame_view frame) (instruction_of computation.now to.0))) }
+    requires names { LeadsToLiving (left engine.now.counted (instruction_step definition.now (world_of engine.now.world) (agenda_of definition.now engine.now) (frame_view frame) (instruction_of computation.now to.0))) }
     requires known { HasKnownKind definition.now.types computation.now }
     requires counted { Counts definition.now (λ o. in_frame o (frame_view frame)) engine.now }
     ensures step { Leads result

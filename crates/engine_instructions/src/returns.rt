@@ -19,7 +19,7 @@ use crate::properties::value_in;
 use bytecode::{Program, Register};
 use definitions::Definition;
 use engine_world::engine::Engine;
-use engine_world::references::let_go_registers;
+use engine_world::references::{let_go_registers, never_full};
 use frames::Frame;
 use g_values::Value;
 use std::alloc::AllocError;
@@ -53,6 +53,8 @@ pub(crate) fn return_from_program(
     ensures quiet { OnErr result (IsQuiet (world_of engine.old.world) (world_of engine.new.world)) }
     ensures counted { OnOk result (Counts definition.now nothing engine.new) }
 {
+    // For the proof: what the registers name lives, and may be held once more.
+    never_full(engine);
     let given = given_by(&frame, from)?;
     give_down(engine, definition, given)?;
     let_go_registers(&mut engine.world.table, frame.registers.as_slice());

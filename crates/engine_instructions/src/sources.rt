@@ -22,6 +22,7 @@ use bytecode::Register;
 use definitions::Definition;
 use engine_world::engine::Engine;
 use engine_world::program_frames::push_frame;
+use engine_world::references::never_full;
 use engine_world::sources::{NewSource, attach_source, remove_sources};
 use frames::Frame;
 use g_values::Value;
@@ -43,7 +44,8 @@ pub(crate) struct Attach<'a> {
 impl Attach<'_> {
     // The source that it asks for, which runs a program and has this data.
     fn source(self, program: ProgramId, arg: Option<ObjectId>) -> NewSource
-        ensures { (w : World) → with_new_source w result ≡ with_source w (attach_of self.entry) program (id_of arg) }
+        ensures attached { (w : World) → with_new_source w result ≡ with_source w (attach_of self.entry) program (id_of arg) }
+        ensures arg { result.arg ≡ arg }
     {
         NewSource {
             program,
@@ -73,6 +75,8 @@ pub(crate) fn attach_from_program(
     let program = program_named(definition, attach.program);
     let arg = data_in(engine, &frame, attach.with);
     let source = attach.source(program, arg);
+    // For the proof: what lives may be held once more.
+    never_full(engine);
     if attach_source(engine, source)? {
         return write_register(engine, definition, frame, to, Some(Value::Bool(true)));
     }

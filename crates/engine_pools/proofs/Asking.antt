@@ -5,6 +5,7 @@ use Rattle.std.proofs.lemmas.Bool.Decides.{nat_tests}
 use Rattle.ui_machine.specs.declared.arm.Arm.{Arm}
 use Rattle.ui_machine.specs.Definition.{Definition}
 use Rattle.ui_machine.specs.Definition.Values.{Value}
+use Rattle.ui_machine.specs.Outcome.{Answer}
 use Rattle.ui_machine.specs.Runs.{Reaches, Step}
 use Rattle.ui_machine.specs.Seq.{read, write}
 use Rattle.ui_machine.specs.State.Config.{Config, World}
@@ -17,6 +18,7 @@ use Rattle.law_peers.specs.PeerLaws.{peer_in, replied_in, shut}
 use Rattle.law_peers.proofs.ForgettingProofs.{step_forgets}
 use Rattle.law_peers.proofs.RunLives.{reaches_lives}
 use Rattle.machine_laws.specs.GoneLaws.{Gone, is_next, pruned, pruned_at}
+use Rattle.engine_world.specs.Able.{LeadsToLiving}
 use Rattle.engine_world.specs.Quiet.{IsQuiet, holders}
 use Rattle.engine_world.specs.Standing.{gone_handlers, without_gone}
 use Rattle.native_peers.specs.Seen.{Relations, Seen}
@@ -25,6 +27,7 @@ use Rattle.engine_pools.specs.PoolView.{GivenBy, Knows, Takes, one_more, seen_of
 use Rattle.engine_pools.specs.Safety.{ComesOfSafe, IsApt, NoneUnheld}
 use Rattle.engine_pools.proofs.Lifting.{lift_step}
 use Rattle.engine_pools.proofs.Living.{map_read, no_seen, one_replies, read_at, read_set, read_unset, seen_at, shut_seen}
+use Rattle.engine_pools.proofs.Named.{names_alike}
 use Rattle.engine_pools.proofs.Points.{held_there, left_as, seen_by}
 use Rattle.engine_pools.proofs.Reaching.{reaches_here}
 use Rattle.engine_pools.proofs.Standing.{IsApart, comes_by, steps_so, stuck, unheld_so}
@@ -133,6 +136,20 @@ module _ (d : Definition) (may : Relations) (p : Point) (call : Call) (rest : Li
 
   reaches_replied : (c e : Config) → Step d (Some reply) c e → Reaches d (reply ∷ []) c e
   reaches_replied c e s = record { count = suc zero; steps = record { reply = Some reply; later = []; mid = e; replied = refl; step = s; follows = (refl, refl) } }
+
+  -- and what it leaves names what lives
+  pub asked_names : ComesOfSafe d p → GivenBy may reply → LeadsToLiving (act d p.view.world (Some (forgotten_reply reply)) p.view.agenda p.view.counted)
+  asked_names safe given = by (act d p.view.world (Some (forgotten_reply reply)) p.view.agenda p.view.counted) refl
+    where
+      by : (a : Answer Config) → act d p.view.world (Some (forgotten_reply reply)) p.view.agenda p.view.counted ≡ a → LeadsToLiving a
+      by (Err arm) is = tt
+      by (Ok x) is =
+          let c = safe.at in
+          let here = safe.stands in
+          let to = comes_by d p.view (forgotten_at c) here.view (Some (forgotten_reply reply)) x (apart c here) (steps (Some (forgotten_reply reply)) ∙ is) in
+          let y = lift_step d (Some reply) c to.0 to.1 in
+          names_alike y.0 x (ap without_gone y.2 ∙ to.2)
+          (safe.safe.names (reply ∷ []) (given.fits d, tt) y.0 (reaches_replied c y.0 (record { asks = asks_there c here; leads = y.1 }))).tasks
 
   seen_after : (ps : List Peer) → map seen_of ps ≡ p.pool → (pool : List Seen) → map shut_seen pool ≡ map shut_seen (slice_set p.pool call.peer new_seen) → (k : ℕ)
       → cond (nat_eq call.peer k) (record { name = (peer_in ps k).name; state = shut after }) (shut_seen (seen_of (peer_in ps k))) ≡ shut_seen (read no_seen pool k)

@@ -1,5 +1,5 @@
 -- The step of a due call whose peer is open: how the machine follows it.
-use Rattle.std.proofs.Common.{◌≡◌, refl, ap, sym, ◌∙◌, true, List, ◌∷◌, map, Option, None, Some, Ok, Err}
+use Rattle.std.proofs.Common.{◌≡◌, refl, ap, sym, subst, ◌∙◌, true, List, ◌∷◌, map, Option, None, Some, Ok, Err}
 use Rattle.ui_machine.specs.declared.arm.Arm.{Arm}
 use Rattle.ui_machine.specs.Definition.{Definition}
 use Rattle.ui_machine.specs.Definition.Values.{Value}
@@ -10,12 +10,13 @@ use Rattle.ui_machine.specs.State.Tasks.{Call, Calling, Task}
 use Rattle.ui_machine.specs.Steps.{act, left}
 use Rattle.law_peers.specs.Forgetting.{forgotten_reply}
 use Rattle.native_peers.specs.Seen.{Asks, Relations, Seen}
+use Rattle.engine_world.specs.Able.{LeadsToLiving}
 use Rattle.engine_world.specs.Quiet.{IsQuiet}
 use Rattle.engine_world.specs.Standing.{without_gone}
 use Rattle.engine_pools.specs.Following.{Breaks, Follows, Point}
 use Rattle.engine_pools.specs.PoolView.{IsAskable, Knows, with_seen}
 use Rattle.engine_pools.specs.Safety.{ComesOfSafe, NoneUnheld}
-use Rattle.engine_pools.proofs.Asking.{asked_acts, asked_aptly, breaks_asked, follows_asked, open_there}
+use Rattle.engine_pools.proofs.Asking.{asked_acts, asked_aptly, asked_names, breaks_asked, follows_asked, open_there}
 use Rattle.engine_pools.proofs.Closings.{asked_step_stays}
 use Rattle.engine_pools.proofs.FirstCalls.{may_be_asked, reply_known}
 use Rattle.engine_pools.proofs.Known.{known_still, opens_alike}
@@ -72,6 +73,11 @@ module _ (d : Definition) (may : Relations) (p : Point) (call : Call) (rest : Li
     pub call_breaks : (w : World) → IsQuiet p.view.world w → Breaks d may p (with_seen new w.peers) w.transcript
     call_breaks w quiet =
         breaks_asked d may p call rest asked.peer answer asked.after none first asked.at is_open (given call.peer p.pool new may call.method call.args answer asked) new w asked.new_state quiet
+
+    pub call_names : LeadsToLiving (left p.view.counted (calling_on d p.view.world call rest (Some known_reply)))
+    call_names =
+        subst LeadsToLiving acts
+        (asked_names d may p call rest asked.peer answer asked.after none first asked.at is_open safe (given call.peer p.pool new may call.method call.args answer asked))
 
     pub call_can : (arm : Arm) → left p.view.counted (calling_on d p.view.world call rest (Some known_reply)) ≡ Err arm → ⊥
     call_can arm is =

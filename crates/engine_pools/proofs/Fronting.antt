@@ -1,5 +1,5 @@
 -- Lines that are no longer kept make no difference to where the machine is, nor to where it comes to.
-use Rattle.std.proofs.Common.{◌≡◌, ap, sym, ◌∙◌, subst, ℕ, List, ◌++◌, ◌∷◌, [], Option, None, Some, append_assoc}
+use Rattle.std.proofs.Common.{◌≡◌, refl, ap, sym, ◌∙◌, subst, ℕ, List, ◌++◌, ◌∷◌, [], Option, None, Some, append_assoc}
 use Rattle.std.specs.Prelude.{IfSome}
 use Rattle.ui_machine.specs.Definition.{Definition}
 use Rattle.ui_machine.specs.Output.Lines.{Line}
@@ -11,11 +11,13 @@ use Rattle.ui_machine.specs.Steps.{question}
 use Rattle.machine_laws.specs.FrontLaws.{fronted, fronted_at, mapped}
 use Rattle.machine_laws.proofs.FrontProofs.{question_stays, step_appends}
 use Rattle.machine_laws.proofs.FrontRuns.{steps_append}
+use Rattle.law_typing.specs.Good.Living.{AllNamesLiving}
 use Rattle.native_peers.specs.Seen.{Relations}
 use Rattle.engine_pools.specs.Courses.{fronted_point}
 use Rattle.engine_pools.specs.Following.{Breaks, Follows, Halting, Point, Stands}
 use Rattle.engine_pools.specs.PoolView.{IsLeft, as_shown, one_more}
 use Rattle.engine_pools.specs.Safety.{ComesOfSafe, IsApt, IsSafe}
+use Rattle.engine_pools.proofs.Named.{tasks_elsewhere}
 
 module _ (d : Definition) (front : List (List ℕ)) where
   behind : {replies : List Reply} {c e : Config} → Reaches d replies c e → Reaches d replies (fronted_at front c) (fronted_at front e)
@@ -82,6 +84,21 @@ module _ (d : Definition) (front : List (List ℕ)) where
   apt_kept c None apt = tt
   apt_kept c (Some q) apt = record { there = apt.there; args = apt.args }
 
+  names_kept : (c : Config) → AllNamesLiving d (fronted_at front c) → AllNamesLiving d c
+  names_kept c n = record {
+    world = record {
+      values = n.world.values;
+      children = n.world.children;
+      handlers = n.world.handlers;
+      bindings = n.world.bindings;
+      sources = n.world.sources;
+      builder = n.world.builder;
+      floating = n.world.floating;
+    };
+    tasks = tasks_elsewhere (fronted_at front c).world c.world refl c.agenda n.tasks;
+    room = n.room;
+  }
+
   pub safe_kept : (c : Config) → IsSafe d (fronted_at front c) → IsSafe d c
   safe_kept c s = record {
     most = s.most;
@@ -97,6 +114,7 @@ module _ (d : Definition) (front : List (List ℕ)) where
     asks = λ replies fit at r.
         apt_kept at (question d at)
         (subst (λ (q : Option Question). IfSome q (IsApt d (fronted_at front at))) (question_stays front d at) (s.asks replies fit (fronted_at front at) (behind r)));
+    names = λ replies fit at r. names_kept at (s.names replies fit (fronted_at front at) (behind r));
   }
 
   pub comes_of_safe : (p : Point) (c : Config) → Stands (fronted_point front p) c → IsSafe d c → ComesOfSafe d p

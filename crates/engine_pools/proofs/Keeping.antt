@@ -30,6 +30,7 @@ use Rattle.law_sessions.proofs.DispatchProofs.{both_fit}
 use Rattle.law_sessions.proofs.EntryProofs.{IsPrinted, build_printed, printed_few, request_printed, source_printed}
 use Rattle.law_sessions.proofs.KeepsProofs.{keeps}
 use Rattle.law_sessions.proofs.SessionProofs.{not_released, request_keeps, runs_source, source_keeps, turns}
+use Rattle.law_living.proofs.LivingProofs.{throughout}
 use Rattle.engine_pools.specs.Promises.{BuildKeeps, EventKeeps, Rests, by_request, by_source}
 use Rattle.engine_pools.specs.Safety.{IsSafe}
 use Rattle.engine_pools.proofs.Apt.{asks_on}
@@ -80,6 +81,7 @@ module _ (d : Definition) where
           most = depth (graph d) a.weighed.depths;
           safe = record { unstuck = kept.never_stuck; shallow = kept.shallow };
           asks = asks_on d a (bound_of d a e) steps_keep_good well few c good;
+          names = throughout d well a (bound_of d a e) few c good;
         }
 
     -- ** the build

@@ -1,5 +1,6 @@
 pub mod Reaching
 pub mod Living
+mod Named
 pub mod Lifting
 pub mod Standing
 pub mod Points

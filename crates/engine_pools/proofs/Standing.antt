@@ -25,6 +25,7 @@ use Rattle.machine_laws.specs.GoneLaws.{AreStillGone, Gone, gone_in, is_next, ma
 use Rattle.machine_laws.proofs.GoneProofs.{pruned_again, question_does_without, step_does_without, unheld_as}
 use Rattle.machine_laws.proofs.KeptSteps.{steps_keep_gone}
 use Rattle.signal_core.specs.Laws.{is_passed_over}
+use Rattle.engine_world.specs.Able.{LeadsToLiving}
 use Rattle.engine_world.specs.Standing.{Arrives, Follows, entries_due, gone_handlers, makes_no_transfer, with_first, without_gone}
 use Rattle.law_peers.specs.Forgetting.{forgotten_at}
 use Rattle.law_peers.proofs.ForgettingProofs.{question_forgets, step_forgets}
@@ -33,7 +34,8 @@ use Rattle.engine_pools.specs.Following.{Point}
 use Rattle.engine_pools.specs.Safety.{ComesOfSafe, NoneUnheld}
 use Rattle.engine_world.proofs.Gone.{first_stands, handlers_are_gone, with_first_stays}
 use Rattle.engine_world.proofs.Floats.{bind_ok, if_ok_at}
-use Rattle.engine_pools.proofs.Lifting.{asks_none, leads, lift}
+use Rattle.engine_pools.proofs.Lifting.{asks_none, leads, lift, lift_step}
+use Rattle.engine_pools.proofs.Named.{names_alike}
 use Rattle.engine_pools.proofs.Reaching.{reaches_here, reaches_on, reaches_once}
 
 -- a configuration whose first task is past the turns that are passed over
@@ -235,6 +237,22 @@ module _ (d : Definition) where
         let shows = ap without_gone x.is ∙ first_shows m stands in
         not_stuck (at_first c) x.at shows (safe.safe.safe.unstuck [] tt x.at x.reached) arm
         (λ _. ap (λ (y : Config). is_next (gone_handlers y.world) y.agenda) x.is ∙ first_apart m) (asks_first asks) (acts_first ∙ is)
+
+    -- and what it leaves names what lives
+    pub first_names : (p : Point) → p.view ≡ c → ComesOfSafe d p → asked_first c.world c.agenda ≡ None → LeadsToLiving (act d c.world None (with_first c.world c.agenda) c.counted)
+    first_names p here safe asks = by (act d c.world None (with_first c.world c.agenda) c.counted) refl
+      where
+        by : (a : Answer Config) → act d c.world None (with_first c.world c.agenda) c.counted ≡ a → LeadsToLiving a
+        by (Err arm) is = tt
+        by (Ok x) is =
+            let m = forgotten_at safe.at in
+            let first = lift d safe.at (at_first m) (first_on m (safe.stands.view ∙ here)) in
+            let shows = ap without_gone first.is ∙ first_shows m (safe.stands.view ∙ here) in
+            let to = comes_by (at_first c) (forgotten_at first.at) shows None x (λ _. ap (λ (y : Config). is_next (gone_handlers y.world) y.agenda) first.is ∙ first_apart m) (acts_first ∙ is) in
+            let next = lift_step d None first.at to.0 to.1 in
+            let none_asked = asks_none (question d first.at) (sym (question_forgets d first.at) ∙ asks_so (at_first c) (forgotten_at first.at) shows ∙ asks_first asks) in
+            names_alike next.0 x (ap without_gone next.2 ∙ to.2)
+            (safe.safe.names [] tt next.0 (reaches_on d first.reached (reaches_once d (record { asks = none_asked; leads = next.1 })))).tasks
 
   -- where an object is finalised nothing else is done
   module _ (c : Config) (id : ℕ) (unheld : next_unheld (mentions d c) c.world.objects ≡ Some id) where

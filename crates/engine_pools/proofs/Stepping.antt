@@ -17,12 +17,13 @@ use Rattle.engine_world.specs.declared.task.Stack.{Stack}
 use Rattle.engine_world.specs.declared.engine.StepKind.{StepKind}
 use Rattle.engine_world.specs.declared.engine.StepKind.TheVariants as mades
 use Rattle.engine_world.specs.TaskView.{task_of, tasks_of}
+use Rattle.engine_world.specs.Able.{LeadsToLiving}
 use Rattle.engine_world.specs.EngineView.{IsOfKind}
 use Rattle.ui_machine.specs.Prefix.{IsPrefix}
 use Rattle.engine_world.specs.Standing.{Follows, GoesWithoutGone, gone_handlers, past_turns, with_first, without_gone}
 use Rattle.engine_pools.specs.QuietSteps.{IsSafeView, QuietlyStepped}
 use Rattle.engine_pools.specs.Safety.{NoneUnheld}
-use Rattle.engine_pools.proofs.Standing.{first_acts, first_follows, last_acts, last_follows}
+use Rattle.engine_pools.proofs.Standing.{first_acts, first_follows, first_names, last_acts, last_follows}
 use Rattle.engine_world.proofs.Floats.{if_ok_at, first_gone}
 use Rattle.engine_pools.proofs.Acts.{Passes, acted}
 
@@ -98,6 +99,10 @@ module _ (d : Definition) (hs : List Handler) (c e : Config) (none : NoneUnheld 
   -- it is not stuck
   pub first_can : IsSafeView d c → (arm : Arm) → act d c.world None (past_turns c.world (task_of d hs task) ∷ tasks_of d hs s) c.counted ≡ Err arm → ⊥
   first_can safe arm is = first_acts d c none (record { pool = safe.pool; view = c }) refl safe.safe arm asks (acts ∙ is)
+
+  -- and what it leaves names what lives
+  pub first_names_so : IsSafeView d c → LeadsToLiving (act d c.world None (past_turns c.world (task_of d hs task) ∷ tasks_of d hs s) c.counted)
+  first_names_so safe = subst LeadsToLiving acts (first_names d c none (record { pool = safe.pool; view = c }) refl safe.safe asks)
 
 -- the step that finalises an object
 module _ (d : Definition) (c : Config) (id : ℕ) (unheld : next_unheld (mentions d c) c.world.objects ≡ Some id) where

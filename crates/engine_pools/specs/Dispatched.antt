@@ -1,15 +1,18 @@
 -- How an engine is between two dispatches, and what a dispatch comes to.
-use Rattle.std.specs.Prelude.{◌≡◌, [], option_map, Result, Ok, Err}
+use Rattle.std.specs.Prelude.{◌≡◌, ℕ, List, [], option_map, Result, Ok, Err}
 use Rattle.std.specs.declared.alloc.AllocError.{AllocError}
 use Rattle.ui_machine.specs.Definition.{Definition}
 use Rattle.ui_machine.specs.Runs.{Dispatches}
 use Rattle.ui_machine.specs.Output.Lines as lines
 use Rattle.ui_machine.specs.State.Config.{Config, World, said}
+use Rattle.ui_machine.specs.State.Handlers.{Handler}
+use Rattle.ui_machine.specs.State.References.{in_task}
 use Rattle.g_values.specs.View.{value_view}
 use Rattle.native_peers.specs.Seen.{Relations}
 use Rattle.engine_world.specs.Counting.{Counts, nothing}
-use Rattle.engine_world.specs.TaskView.{agenda_of}
+use Rattle.engine_world.specs.TaskView.{agenda_of, task_of}
 use Rattle.engine_world.specs.declared.engine.Engine.{Engine}
+use Rattle.engine_world.specs.declared.task.Task as code
 use Rattle.engine_pools.specs.declared.dispatches.Reply.{Reply}
 use Rattle.engine_pools.specs.Following.{Halting}
 use Rattle.engine_pools.specs.PoolView.{Replied}
@@ -18,6 +21,10 @@ use Rattle.engine_pools.specs.PoolView.{Replied}
 pub record IsAtRest (d : Definition) (e : Engine) : Type 0 where
   pub counts : Counts d nothing e
   pub idle : agenda_of d e ≡ []
+
+-- a task that holds nothing
+abbrev pub HoldsNothing : code.Task → Type 0
+HoldsNothing t = (d : Definition) (hs : List Handler) (o : ℕ) → in_task o (task_of d hs t) ≡ 0
 
 -- a dispatch that ends there says its last line, and answers this
 pub record EndsBy (reply : Reply) (d : Definition) (c : Config) (new : World) : Type 0 where

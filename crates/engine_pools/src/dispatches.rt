@@ -14,7 +14,7 @@ ghost use Rattle.native_peers.specs.Pool.{entries, relations, seen};
 ghost use Rattle.native_peers.specs.Seen.{SameRelations};
 ghost use Rattle.engine_world.specs.Counting.{KeepsCounts};
 ghost use Rattle.engine_pools.specs.Courses.{nothing_yet};
-ghost use Rattle.engine_pools.specs.Dispatched.{Carried, EndsBy, IsAtRest};
+ghost use Rattle.engine_pools.specs.Dispatched.{Carried, EndsBy, HoldsNothing, IsAtRest};
 ghost use Rattle.engine_pools.specs.PoolView.{Knows, world_at};
 ghost use Rattle.engine_pools.specs.Safety.{IsSafe};
 
@@ -63,6 +63,7 @@ pub fn begin_dispatch(
     task: Task,
 ) -> Result<(), AllocError>
     requires idle { agenda_of definition.now engine.now ≡ [] }
+    requires plain { HoldsNothing task }
     requires begun { TakesKnownHandlers engine.now.world.handlers.last task }
     ensures counted { OnOk result (KeepsCounts definition.now engine.old engine.new) }
     ensures ok { OnOk result (config_of definition.now engine.new ≡ beginning (world_of engine.old.world) (task_in definition.now engine.old task)) }
@@ -89,6 +90,7 @@ pub fn dispatch(
     task: Task,
 ) -> Result<Reply, AllocError>
     requires rests { IsAtRest definition.now engine.now }
+    requires plain { HoldsNothing task }
     requires begun { TakesKnownHandlers engine.now.world.handlers.last task }
     requires knows { Knows (world_of engine.now.world) (seen (λ p. (⟦<dyn Peer as Peer>⟧ p.peer.vtable).state p.peer.value) (entries pool.now)) }
     requires safe { IsSafe definition.now (beginning (world_at (seen (λ p. (⟦<dyn Peer as Peer>⟧ p.peer.vtable).state p.peer.value) (entries pool.now)) (world_of engine.now.world)) (task_in definition.now engine.now task)) }

@@ -10,7 +10,7 @@ ghost use Rattle.engine_world.specs.View.{world_of};
 ghost use Rattle.engine_world.specs.TaskView.{agenda_of};
 ghost use Rattle.engine_world.specs.Counting.{Counts, in_frame, nothing};
 ghost use Rattle.engine_world.specs.EngineView.{config_of};
-ghost use Rattle.engine_world.specs.Able.{Able, LeadsWithoutGone};
+ghost use Rattle.engine_world.specs.Able.{Able, LeadsToLiving, LeadsWithoutGone};
 ghost use Rattle.engine_pools.specs.TaskClosings.{ProgramLeaves};
 
 use definitions::Definition;
@@ -31,6 +31,7 @@ pub(crate) fn run_program(
     mut frame: Frame,
 ) -> Result<(), AllocError>
     requires able { Able (counted_left engine.now.counted (running definition.now (world_of engine.now.world) (agenda_of definition.now engine.now) (frame_view frame))) }
+    requires names { LeadsToLiving (counted_left engine.now.counted (running definition.now (world_of engine.now.world) (agenda_of definition.now engine.now) (frame_view frame))) }
     requires counted { Counts definition.now (λ o. in_frame o (frame_view frame)) engine.now }
     ensures step { LeadsWithoutGone result
         (counted_left engine.old.counted (running definition.now (world_of engine.old.world) (agenda_of definition.now engine.old) (frame_view frame)))

@@ -9,7 +9,7 @@ ghost use Rattle.engine_world.specs.View.{world_of};
 ghost use Rattle.engine_world.specs.TaskView.{task_in, agenda_of};
 ghost use Rattle.engine_world.specs.Counting.{Counts, in_subject};
 ghost use Rattle.engine_world.specs.EngineView.{config_of, IsOfKind};
-ghost use Rattle.engine_world.specs.Able.{Able, LeadsWithoutGone};
+ghost use Rattle.engine_world.specs.Able.{Able, LeadsToLiving, LeadsWithoutGone};
 ghost use Rattle.engine_world.specs.Standing.{past_turns};
 ghost use Rattle.engine_pools.specs.TaskClosings.{TaskLeaves};
 
@@ -27,6 +27,7 @@ use engine_tasks::signals::connect_from_build;
 use engine_tasks::sources::run_source;
 use engine_tasks::transfers::{transfer, unset};
 use engine_world::engine::{Engine, StepKind};
+use engine_world::references::never_full;
 use engine_world::task::Task;
 use std::alloc::AllocError;
 
@@ -44,6 +45,9 @@ pub(crate) fn act(
     requires able { Able
         (act definition.now (world_of engine.now.world) None
         (past_turns (world_of engine.now.world) (task_in definition.now engine.now task) ∷ agenda_of definition.now engine.now) engine.now.counted) }
+    requires names { LeadsToLiving
+        (act definition.now (world_of engine.now.world) None
+        (past_turns (world_of engine.now.world) (task_in definition.now engine.now task) ∷ agenda_of definition.now engine.now) engine.now.counted) }
     requires begun { TakesKnownHandlers engine.now.world.handlers.last task }
     requires counted { Counts definition.now (λ o. in_task o (task_in definition.now engine.now task)) engine.now }
     ensures step { LeadsWithoutGone result
@@ -55,6 +59,8 @@ pub(crate) fn act(
     ensures closing { OnOk result (TaskLeaves definition.now (world_of engine.old.world) (task_in definition.now engine.old task) engine.old.closing engine.new.closing) }
     ensures made { IfOk result (λ made. IsOfKind made (task_in definition.now engine.old task)) }
 {
+    // For the proof: what a task holds lives.
+    never_full(engine);
     match task {
         Task::Setting {
             object,

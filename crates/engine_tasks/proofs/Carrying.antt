@@ -1,18 +1,21 @@
 -- What a transfer of a binding leads to, by the value that it carries.
-use Rattle.std.proofs.Common.{◌≡◌, ◌∙◌, refl, ap, ℕ, Bool, true, false, not, Option, None, Some, option_map, Ok}
+use Rattle.std.proofs.Common.{◌≡◌, ◌∙◌, refl, ap, ℕ, Bool, true, false, not, Option, None, Some, IsSome, option_map, Ok}
 use Rattle.ui_machine.specs.declared.arm.Arm.TheVariants as arms
 use Rattle.ui_machine.specs.Definition.{Definition}
 use Rattle.ui_machine.specs.Definition.Properties.{is_construct_only, is_readable, is_writable}
 use Rattle.ui_machine.specs.Definition.Values.{Value}
-use Rattle.ui_machine.specs.Outcome.{Answer, only_if, ◌>>=◌}
+use Rattle.ui_machine.specs.Definition.Lookups.{spec_of}
+use Rattle.ui_machine.specs.Outcome.{Answer, known, only_if, ◌>>=◌}
 use Rattle.ui_machine.specs.Rules.Sets.{spec_at}
 use Rattle.ui_machine.specs.Rules.Transform.{transformed}
 use Rattle.ui_machine.specs.Rules.Transfers.{End, carried, carried_by, inverted, set_by, transferring}
 use Rattle.ui_machine.specs.State.Bindings.{Binding, binding_of}
 use Rattle.ui_machine.specs.State.Config.{World}
-use Rattle.ui_machine.specs.State.Objects.{asked, value_at}
+use Rattle.ui_machine.specs.State.Objects.{Object, Objects, asked, living, value_at}
 use Rattle.bindings.specs.Made.{back, forth, transfer_by}
 use Rattle.bindings.specs.declared.binding.Transfer.{Transfer}
+use Rattle.engine_world.specs.Able.{Able}
+use Rattle.engine_world.proofs.Ableness.{first, leads_on, past}
 use Rattle.engine_world.proofs.Signals.{bind_same}
 use Rattle.engine_tasks.specs.TransferSteps.{carried_value, to_end}
 
@@ -23,6 +26,21 @@ tested false writable only v set = refl
 tested true false only v set = refl
 tested true true true v set = refl
 tested true true false v set = refl
+
+-- an object lives whose property has a spec
+spec_lives : (d : Definition) (os : Objects) (id slot : ℕ) → Able (spec_at d os id slot) → IsSome (living os id)
+unfolding spec_at
+spec_lives d os id slot able = by (living os id) able
+  where
+    by : (o : Option Object) → Able (known arms.Operand o >>= λ (x : Object). known arms.Code (spec_of d x.class slot)) → IsSome o
+    by None able = absurd able
+    by (Some x) able = refl
+
+-- a transfer's target lives
+pub target_lives : (d : Definition) (w : World) (t : Transfer) → Able (carried_value d w t) → IsSome (living w.objects t.target.0)
+target_lives d w t able =
+    let from = leads_on (spec_at d w.objects t.source.0 t.source_slot) (first _ _ able) in
+    spec_lives d w.objects t.target.0 t.target_slot (first _ _ (past (spec_at d w.objects t.source.0 t.source_slot) _ from.0 from.1 able))
 
 module _ (d : Definition) (w : World) (b : Binding) where
   -- the tests and the value come first, and then the set

@@ -8,6 +8,7 @@ mod Binding
 mod Carrying
 mod Sourcing
 mod CallSteps
+mod Holding
 mod Settable
 mod Asking
 mod WrittenValues

@@ -1,6 +1,6 @@
 //! The bindings of the definition: they are made once all objects are there (GTK manual, GtkBuilder: the attribute `bind-source`).
 
-ghost use Rattle.std.specs.Prelude.{◌≡◌, ◌||◌, ◌++◌, ℕ, Ok, false, option_map, string_bytes, IfOk, OnOk, OnErr};
+ghost use Rattle.std.specs.Prelude.{◌≡◌, ◌<◌, ◌||◌, ◌++◌, ℕ, Ok, false, option_map, string_bytes, IfOk, OnOk, OnErr};
 ghost use Rattle.ui_machine.specs.Definition as machine;
 ghost use Rattle.ui_machine.specs.Rules.Build.{building, first_transfer, new_binding, with_binding};
 ghost use Rattle.ui_machine.specs.Rules.Sets.{is_disposed};
@@ -17,7 +17,7 @@ ghost use Rattle.engine_world.specs.View.{world_of};
 ghost use Rattle.engine_tasks.specs.BindView.{ends_at, ends_of};
 
 use crate::signals::connect_from_build;
-use bindings::{Binding, BindingFlags};
+use bindings::{BindError, Binding, BindingFlags};
 use bitflags::Flags;
 use definition_format::Bind;
 use definitions::Definition;
@@ -107,6 +107,7 @@ fn bind(
     bind: &Bind,
     ends: Ends,
 ) -> Result<(), AllocError>
+    requires few { number < usize.MAX }
     ensures world { OnOk result (world_of engine.new.world ≡ with_binding (world_of engine.old.world) (new_binding number (bind_view bind.now) ends.source.0 ends.target.0)) }
     ensures quiet { IsQuiet (world_of engine.old.world) (world_of engine.new.world) }
     ensures same { (engine.new.stack ≡ engine.old.stack) × (engine.new.counted ≡ engine.old.counted) }
@@ -116,11 +117,11 @@ fn bind(
     // For the proof: the clauses speak of the definition.
     let _ = definition;
     let binding = new_binding(engine.alloc, bind, ends)?;
-    // There are fewer bindings than numbers, so that what wants is memory.
-    let Ok(()) = engine.world.bindings.bind_as(number as u64, binding) else {
-        return Err(AllocError);
-    };
-    Ok(())
+    match engine.world.bindings.bind_as(number as u64, binding) {
+        Ok(()) => return Ok(()),
+        Err(BindError::OutOfMemory) => return Err(AllocError),
+        Err(BindError::BindingLimit) => unreachable!(),
+    }
 }
 
 /// The next binding of the definition is made, unless one of its objects is disposed, or the first signal is connected where none is left.

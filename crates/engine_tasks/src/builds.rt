@@ -1,6 +1,6 @@
 //! The build: how objects are made one after the other, and how their construction goes on and ends.
 
-ghost use Rattle.std.specs.Prelude.{◌≡◌, ◌<◌, List, true, ℕ, Some, [], ◌∷◌, IfSome, OnOk, OnErr, length};
+ghost use Rattle.std.specs.Prelude.{◌≡◌, ◌<◌, List, true, ℕ, Some, [], ◌∷◌, IfSome, OnOk, OnErr, length, IsSome};
 ghost use Rattle.ui_machine.specs.Definition.Values as machine_values;
 ghost use Rattle.ui_machine.specs.Rules.Programs.{program_before};
 ghost use Rattle.ui_machine.specs.Definition as definition;
@@ -10,13 +10,14 @@ ghost use Rattle.ui_machine.specs.State.Handlers.{Handler};
 ghost use Rattle.ui_machine.specs.State.Tasks.{Building, Constructing};
 ghost use Rattle.ui_machine.specs.Steps.{uncounted};
 ghost use Rattle.ui_machine.specs.Rules.Build.{building};
+ghost use Rattle.ui_machine.specs.State.Objects.{living};
 ghost use Rattle.g_values.specs.View.{value_view};
 ghost use Rattle.definition_format.specs.Meaning.{object_count};
-ghost use Rattle.engine_world.specs.Able.{Able, Leads};
+ghost use Rattle.engine_world.specs.Able.{Able, Leads, LeadsToLiving};
 ghost use Rattle.engine_world.specs.Quiet.{IsQuiet};
 ghost use Rattle.engine_world.specs.View.{world_of};
 ghost use Rattle.engine_world.specs.TaskView.{task_of, agenda_of, build_from, build_behind};
-ghost use Rattle.engine_world.specs.Counting.{Connects, KeepsCounts};
+ghost use Rattle.engine_world.specs.Counting.{Connects, IsCounted, KeepsCounts};
 ghost use Rattle.engine_world.specs.EngineView.{config_of};
 
 use crate::forward_references::set_forward_reference;
@@ -28,7 +29,7 @@ use engine_world::given::object_value;
 use engine_world::object_peers::own_peer;
 use engine_world::objects::{begin_construction, make};
 use engine_world::places::{entry_at, is_object, next_place};
-use engine_world::references::{hold_any, push_task};
+use engine_world::references::{hold_any, never_full, push_task};
 use engine_world::task::{ConstructStep, ConstructSteps, ForwardReferences, Slots, Task};
 use g_values::Value;
 use std::alloc::AllocError;
@@ -42,21 +43,23 @@ fn hold_made(
     object: ObjectId,
 ) -> Result<(), AllocError>
     requires able { Able (uncounted (agenda_of definition.now engine.now) engine.now.counted (constructed (world_of engine.now.world) object.0 true)) }
+    requires counted { IsCounted definition.now engine.now }
     ensures step { Leads result
         (uncounted (agenda_of definition.now engine.old) engine.old.counted (constructed (world_of engine.old.world) object.0 true))
         (config_of definition.now engine.new) }
     ensures quiet { OnErr result (IsQuiet (world_of engine.old.world) (world_of engine.new.world)) }
     ensures counted { OnOk result (KeepsCounts definition.now engine.old engine.new) }
 {
-    // For the proof: the clauses speak of the definition.
+    // For the proof: the clauses speak of the definition, and what lives may be held once more.
     let _ = definition;
+    never_full(engine);
     let place = engine.world.table.place_of(object);
     set_builder_entry(
         &mut engine.world.builder,
         place,
         BuilderEntry::Built(object),
     )?;
-    hold_any(&mut engine.world.table, Some(object))?;
+    hold_any(&mut engine.world.table, Some(object));
     engine.world.table.sink(object);
     Ok(())
 }
@@ -70,6 +73,7 @@ fn end_construction(
     held: bool,
 ) -> Result<(), AllocError>
     requires able { Able (uncounted (agenda_of definition.now engine.now) engine.now.counted (constructed (world_of engine.now.world) object.0 held)) }
+    requires counted { IsCounted definition.now engine.now }
     ensures step { Leads result
         (uncounted (agenda_of definition.now engine.old) engine.old.counted (constructed (world_of engine.old.world) object.0 held))
         (config_of definition.now engine.new) }
@@ -92,6 +96,7 @@ fn thaw_constructed(
     held: bool,
 ) -> Result<(), AllocError>
     requires able { Able (uncounted (agenda_of definition.now engine.now) engine.now.counted (thawing_made (world_of engine.now.world) object.0 steps held)) }
+    requires counted { IsCounted definition.now engine.now }
     ensures step { Leads result
         (uncounted (agenda_of definition.now engine.old) engine.old.counted (thawing_made (world_of engine.old.world) object.0 steps held))
         (config_of definition.now engine.new) }
@@ -131,6 +136,8 @@ fn apply_construct_property(
     held: bool,
 ) -> Result<(), AllocError>
     requires able { Able (uncounted (agenda_of definition.now engine.now) engine.now.counted (apply_construct_property definition.now (world_of engine.now.world) object.0 slot (value_view value) (Constructing object.0 steps held ∷ []))) }
+    requires live { IsSome (living engine.now.world.table.objects object.0) }
+    requires counted { IsCounted definition.now engine.now }
     ensures step { Leads result
         (uncounted (agenda_of definition.now engine.old) engine.old.counted (apply_construct_property definition.now (world_of engine.old.world) object.0 slot (value_view value) (Constructing object.0 steps held ∷ [])))
         (config_of definition.now engine.new) }
@@ -168,6 +175,8 @@ fn run_constructed(
     held: bool,
 ) -> Result<(), AllocError>
     requires able { Able (uncounted (agenda_of definition.now engine.now) engine.now.counted (program_before definition.now (world_of engine.now.world) program (machine_values.object (Some object.0) ∷ []) (Constructing object.0 steps held ∷ []))) }
+    requires live { IsSome (living engine.now.world.table.objects object.0) }
+    requires counted { IsCounted definition.now engine.now }
     ensures step { Leads result
         (uncounted (agenda_of definition.now engine.old) engine.old.counted (program_before definition.now (world_of engine.old.world) program (machine_values.object (Some object.0) ∷ []) (Constructing object.0 steps held ∷ [])))
         (config_of definition.now engine.new) }
@@ -200,6 +209,8 @@ pub fn construct(
     held: bool,
 ) -> Result<(), AllocError>
     requires able { Able (uncounted (agenda_of definition.now engine.now) engine.now.counted (constructing definition.now (world_of engine.now.world) object.0 steps held)) }
+    requires live { IsSome (living engine.now.world.table.objects object.0) }
+    requires counted { IsCounted definition.now engine.now }
     ensures step { Leads result
         (uncounted (agenda_of definition.now engine.old) engine.old.counted (constructing definition.now (world_of engine.old.world) object.0 steps held))
         (config_of definition.now engine.new) }
@@ -233,6 +244,7 @@ fn make_from_build(
     peer: Option<usize>,
 ) -> Result<(), AllocError>
     requires able { Able (uncounted (agenda_of definition.now engine.now) engine.now.counted (making definition.now (world_of engine.now.world) place.0 peer true)) }
+    requires counted { IsCounted definition.now engine.now }
     requires peer { IfSome peer (λ number. number < length engine.now.world.seats) }
     ensures step { Leads result
         (uncounted (agenda_of definition.now engine.old) engine.old.counted (making definition.now (world_of engine.old.world) place.0 peer true))
@@ -258,6 +270,8 @@ pub fn build(
     forwards: ForwardReferences,
 ) -> Result<(), AllocError>
     requires able { Able (uncounted (agenda_of definition.now engine.now) engine.now.counted (building definition.now (world_of engine.now.world) (build_from definition.now place.0 forwards))) }
+    requires names { LeadsToLiving (uncounted (agenda_of definition.now engine.now) engine.now.counted (building definition.now (world_of engine.now.world) (build_from definition.now place.0 forwards))) }
+    requires counted { IsCounted definition.now engine.now }
     requires connects { Connects definition.now engine.now }
     ensures step { Leads result
         (uncounted (agenda_of definition.now engine.old) engine.old.counted (building definition.now (world_of engine.old.world) (build_from definition.now place.0 forwards)))

@@ -14,7 +14,7 @@ ghost use Rattle.ui_machine.specs.Steps.{asked_first, left};
 ghost use Rattle.g_values.specs.View.{value_view};
 ghost use Rattle.engine_world.specs.Counting.{Counts};
 ghost use Rattle.engine_world.specs.EngineView.{config_of};
-ghost use Rattle.engine_world.specs.Able.{Able, Leads};
+ghost use Rattle.engine_world.specs.Able.{Able, Leads, LeadsToLiving};
 ghost use Rattle.engine_world.specs.Quiet.{IsQuiet};
 ghost use Rattle.engine_world.specs.SeatView.{HasKnownKinds};
 ghost use Rattle.engine_world.specs.TaskView.{agenda_of, call_of};
@@ -25,7 +25,7 @@ use definitions::Definition;
 use engine_world::engine::Engine;
 use engine_world::lines::Line;
 use engine_world::program_frames::pass_answer;
-use engine_world::references::let_go_values;
+use engine_world::references::{let_go_values, never_full};
 use engine_world::task::{DueCall, Task};
 use g_values::{Value, zero_of};
 use peer_shapes::MethodRef;
@@ -170,6 +170,7 @@ fn conclude(
     conclusion: Conclusion,
 ) -> Result<(), AllocError>
     requires able { Able (left engine.now.counted (left_with (with_line (string_bytes conclusion.line) (world_of engine.now.world)) (agenda_of definition.now engine.now) call.to.0 (value_view conclusion.value))) }
+    requires names { LeadsToLiving (left engine.now.counted (left_with (with_line (string_bytes conclusion.line) (world_of engine.now.world)) (agenda_of definition.now engine.now) call.to.0 (value_view conclusion.value))) }
     requires counted { Counts definition.now (λ o. in_task o (Calling (call_of call))) engine.now }
     ensures step { Leads result
         (left engine.old.counted (left_with (with_line (string_bytes conclusion.line) (world_of engine.old.world)) (agenda_of definition.now engine.old) call.to.0 (value_view conclusion.value)))
@@ -177,6 +178,8 @@ fn conclude(
     ensures quiet { OnErr result (IsQuiet (world_of engine.old.world) (world_of engine.new.world)) }
     ensures counted { OnOk result (Counts definition.now (λ o. same o call.object.0) engine.new) }
 {
+    // For the proof: what lives may be held once more.
+    never_full(engine);
     let Conclusion { line, value } = conclusion;
     pass_answer(engine, definition, call.to, value)?;
     engine.world.say(line)?;
@@ -197,6 +200,8 @@ pub fn answer(
     answer: Option<Value>,
 ) -> Result<(), AllocError>
     requires able { Able (left engine.now.counted (calling_on definition.now (world_of engine.now.world) (call_of call) (agenda_of definition.now engine.now)
+        (Some (reply_of (world_of engine.now.world) (call_of call) (option_map value_view answer))))) }
+    requires names { LeadsToLiving (left engine.now.counted (calling_on definition.now (world_of engine.now.world) (call_of call) (agenda_of definition.now engine.now)
         (Some (reply_of (world_of engine.now.world) (call_of call) (option_map value_view answer))))) }
     requires counted { Counts definition.now (λ o. in_task o (Calling (call_of call))) engine.now }
     ensures step { Leads result
@@ -224,6 +229,7 @@ pub fn pass_over(
     call: DueCall,
 ) -> Result<(), AllocError>
     requires able { Able (left engine.now.counted (calling_on definition.now (world_of engine.now.world) (call_of call) (agenda_of definition.now engine.now) None)) }
+    requires names { LeadsToLiving (left engine.now.counted (calling_on definition.now (world_of engine.now.world) (call_of call) (agenda_of definition.now engine.now) None)) }
     requires counted { Counts definition.now (λ o. in_task o (Calling (call_of call))) engine.now }
     ensures step { Leads result
         (left engine.old.counted (calling_on definition.now (world_of engine.old.world) (call_of call) (agenda_of definition.now engine.old) None))

@@ -17,14 +17,14 @@ ghost use Rattle.signal_core.specs.Emission.{begun};
 ghost use Rattle.signal_core.specs.declared.stage.Stage.TheVariants as stages;
 ghost use Rattle.g_values.specs.View.{kind_view, value_view};
 ghost use Rattle.definition_format.specs.Meaning.{IsKnownKind};
-ghost use Rattle.engine_world.specs.Able.{Able, Leads};
+ghost use Rattle.engine_world.specs.Able.{Able, Leads, LeadsToLiving};
 ghost use Rattle.engine_world.specs.Quiet.{IsQuiet};
 ghost use Rattle.engine_world.specs.View.{world_of, with_line};
 ghost use Rattle.engine_world.specs.KnownHandlers.{EndsWithoutTransfers};
 ghost use Rattle.engine_world.specs.TaskView.{new_of, emission_of, entries_to_come, agenda_of};
 ghost use Rattle.engine_world.specs.TransferView.{due_later, due_now};
 ghost use Rattle.engine_world.specs.declared.task.Transfers.TheVariants as at;
-ghost use Rattle.engine_world.specs.Counting.{Counts, KeepsCounts, in_emitted};
+ghost use Rattle.engine_world.specs.Counting.{Counts, KeepsCounts, MayBeHeld, in_emitted};
 ghost use Rattle.engine_world.specs.EngineView.{config_of};
 ghost use Rattle.engine_world.specs.Standing.{entries_due, past_turns};
 ghost use Rattle.engine_tasks.specs.TurnView.{RunsProgram, given_by, program_of_turn};
@@ -38,7 +38,9 @@ use engine_world::counted_steps::count;
 use engine_world::engine::Engine;
 use engine_world::lines::Line;
 use engine_world::program_frames::pass_down;
-use engine_world::references::{accumulated, hold_any, let_go_any, let_go_values, push_task};
+use engine_world::references::{
+    accumulated, hold_any, let_go_any, let_go_values, never_full, push_task,
+};
 use engine_world::task::{NewEmission, Task, Transfers};
 use g_values::{Kind, Value, zero_of};
 use signal_core::{Cursor, Emission, Turn};
@@ -110,6 +112,7 @@ fn push_rest(
     by_event: bool,
     transfers: Transfers,
 ) -> Result<(), AllocError>
+    requires may { MayBeHeld engine.now cursor.object }
     requires begun { cursor.greatest ≤ engine.now.world.handlers.last }
     requires ends { EndsWithoutTransfers cursor transfers }
     ensures agenda { OnOk result ((d : machine.Definition) → agenda_of d engine.new
@@ -120,7 +123,9 @@ fn push_rest(
     ensures counted { OnOk result ((d : machine.Definition) (taken : ℕ → ℕ)
         → Counts d (λ o. taken o + in_emitted o (emission_of cursor args.items by_event)) engine.old → Counts d taken engine.new) }
 {
-    hold_any(&mut engine.world.table, Some(cursor.object()))?;
+    // For the proof: what lives may be held once more.
+    never_full(engine);
+    hold_any(&mut engine.world.table, Some(cursor.object()));
     engine.stack.push(Task::Emitting {
         cursor,
         args,
@@ -140,6 +145,7 @@ pub(crate) fn start_emission(
     transfers: Transfers,
     line: String,
 ) -> Result<(), AllocError>
+    requires may { MayBeHeld engine.now emission.object.0 }
     ensures agenda { OnOk result ((d : machine.Definition) → agenda_of d engine.new
         ≡ Emitting (emission_of (begun emission engine.old.world.handlers.last) args.items by_event)
         (entries_to_come (begun emission engine.old.world.handlers.last) engine.old.world.handlers.handlers transfers)
@@ -256,8 +262,9 @@ fn end_emission(
     ensures quiet { OnErr result (IsQuiet (world_of engine.old.world) (world_of engine.new.world)) }
     ensures counted { OnOk result (Counts definition.now (λ o. same o cursor.object) engine.new) }
 {
-    // For the proof: what is known of a definition's signals.
+    // For the proof: what is known of a definition's signals, and that what is held lives and may be held once more.
     let _types = definition.types();
+    never_full(engine);
     let object = cursor.object();
     let number = cursor.signal();
     let class = engine.world.table.class_of(object);
@@ -285,6 +292,8 @@ fn take_turn(
 ) -> Result<(), AllocError>
     requires able { Able (uncounted (Emitting (emission_of cursor args.items by_event) (entries_to_come cursor engine.now.world.handlers.handlers transfers) ∷ agenda_of definition.now engine.now) engine.now.counted
         (beginning_program definition.now (world_of engine.now.world) (program_of_turn turn) (given_by (emission_of cursor args.items by_event) turn))) }
+    requires names { LeadsToLiving (uncounted (Emitting (emission_of cursor args.items by_event) (entries_to_come cursor engine.now.world.handlers.handlers transfers) ∷ agenda_of definition.now engine.now) engine.now.counted
+        (beginning_program definition.now (world_of engine.now.world) (program_of_turn turn) (given_by (emission_of cursor args.items by_event) turn))) }
     requires runs { RunsProgram turn }
     requires begun { cursor.greatest ≤ engine.now.world.handlers.last }
     requires ends { EndsWithoutTransfers cursor transfers }
@@ -296,6 +305,8 @@ fn take_turn(
     ensures quiet { OnErr result (IsQuiet (world_of engine.old.world) (world_of engine.new.world)) }
     ensures counted { OnOk result (Counts definition.now (λ o. same o cursor.object) engine.new) }
 {
+    // For the proof: what is held lives.
+    never_full(engine);
     let runs = Invocation::new(turn, cursor.object());
     let given = runs.given(engine.alloc, args.as_slice())?;
     push_rest(engine, cursor, args, by_event, transfers)?;
@@ -325,8 +336,9 @@ fn take_transfer(
     ensures quiet { OnErr result (IsQuiet (world_of engine.old.world) (world_of engine.new.world)) }
     ensures counted { OnOk result (Counts definition.now (λ o. same o cursor.object) engine.new) }
 {
-    // For the proof: the clauses speak of the definition.
+    // For the proof: the clauses speak of the definition, and what is held lives.
     let _ = definition;
+    never_full(engine);
     push_rest(engine, cursor, args, by_event, transfers)?;
     push_task(
         engine,
@@ -349,6 +361,8 @@ fn emit_transfers(
     mut transfers: Transfers,
 ) -> Result<(), AllocError>
     requires able { Able (act definition.now (world_of engine.now.world) None
+        (Emitting (emission_of cursor args.items by_event) (entries_due (world_of engine.now.world) (entries_to_come cursor engine.now.world.handlers.handlers transfers)) ∷ agenda_of definition.now engine.now) engine.now.counted) }
+    requires names { LeadsToLiving (act definition.now (world_of engine.now.world) None
         (Emitting (emission_of cursor args.items by_event) (entries_due (world_of engine.now.world) (entries_to_come cursor engine.now.world.handlers.handlers transfers)) ∷ agenda_of definition.now engine.now) engine.now.counted) }
     requires behind { cursor.stage ≡ stages.Before 0 }
     requires later { due_later transfers ≡ [] }
@@ -386,6 +400,9 @@ pub fn emit(
     mut transfers: Transfers,
 ) -> Result<(), AllocError>
     requires able { Able (act definition.now (world_of engine.now.world) None
+        (past_turns (world_of engine.now.world) (Emitting (emission_of cursor args.items by_event) (entries_to_come cursor engine.now.world.handlers.handlers transfers))
+        ∷ agenda_of definition.now engine.now) engine.now.counted) }
+    requires names { LeadsToLiving (act definition.now (world_of engine.now.world) None
         (past_turns (world_of engine.now.world) (Emitting (emission_of cursor args.items by_event) (entries_to_come cursor engine.now.world.handlers.handlers transfers))
         ∷ agenda_of definition.now engine.now) engine.now.counted) }
     requires begun { cursor.greatest ≤ engine.now.world.handlers.last }

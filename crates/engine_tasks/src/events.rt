@@ -4,11 +4,11 @@ ghost use Rattle.std.specs.Prelude.{map, option_map, OnOk, OnErr};
 ghost use Rattle.ui_machine.specs.Steps.{uncounted};
 ghost use Rattle.ui_machine.specs.Rules.Events.{request_step, set_from_event, get_from_event, emit_from_event, release_from_event};
 ghost use Rattle.definition_format.specs.Meaning.{given_view, request_of};
-ghost use Rattle.engine_world.specs.Able.{Able, Leads};
+ghost use Rattle.engine_world.specs.Able.{Able, Leads, LeadsToLiving};
 ghost use Rattle.engine_world.specs.Quiet.{IsQuiet};
 ghost use Rattle.engine_world.specs.View.{world_of};
 ghost use Rattle.engine_world.specs.TaskView.{agenda_of};
-ghost use Rattle.engine_world.specs.Counting.{HoldsBuilt, KeepsCounts};
+ghost use Rattle.engine_world.specs.Counting.{HoldsBuilt, IsCounted, KeepsCounts};
 ghost use Rattle.engine_world.specs.EngineView.{config_of};
 
 use definition_format::{Given, Request};
@@ -35,6 +35,8 @@ fn set_from_event(
     given: Given,
 ) -> Result<(), AllocError>
     requires able { Able (uncounted (agenda_of definition.now engine.now) engine.now.counted (set_from_event definition.now (world_of engine.now.world) place.0 slot (given_view given))) }
+    requires names { LeadsToLiving (uncounted (agenda_of definition.now engine.now) engine.now.counted (set_from_event definition.now (world_of engine.now.world) place.0 slot (given_view given))) }
+    requires counted { IsCounted definition.now engine.now }
     ensures step { Leads result
         (uncounted (agenda_of definition.now engine.old) engine.old.counted (set_from_event definition.now (world_of engine.old.world) place.0 slot (given_view given)))
         (config_of definition.now engine.new) }
@@ -94,6 +96,8 @@ fn emit_from_event(
     detail: Option<&str>,
 ) -> Result<(), AllocError>
     requires able { Able (uncounted (agenda_of definition.now engine.now) engine.now.counted (emit_from_event definition.now (world_of engine.now.world) place.0 signal (map given_view args.now) (option_map (λ text. text.now) detail))) }
+    requires names { LeadsToLiving (uncounted (agenda_of definition.now engine.now) engine.now.counted (emit_from_event definition.now (world_of engine.now.world) place.0 signal (map given_view args.now) (option_map (λ text. text.now) detail))) }
+    requires counted { IsCounted definition.now engine.now }
     ensures step { Leads result
         (uncounted (agenda_of definition.now engine.old) engine.old.counted (emit_from_event definition.now (world_of engine.old.world) place.0 signal (map given_view args.now) (option_map (λ text. text.now) detail.entry)))
         (config_of definition.now engine.new) }
@@ -153,6 +157,8 @@ pub fn handle_event(
     request: Request,
 ) -> Result<(), AllocError>
     requires able { Able (uncounted (agenda_of definition.now engine.now) engine.now.counted (request_step definition.now (world_of engine.now.world) (request_of request))) }
+    requires names { LeadsToLiving (uncounted (agenda_of definition.now engine.now) engine.now.counted (request_step definition.now (world_of engine.now.world) (request_of request))) }
+    requires counted { IsCounted definition.now engine.now }
     requires holds { HoldsBuilt engine.now }
     ensures step { Leads result
         (uncounted (agenda_of definition.now engine.old) engine.old.counted (request_step definition.now (world_of engine.old.world) (request_of request)))

@@ -5,11 +5,11 @@ ghost use Rattle.std.specs.List.{flat_map};
 ghost use Rattle.ui_machine.specs.Rules.Build.{building, forward_of, forward_items};
 ghost use Rattle.ui_machine.specs.Steps.{uncounted};
 ghost use Rattle.definition_format.specs.Meaning.{given_property, object_count};
-ghost use Rattle.engine_world.specs.Able.{Able, Leads};
+ghost use Rattle.engine_world.specs.Able.{Able, Leads, LeadsToLiving};
 ghost use Rattle.engine_world.specs.Quiet.{IsQuiet};
 ghost use Rattle.engine_world.specs.View.{world_of};
 ghost use Rattle.engine_world.specs.TaskView.{agenda_of, item_of, items_of, forwards_at, build_end};
-ghost use Rattle.engine_world.specs.Counting.{Connects, KeepsCounts};
+ghost use Rattle.engine_world.specs.Counting.{Connects, IsCounted, KeepsCounts};
 ghost use Rattle.engine_world.specs.EngineView.{config_of};
 
 use crate::binds::bind_from_build;
@@ -106,6 +106,8 @@ pub(crate) fn set_forward_reference(
     mut forwards: ForwardReferences,
 ) -> Result<(), AllocError>
     requires able { Able (uncounted (agenda_of definition.now engine.now) engine.now.counted (building definition.now (world_of engine.now.world) (build_end definition.now forwards))) }
+    requires names { LeadsToLiving (uncounted (agenda_of definition.now engine.now) engine.now.counted (building definition.now (world_of engine.now.world) (build_end definition.now forwards))) }
+    requires counted { IsCounted definition.now engine.now }
     requires past { object_count definition.now ≤ place.0 }
     requires connects { Connects definition.now engine.now }
     ensures step { Leads result

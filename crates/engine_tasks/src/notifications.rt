@@ -1,14 +1,15 @@
 //! Notifications: how one begins, and those of a thaw.
 
-ghost use Rattle.std.specs.Prelude.{OnOk, OnErr};
+ghost use Rattle.std.specs.Prelude.{OnOk, OnErr, IsSome};
 ghost use Rattle.ui_machine.specs.Rules.EmissionPlan.{notifying};
 ghost use Rattle.ui_machine.specs.Steps.{counted, uncounted};
 ghost use Rattle.ui_machine.specs.Rules.NotifyQueue.{thawing};
+ghost use Rattle.ui_machine.specs.State.Objects.{living};
 ghost use Rattle.engine_world.specs.Able.{Able, Leads};
 ghost use Rattle.engine_world.specs.Quiet.{IsQuiet};
 ghost use Rattle.engine_world.specs.View.{world_of};
 ghost use Rattle.engine_world.specs.TaskView.{agenda_of};
-ghost use Rattle.engine_world.specs.Counting.{KeepsCounts};
+ghost use Rattle.engine_world.specs.Counting.{IsCounted, KeepsCounts};
 ghost use Rattle.engine_world.specs.EngineView.{config_of};
 
 use crate::emission::start_emission;
@@ -37,6 +38,7 @@ pub fn notify(
     slot: Slot,
 ) -> Result<(), AllocError>
     requires able { Able (counted (agenda_of definition.now engine.now) engine.now.counted (notifying definition.now (world_of engine.now.world) object.0 slot)) }
+    requires counted { IsCounted definition.now engine.now }
     ensures step { Leads result
         (counted (agenda_of definition.now engine.old) engine.old.counted (notifying definition.now (world_of engine.old.world) object.0 slot))
         (config_of definition.now engine.new) }
@@ -77,6 +79,8 @@ pub fn notify_thawed(
     mut slots: Slots,
 ) -> Result<(), AllocError>
     requires able { Able (uncounted (agenda_of definition.now engine.now) engine.now.counted (thawing (world_of engine.now.world) object.0 slots)) }
+    requires live { IsSome (living engine.now.world.table.objects object.0) }
+    requires counted { IsCounted definition.now engine.now }
     ensures step { Leads result
         (uncounted (agenda_of definition.now engine.old) engine.old.counted (thawing (world_of engine.old.world) object.0 slots))
         (config_of definition.now engine.new) }

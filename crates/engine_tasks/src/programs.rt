@@ -3,12 +3,14 @@
 ghost use Rattle.std.specs.Prelude.{◌≡◌, map, OnOk, OnErr};
 ghost use Rattle.ui_machine.specs.Rules.Programs.{beginning_program};
 ghost use Rattle.ui_machine.specs.Steps.{uncounted};
+ghost use Rattle.law_typing.specs.Good.Living.{NamesLiving};
+ghost use Rattle.law_typing.specs.Verdict.Accepted.{Each};
 ghost use Rattle.g_values.specs.View.{value_view};
 ghost use Rattle.engine_world.specs.Able.{Able, Leads};
 ghost use Rattle.engine_world.specs.Quiet.{IsQuiet};
 ghost use Rattle.engine_world.specs.View.{world_of};
 ghost use Rattle.engine_world.specs.TaskView.{agenda_of};
-ghost use Rattle.engine_world.specs.Counting.{KeepsCounts};
+ghost use Rattle.engine_world.specs.Counting.{IsCounted, KeepsCounts};
 ghost use Rattle.engine_world.specs.EngineView.{config_of};
 
 use definitions::Definition;
@@ -30,6 +32,8 @@ pub(crate) fn begin_program(
     args: Vec<Value>,
 ) -> Result<(), AllocError>
     requires able { Able (uncounted (agenda_of definition.now engine.now) engine.now.counted (beginning_program definition.now (world_of engine.now.world) number (map value_view args.items))) }
+    requires counted { IsCounted definition.now engine.now }
+    requires names { Each (NamesLiving (world_of engine.now.world)) (map value_view args.items) }
     ensures step { Leads result
         (uncounted (agenda_of definition.now engine.old) engine.old.counted (beginning_program definition.now (world_of engine.old.world) number (map value_view args.items)))
         (config_of definition.now engine.new) }

@@ -91,6 +91,7 @@ fn say_and_raise(
     is_told: bool,
 ) -> Result<(), AllocError>
     requires able { Able (uncounted (agenda_of definition.now engine.now) engine.now.counted (raising_if is_told (with_line (string_bytes line) (world_of engine.now.world)) object.0 slot)) }
+    requires counted { IsCounted definition.now engine.now }
     ensures step { Leads result
         (uncounted (agenda_of definition.now engine.old) engine.old.counted (raising_if is_told (with_line (string_bytes line) (world_of engine.old.world)) object.0 slot))
         (config_of definition.now engine.new) }

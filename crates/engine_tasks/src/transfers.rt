@@ -1,10 +1,11 @@
 //! Transfers of bindings: a property's value is set at another property (GObject manual, GBinding).
 
-ghost use Rattle.std.specs.Prelude.{◌≡◌, Ok, option_map, IfOk, OnOk, OnErr};
+ghost use Rattle.std.specs.Prelude.{◌≡◌, Ok, option_map, IfOk, OnOk, OnErr, IsSome};
 ghost use Rattle.ui_machine.specs.Rules.Transfers.{set_by, transferring, unsetting};
 ghost use Rattle.ui_machine.specs.Steps.{counted, uncounted};
+ghost use Rattle.ui_machine.specs.State.Objects.{living};
 ghost use Rattle.g_values.specs.View.{value_view};
-ghost use Rattle.engine_world.specs.Counting.{KeepsCounts};
+ghost use Rattle.engine_world.specs.Counting.{IsCounted, KeepsCounts};
 ghost use Rattle.engine_world.specs.EngineView.{config_of};
 ghost use Rattle.engine_world.specs.Able.{Able, Leads};
 ghost use Rattle.engine_world.specs.Quiet.{IsQuiet};
@@ -50,6 +51,8 @@ fn set_by(
     value: Option<Value>,
 ) -> Result<(), AllocError>
     requires able { Able (uncounted (agenda_of definition.now engine.now) engine.now.counted (set_by (world_of engine.now.world) transfer.number (to_end transfer) (option_map value_view value))) }
+    requires live { IsSome (living engine.now.world.table.objects transfer.target.0) }
+    requires counted { IsCounted definition.now engine.now }
     ensures step { Leads result
         (uncounted (agenda_of definition.now engine.old) engine.old.counted (set_by (world_of engine.old.world) transfer.number (to_end transfer) (option_map value_view value)))
         (config_of definition.now engine.new) }
@@ -91,6 +94,7 @@ pub fn transfer(
     back: bool,
 ) -> Result<(), AllocError>
     requires able { Able (counted (agenda_of definition.now engine.now) engine.now.counted (transferring definition.now (world_of engine.now.world) number back)) }
+    requires counted { IsCounted definition.now engine.now }
     ensures step { Leads result
         (counted (agenda_of definition.now engine.old) engine.old.counted (transferring definition.now (world_of engine.old.world) number back))
         (config_of definition.now engine.new) }

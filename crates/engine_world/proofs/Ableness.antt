@@ -1,5 +1,5 @@
 -- What follows where no arm stops a part of a step.
-use Rattle.std.proofs.Common.{◌≡◌, refl, subst, ℕ, suc, ◌<◌, Bool, true, false, nat_lt, List, Option, None, Some, Result, IsOk, Ok, Err}
+use Rattle.std.proofs.Common.{◌≡◌, refl, subst, ℕ, suc, ◌<◌, Bool, true, false, nat_lt, List, Option, None, Some, IsOk, Ok, Err}
 use Rattle.std.proofs.lemmas.Bool.Decides.{nat_tests}
 use Rattle.std.proofs.Common.{arith}
 use Rattle.ui_machine.specs.declared.arm.Arm.{Arm}

@@ -3,13 +3,12 @@ use Rattle.std.proofs.Common.{◌≡◌, ℕ, ◌≤◌, Bool, true, false, cond
 use Rattle.std.specs.Prelude.{codes}
 use Rattle.ui_machine.specs.declared.arm.Arm.{Arm}
 use Rattle.ui_machine.specs.declared.arm.Arm.TheVariants as arms
-use Rattle.ui_machine.specs.declared.arm.Halt.{Halt}
-use Rattle.ui_machine.specs.declared.arm.Halt.TheVariants as halts
+use Rattle.std.specs.declared.alloc.AllocError.{AllocError}
 use Rattle.ui_machine.specs.Definition.{Definition}
 use Rattle.ui_machine.specs.Definition.Lookups.{place_at}
 use Rattle.ui_machine.specs.Definition.Places.{Place}
 use Rattle.ui_machine.specs.Output.Lines as lines
-use Rattle.ui_machine.specs.Outcome.{After, Answer, Goes, known, ◌>>=◌}
+use Rattle.ui_machine.specs.Outcome.{After, Answer, known, ◌>>=◌}
 use Rattle.ui_machine.specs.Rules.Build.{building_child, held_object}
 use Rattle.ui_machine.specs.Rules.Children.{adopted, is_unadoptable, with_family}
 use Rattle.ui_machine.specs.State.Config.{World, Started, said, starts}
@@ -20,6 +19,7 @@ use Rattle.instance_tables.specs.declared.error.AdoptError.{AdoptError}
 use Rattle.instance_tables.specs.declared.error.AdoptError.TheVariants.{ChildLimit, HasParent, NotLiving, OutOfMemory}
 use Rattle.instance_tables.specs.Family.{refusal}
 use Rattle.definition_format.specs.Meaning.{IsBasic, object_count}
+use Rattle.engine_world.specs.Able.{Leads}
 use Rattle.engine_world.specs.KinView.{Kin, kin_at, joined}
 use Rattle.engine_world.proofs.Prototypes.{parentless}
 
@@ -145,20 +145,27 @@ module _ (d : Definition) (w : World) (place : ℕ) (items : List Item) where
       by None at = ap (λ (o : Option Place). known arms.Code o >>= λ p. with_kin p.parent) at
       by (Some p) at = ap (λ (o : Option Place). known arms.Code o >>= λ p. with_kin p.parent) at ∙ ap with_kin (parentless d basic place past p at)
 
-  module _ (rest : List Task) (n : ℕ) where
-    then_on : {X : Type 0} (result : Result X Halt) (family : Answer (After World Bool)) (new : World)
-        → Goes result (family >>= λ (f : After World Bool). Ok f.state) new
-        → Goes result (uncounted rest n (family >>= λ (f : After World Bool). starts f.state (Building items ∷ [])))
-        (record { world = new; agenda = Building items ∷ rest; counted = n })
-    then_on {X} (Ok x) (Ok f) new goes = let same : f.state ≡ new = cc goes in ap (λ v. Ok (record { world = v; agenda = Building items ∷ rest; counted = n })) same
-    then_on {X} (Ok x) (Err arm) new goes = cc goes
-    then_on {X} (Err halts.OutOfMemory) family new goes = tt
-    then_on {X} (Err (halts.Stuck arm)) (Ok f) new goes = cc goes
-    then_on {X} (Err (halts.Stuck arm)) (Err other) new goes = let same : other ≡ arm = cc goes in ap Err same
+  -- where the objects can't be joined, neither can the build go on
+  pub joins_not : (kin : Kin) (arm : Arm) → kin_at d w place ≡ Ok kin → joined d w kin.parent kin.child ≡ Err arm → building_child d w place items ≡ Err arm
+  joins_not kin arm is stuck = by_kin ∙ ap (λ (k : Answer Kin). k >>= goes_on) is ∙ by (adopted d w kin.parent kin.child) stuck
+    where
+      by : (family : Answer (After World Bool)) → (family >>= λ (f : After World Bool). Ok f.state) ≡ Err arm
+          → (family >>= λ (f : After World Bool). starts f.state (Building items ∷ [])) ≡ Err arm
+      by (Ok f) is = absurd (cc is)
+      by (Err other) is = let same : other ≡ arm = cc is in ap Err same
 
-    pub joins_then : {X : Type 0} (kin : Kin) (result : Result X Halt) (new : World) → kin_at d w place ≡ Ok kin → Goes result (joined d w kin.parent kin.child) new
-        → Goes result (uncounted rest n (building_child d w place items)) (record { world = new; agenda = Building items ∷ rest; counted = n })
-    joins_then {X} kin result new is goes =
-        subst (λ (a : Answer Started). Goes result (uncounted rest n a) (record { world = new; agenda = Building items ∷ rest; counted = n }))
+  module _ (rest : List Task) (n : ℕ) where
+    then_on : {X : Type 0} (result : Result X AllocError) (family : Answer (After World Bool)) (new : World)
+        → Leads result (family >>= λ (f : After World Bool). Ok f.state) new
+        → Leads result (uncounted rest n (family >>= λ (f : After World Bool). starts f.state (Building items ∷ [])))
+        (record { world = new; agenda = Building items ∷ rest; counted = n })
+    then_on {X} (Ok x) (Ok f) new leads = let same : f.state ≡ new = cc leads in ap (λ v. Ok (record { world = v; agenda = Building items ∷ rest; counted = n })) same
+    then_on {X} (Ok x) (Err arm) new leads = cc leads
+    then_on {X} (Err error) family new leads = tt
+
+    pub joins_then : {X : Type 0} (kin : Kin) (result : Result X AllocError) (new : World) → kin_at d w place ≡ Ok kin → Leads result (joined d w kin.parent kin.child) new
+        → Leads result (uncounted rest n (building_child d w place items)) (record { world = new; agenda = Building items ∷ rest; counted = n })
+    joins_then {X} kin result new is leads =
+        subst (λ (a : Answer Started). Leads result (uncounted rest n a) (record { world = new; agenda = Building items ∷ rest; counted = n }))
         (sym (by_kin ∙ ap (λ (k : Answer Kin). k >>= goes_on) is))
-        (then_on result (adopted d w kin.parent kin.child) new goes)
+        (then_on result (adopted d w kin.parent kin.child) new leads)

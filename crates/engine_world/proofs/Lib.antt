@@ -11,7 +11,7 @@ pub mod Finalising
 pub mod Counts
 pub mod Quiets
 pub mod Notified
-mod Parts
+pub mod Parts
 pub mod SourceCounts
 mod Details
 mod Values
@@ -20,6 +20,8 @@ pub mod Registers
 mod Operands
 pub mod Built
 pub mod Gone
+pub mod Held
+pub mod Named
 pub mod GotPeers
 pub mod SameTurns
 pub mod Signals

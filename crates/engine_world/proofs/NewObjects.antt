@@ -1,5 +1,5 @@
 -- Objects that are made, and float or not.
-use Rattle.std.proofs.Common.{◌≡◌, ◌∙◌, ℕ, Bool, true, false, cond, ◌++◌, ◌∷◌, [], List, Result, Ok, Err, IfOk, OnErr, refl, sym, ap, subst}
+use Rattle.std.proofs.Common.{◌≡◌, ◌∙◌, Bool, true, false, cond, ◌++◌, ◌∷◌, [], Result, Ok, Err, IfOk, OnErr, refl, sym, ap, subst}
 use Rattle.ui_machine.specs.State.Objects.{Object}
 use Rattle.ui_machine.specs.declared.ids.ObjectId.{ObjectId}
 use Rattle.instance_tables.specs.Laws.{Counted}

@@ -26,3 +26,23 @@ parts d hs (tasks.Answering source) o = omega arith
 parts d hs (tasks.Calling call) o = refl
 parts d hs (tasks.Due source) o = omega arith
 parts d hs (tasks.Handling event) o = omega arith
+
+-- whatever the definition is, and the handlers
+pub task_alike : (d e : Definition) (hs gs : List Handler) (t : Task) (o : ℕ) → in_task o (task_of d hs t) ≡ in_task o (task_of e gs t)
+task_alike d e hs gs (tasks.Setting id slot x) o = refl
+task_alike d e hs gs (tasks.Notifying id slot) o = refl
+task_alike d e hs gs (tasks.Beginning emission) o = refl
+task_alike d e hs gs (tasks.Emitting cursor args by_event transfers) o = refl
+task_alike d e hs gs (tasks.Running frame) o = refl
+task_alike d e hs gs (tasks.Thawing id slots) o = refl
+task_alike d e hs gs (tasks.Constructing id steps held) o = refl
+task_alike d e hs gs (tasks.Building place forwards) o = refl
+task_alike d e hs gs (tasks.Adopting place forwards) o = refl
+task_alike d e hs gs (tasks.Transferring number back) o = refl
+task_alike d e hs gs (tasks.Unsetting number) o = refl
+task_alike d e hs gs (tasks.Binding number) o = refl
+task_alike d e hs gs (tasks.Connecting place number) o = refl
+task_alike d e hs gs (tasks.Answering source) o = refl
+task_alike d e hs gs (tasks.Calling call) o = refl
+task_alike d e hs gs (tasks.Due source) o = refl
+task_alike d e hs gs (tasks.Handling event) o = refl

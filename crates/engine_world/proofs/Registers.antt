@@ -1,7 +1,7 @@
 -- What the registers of a program hold as one is written, and the results that programs take.
 use Rattle.engine_world.specs.KnownHandlers.{AllTakeKnownHandlers}
 use Rattle.engine_world.proofs.Counts.{stays, restacked}
-use Rattle.std.proofs.Common.{◌≡◌, ◌∙◌, refl, sym, ap, ℕ, ◌+◌, ◌<◌, Bool, true, false, nat_lt, length, List, [], ◌∷◌, Option, None, Some, Result, Ok, Err, zero, suc, arith}
+use Rattle.std.proofs.Common.{◌≡◌, ◌∙◌, refl, ap, ℕ, ◌+◌, ◌<◌, length, List, [], ◌∷◌, Option, None, Some, Result, Ok, Err, zero, suc, arith}
 use Rattle.std.specs.Prelude.{OnOk}
 use Rattle.ui_machine.specs.declared.arm.Arm.TheVariants as arms
 use Rattle.ui_machine.specs.Definition.{Definition}

@@ -15,7 +15,9 @@ use Rattle.bytecode.specs.Computing.{registers_of}
 use Rattle.instance_tables.proofs.Few.{same_most, value_most}
 use Rattle.instance_tables.specs.Store.{Store, count_of, may_hold}
 use Rattle.engine_world.proofs.Lists.{total-append}
-use Rattle.engine_world.specs.Counting.{Counts, IsCounted}
+use Rattle.frames.specs.FrameView.{frame_view}
+use Rattle.frames.specs.declared.frame.Frame.{Frame}
+use Rattle.engine_world.specs.Counting.{Counts, IsCounted, in_frame}
 use Rattle.engine_world.specs.TaskView.{agenda_of, task_in, task_of, tasks_of}
 use Rattle.engine_world.specs.View.{held_of}
 use Rattle.engine_world.specs.declared.engine.Engine.{Engine}
@@ -48,7 +50,7 @@ total_reversed f (x ∷ xs) =
 
 -- ** what tasks hold
 
-register_most : (o : ℕ) (r : Option values.Value) → in_register o r ≤ 1
+pub register_most : (o : ℕ) (r : Option values.Value) → in_register o r ≤ 1
 register_most o None = omega arith
 register_most o (Some v) = value_most o v
 
@@ -62,7 +64,7 @@ held_most o (config.built i) = same_most o i
 held_most o config.released = omega arith
 
 -- a task of the engine holds an object at most 2^63 + 1 times: its lists are no longer than memory
-task_most : (d : machine.Definition) (hs : List Handler) (o : ℕ) (t : Task) → in_task o (task_of d hs t) ≤ 9223372036854775809
+pub task_most : (d : machine.Definition) (hs : List Handler) (o : ℕ) (t : Task) → in_task o (task_of d hs t) ≤ 9223372036854775809
 task_most d hs o (tasks.Setting id slot v) = omega (arith, same_most o id.0)
 task_most d hs o (tasks.Notifying id slot) = omega (arith, same_most o id.0)
 task_most d hs o (tasks.Beginning e) =
@@ -121,6 +123,10 @@ task_most d hs o (tasks.Handling event) = omega arith
 pub task_counted : (d : machine.Definition) (e : Engine) (t : Task) → Counts d (λ o. in_task o (task_in d e t)) e → IsCounted d e
 task_counted d e t h = record { taken = λ o. in_task o (task_in d e t); counts = h; little = λ o. omega (arith, task_most d e.world.handlers.handlers o t) }
 
+-- so does the rest of a program
+pub frame_counted : (d : machine.Definition) (e : Engine) (f : Frame) → Counts d (λ o. in_frame o (frame_view f)) e → IsCounted d e
+frame_counted d e f h = record { taken = λ o. in_frame o (frame_view f); counts = h; little = λ o. omega (arith, task_most d e.world.handlers.handlers o (tasks.Running f)) }
+
 agenda_most : (d : machine.Definition) (hs : List Handler) (s : Stack) (o : ℕ)
     → total (in_task o) (tasks_of d hs s) ≤ length s.tasks.items * 9223372036854775809
 agenda_most d hs s o =
@@ -133,37 +139,42 @@ agenda_most d hs s o =
 
 -- ** all that holds an object
 
--- what lives may be held once more, where each object is counted as often as it is mentioned
-pub has_room : (d : machine.Definition) (taken : ℕ → ℕ) (e : Engine)
-    → ((d : machine.Definition) (o : ℕ) → total (in_object d o) e.world.table.objects + total (same o) e.world.table.floating ≤ 2 ^ 127)
-    → length e.world.context.sources ≤ 256 → Counts d taken e → (o : ℕ) → taken o ≤ 2 ^ 64 → IsSome (living e.world.table.objects o) → may_hold e.world.table o ≡ true
-has_room d taken e few sources counts o little lives =
-    let built : total (in_held o) (map held_of e.world.builder.items) ≤ length (map held_of e.world.builder.items) =
-    total_ones (in_held o) (held_most o) (map held_of e.world.builder.items) in
-    let agenda : total (in_task o) (agenda_of d e) ≤ length e.stack.tasks.items * 9223372036854775809 =
-    agenda_most d e.world.handlers.handlers e.stack o in
-    let attached : total (in_source o) e.world.context.sources ≤ length e.world.context.sources =
-    total_ones (in_source o) (λ s. option_most o s.arg) e.world.context.sources in
-    let small : count_of e.world.table.counts o < 340282366920938463463374607431768211455 =
-    omega (
-      arith,
-      counts.exact o,
-      little,
-      few d o,
-      built,
-      length-map e.world.builder.items held_of,
-      e.world.builder.ok.0,
-      e.world.builder.ok.1,
-      e.world.builder.small,
-      attached,
-      sources,
-      agenda,
-      e.stack.tasks.ok.0,
-      e.stack.tasks.ok.1,
-      e.stack.tasks.small,
-    ) in
-    let fits : nat_lt (count_of e.world.table.counts o) 340282366920938463463374607431768211455 ≡ true = grind (arith, nat_tests) in
-    rw (lives, fits) refl
+module _ (d : machine.Definition) (taken : ℕ → ℕ) (e : Engine)
+    (few : (d : machine.Definition) (o : ℕ) → total (in_object d o) e.world.table.objects + total (same o) e.world.table.floating ≤ 2 ^ 127)
+    (sources : length e.world.context.sources ≤ 256) (counts : Counts d taken e) (o : ℕ) (little : taken o ≤ 2 ^ 64) where
+  -- where each object is counted as often as it is mentioned, it may be held so often more
+  pub room_left : count_of e.world.table.counts o + 2 ^ 64 < 2 ^ 128
+  room_left =
+      let built : total (in_held o) (map held_of e.world.builder.items) ≤ length (map held_of e.world.builder.items) =
+      total_ones (in_held o) (held_most o) (map held_of e.world.builder.items) in
+      let agenda : total (in_task o) (agenda_of d e) ≤ length e.stack.tasks.items * 9223372036854775809 =
+      agenda_most d e.world.handlers.handlers e.stack o in
+      let attached : total (in_source o) e.world.context.sources ≤ length e.world.context.sources =
+      total_ones (in_source o) (λ s. option_most o s.arg) e.world.context.sources in
+      omega (
+        arith,
+        counts.exact o,
+        little,
+        few d o,
+        built,
+        length-map e.world.builder.items held_of,
+        e.world.builder.ok.0,
+        e.world.builder.ok.1,
+        e.world.builder.small,
+        attached,
+        sources,
+        agenda,
+        e.stack.tasks.ok.0,
+        e.stack.tasks.ok.1,
+        e.stack.tasks.small,
+      )
+
+  -- so that what lives may be held once more
+  pub has_room : IsSome (living e.world.table.objects o) → may_hold e.world.table o ≡ true
+  has_room lives =
+      let small : count_of e.world.table.counts o < 340282366920938463463374607431768211455 = omega (arith, room_left) in
+      let fits : nat_lt (count_of e.world.table.counts o) 340282366920938463463374607431768211455 ≡ true = grind (arith, nat_tests) in
+      rw (lives, fits) refl
 
 -- what may be held is not held as often as may be
 pub held_room : (t : Store) (id : ℕ) → may_hold t id ≡ true → count_of t.counts id < 2 ^ 128 - 1

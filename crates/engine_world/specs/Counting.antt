@@ -1,6 +1,7 @@
 -- What the engine counts of each object, beside what the machine mentions of it.
-use Rattle.std.specs.Prelude.{◌≡◌, ℕ, ◌+◌, ◌≤◌, ◌^◌}
+use Rattle.std.specs.Prelude.{◌≡◌, ℕ, ◌+◌, ◌<◌, ◌≤◌, ◌^◌, IsSome}
 use Rattle.ui_machine.specs.Definition.{Definition}
+use Rattle.ui_machine.specs.State.Objects.{living}
 use Rattle.ui_machine.specs.State.References.{same, in_value, in_register, in_held, in_task, mentions}
 use Rattle.ui_machine.specs.State.Tasks.{Emission, Frame, Task, Beginning, Calling, Emitting, Running}
 use Rattle.instance_tables.specs.Store.{Store, count_of}
@@ -11,7 +12,8 @@ use Rattle.engine_world.specs.View.{world_of}
 use Rattle.engine_world.specs.KnownHandlers.{AllTakeKnownHandlers}
 use Rattle.engine_world.specs.PeerPlaces.{AreGot}
 use Rattle.engine_world.specs.EngineView.{config_of}
-use Rattle.engine_world.specs.TaskView.{agenda_of}
+use Rattle.engine_world.specs.TaskView.{agenda_of, task_in}
+use Rattle.engine_world.specs.declared.task.Task as code
 
 -- nothing but the counts of a table differs
 pub record OnlyCounts (old new : Store) : Type 0 where
@@ -42,6 +44,20 @@ pub record IsCounted (d : Definition) (e : Engine) : Type 0 where
   pub taken : ℕ → ℕ
   pub counts : Counts d taken e
   pub little : (o : ℕ) → taken o ≤ 2 ^ 64
+
+-- the objects of a table may be held so often more: those that are live, and no count comes to its end
+pub record MayHold (s : Store) (more : ℕ → ℕ) : Type 0 where
+  pub at : (o : ℕ) → 0 < more o → IsSome (living s.objects o) × (count_of s.counts o + more o < 2 ^ 128)
+
+-- a task may hold an object: it lives, and each is counted as often as it is mentioned
+pub record MayBeHeld (e : Engine) (o : ℕ) : Type 0 where
+  pub d : Definition
+  pub counted : IsCounted d e
+  pub lives : IsSome (living e.world.table.objects o)
+
+-- what a task is to hold it may hold
+pub record MayPush (e : Engine) (t : code.Task) : Type 0 where
+  pub at : (d : Definition) (o : ℕ) → 0 < in_task o (task_in d e t) → MayBeHeld e o
 
 -- what the builder holds is counted at least so often
 pub record HoldsBuilt (e : Engine) : Type 0 where

@@ -1,6 +1,6 @@
 //! Objects that are made: with their defaults, and with what their construction has still to do.
 
-ghost use Rattle.std.specs.Prelude.{◌≡◌, ◌<◌, suc, length, ℕ, cond, [], ◌∷◌, ◌++◌, map, None, Some, OnOk, OnErr, IfOk, IfSome, Bool};
+ghost use Rattle.std.specs.Prelude.{◌≡◌, ◌<◌, suc, length, ℕ, cond, [], ◌∷◌, ◌++◌, map, None, Some, OnOk, OnErr, IfOk, IfSome, IsSome, Bool};
 ghost use Rattle.engine_world.specs.Able.{Able};
 ghost use Rattle.ui_machine.specs.Definition.Properties as machine;
 ghost use Rattle.ui_machine.specs.Definition.Lookups.{specs_of};
@@ -9,13 +9,14 @@ ghost use Rattle.ui_machine.specs.State.References.{in_values};
 ghost use Rattle.ui_machine.specs.Definition as definition;
 ghost use Rattle.ui_machine.specs.Rules.Construction.{lent, with_object, making};
 ghost use Rattle.ui_machine.specs.State.Config.{starts};
+ghost use Rattle.ui_machine.specs.State.Objects.{living};
 ghost use Rattle.ui_machine.specs.State.Tasks.{Constructing};
 ghost use Rattle.g_values.specs.View.{value_view};
 ghost use Rattle.engine_world.specs.NewObjects.{Adds, before_lent, begun};
 ghost use Rattle.engine_world.specs.Quiet.{IsQuiet};
 ghost use Rattle.engine_world.specs.View.{world_of};
 ghost use Rattle.engine_world.specs.TaskView.{agenda_of};
-ghost use Rattle.engine_world.specs.Counting.{KeepsCounts};
+ghost use Rattle.engine_world.specs.Counting.{KeepsCounts, MayBeHeld};
 
 use crate::construct_steps::{GivenAt, construction};
 use crate::engine::Engine;
@@ -55,6 +56,7 @@ fn create_object(
 ) -> Result<ObjectId, AllocError>
     ensures world { OnOk result (world_of engine.new.world ≡ before_lent (world_of engine.old.world) (with_object definition.now (world_of engine.old.world) (made_object class place.0 (map value_view values.items) peer))) }
     ensures identity { IfOk result (λ id. id.0 ≡ suc (length (world_of engine.old.world).objects)) }
+    ensures live { IfOk result (λ id. IsSome (living (world_of engine.new.world).objects id.0)) }
     ensures quiet { IsQuiet (world_of engine.old.world) (world_of engine.new.world) }
     ensures seats { engine.new.world.seats ≡ engine.old.world.seats }
     ensures counted { ((o : ℕ) → in_values o (specs_of definition.now class) (map value_view values.items) ≡ 0) → OnOk result (KeepsCounts definition.now engine.old engine.new) }
@@ -89,6 +91,7 @@ pub fn make(
         ≡ starts (begun new (world_of engine.new.world)) (Constructing new.object.0 new.steps held ∷ [])) }
     ensures peer { IfOk result (λ new. new.peer ≡ peer) }
     ensures identity { IfOk result (λ new. new.object.0 ≡ suc (length (world_of engine.old.world).objects)) }
+    ensures live { IfOk result (λ new. IsSome (living (world_of engine.new.world).objects new.object.0)) }
     ensures quiet { IsQuiet (world_of engine.old.world) (world_of engine.new.world) }
     ensures seats { engine.new.world.seats ≡ engine.old.world.seats }
     ensures counted { OnOk result (KeepsCounts definition.now engine.old engine.new) }
@@ -135,6 +138,7 @@ pub fn make(
 /// `AllocError` if memory is refused.
 pub fn begin_construction(engine: &mut Engine, new: NewObject, held: bool) -> Result<(), AllocError>
     requires peer { IfSome new.peer (λ number. number < length engine.now.world.seats) }
+    requires may { MayBeHeld engine.now new.object.0 }
     ensures agenda { OnOk result ((d : definition.Definition) → agenda_of d engine.new ≡ Constructing new.object.0 new.steps held ∷ agenda_of d engine.old) }
     ensures world { OnOk result (world_of engine.new.world ≡ begun new (world_of engine.old.world)) }
     ensures quiet { OnErr result (IsQuiet (world_of engine.old.world) (world_of engine.new.world)) }

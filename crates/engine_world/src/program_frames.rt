@@ -1,17 +1,18 @@
 //! Programs that run: what their registers hold, and the results that they wait for.
 
-ghost use Rattle.std.specs.Prelude.{◌≡◌, ℕ, ◌+◌, ◌≤◌, [], ◌∷◌, Some, option_map, OnOk};
+ghost use Rattle.std.specs.Prelude.{◌≡◌, ℕ, ◌+◌, ◌≤◌, [], ◌∷◌, Some, Ok, option_map, OnOk};
 ghost use Rattle.ui_machine.specs.Definition as machine;
 ghost use Rattle.ui_machine.specs.Instructions.Registers.{with_register};
 ghost use Rattle.engine_world.specs.Able.{Able, Leads};
 ghost use Rattle.ui_machine.specs.Rules.Accumulation.{passed_down, received, received_by, taken};
+ghost use Rattle.ui_machine.specs.State.References.{in_register, in_value};
 ghost use Rattle.ui_machine.specs.State.Tasks.{Running};
 ghost use Rattle.g_values.specs.View.{value_view};
 ghost use Rattle.frames.specs.FrameView.{frame_view};
 ghost use Rattle.bytecode.specs.View.{number_of};
 ghost use Rattle.instance_tables.specs.Store.{count_of};
 ghost use Rattle.engine_world.specs.TaskView.{agenda_of};
-ghost use Rattle.engine_world.specs.Counting.{Counts, HoldsTasks, KeepsCounts, OnlyCounts, OnlyTasks, in_frame};
+ghost use Rattle.engine_world.specs.Counting.{Counts, HoldsTasks, KeepsCounts, MayHold, OnlyCounts, OnlyTasks, in_frame};
 
 use crate::engine::Engine;
 use crate::references::{hold_any, let_go_any, register_named};
@@ -24,28 +25,19 @@ use instance_tables::Table;
 use std::alloc::AllocError;
 
 /// Writes a register, or unsets it. What it names then is held, and what it named is let go.
-///
-/// # Errors
-///
-/// `AllocError` if no memory is found.
 #[inline(always)]
-pub fn put(
-    table: &mut Table,
-    frame: &mut Frame,
-    to: Register,
-    value: Option<Value>,
-) -> Result<(), AllocError>
+pub fn put(table: &mut Table, frame: &mut Frame, to: Register, value: Option<Value>)
     requires able { Able (with_register to.0 (option_map value_view value) (frame_view frame.now).registers) }
     requires held { (o : ℕ) → in_frame o (frame_view frame.now) ≤ count_of table.now.counts o }
-    ensures written { Leads result (with_register to.0 (option_map value_view value) (frame_view frame.old).registers) (frame_view frame.new).registers }
+    requires may { MayHold table.now (λ o. in_register o (option_map value_view value)) }
+    ensures written { with_register to.0 (option_map value_view value) (frame_view frame.old).registers ≡ Ok (frame_view frame.new).registers }
     ensures beside { frame_view frame.new ≡ record (frame_view frame.old) { registers = (frame_view frame.new).registers } }
     ensures only { OnlyCounts table.old table.new }
-    ensures counts { OnOk result ((o : ℕ) → count_of table.new.counts o + in_frame o (frame_view frame.old) ≡ count_of table.old.counts o + in_frame o (frame_view frame.new)) }
+    ensures counts { (o : ℕ) → count_of table.new.counts o + in_frame o (frame_view frame.old) ≡ count_of table.old.counts o + in_frame o (frame_view frame.new) }
 {
-    hold_any(table, register_named(&value))?;
+    hold_any(table, register_named(&value));
     let held = frame.put(to, value);
     let_go_any(table, register_named(&held));
-    Ok(())
 }
 
 /// Puts the rest of a program before the other tasks. It goes on to hold what its registers name.
@@ -73,13 +65,14 @@ fn receive(
 ) -> Result<(), AllocError>
     requires able { Able (with_register to.0 (Some (value_view value)) (frame_view frame).registers) }
     requires held { (o : ℕ) → in_frame o (frame_view frame) ≤ count_of engine.now.world.table.counts o }
+    requires may { MayHold engine.now.world.table (λ o. in_value o (value_view value)) }
     ensures agenda { (d : machine.Definition) → Leads result (received_by (frame_view frame) (agenda_of d engine.old) to.0 (Some (value_view value))) (agenda_of d engine.new) }
     ensures only { OnlyTasks engine.old engine.new }
     ensures counted { OnOk result ((d : machine.Definition) (taken : ℕ → ℕ)
         → Counts d (λ o. taken o + in_frame o (frame_view frame)) engine.old → Counts d taken engine.new) }
 {
     frame.into = None;
-    put(&mut engine.world.table, &mut frame, to, Some(value))?;
+    put(&mut engine.world.table, &mut frame, to, Some(value));
     push_frame(engine, frame)?;
     Ok(())
 }
@@ -88,6 +81,7 @@ fn receive(
 fn pass_to(engine: &mut Engine, frame: Frame, value: &Option<Value>) -> Result<(), AllocError>
     requires able { Able (taken (option_map number_of frame.into) (frame_view frame) [] (option_map value_view value.now)) }
     requires held { (o : ℕ) → in_frame o (frame_view frame) ≤ count_of engine.now.world.table.counts o }
+    requires may { MayHold engine.now.world.table (λ o. in_register o (option_map value_view value.now)) }
     ensures agenda { (d : machine.Definition)
         → Leads result (taken (option_map number_of frame.into) (frame_view frame) (agenda_of d engine.old) (option_map value_view value.now)) (agenda_of d engine.new) }
     ensures only { OnlyTasks engine.old engine.new }
@@ -116,6 +110,7 @@ pub fn pass_answer(
 ) -> Result<(), AllocError>
     requires able { Able (received (agenda_of definition.now engine.now) to.0 (Some (value_view value))) }
     requires held { HoldsTasks definition.now engine.now }
+    requires may { MayHold engine.now.world.table (λ o. in_value o (value_view value)) }
     ensures agenda { Leads result (received (agenda_of definition.now engine.old) to.0 (Some (value_view value))) (agenda_of definition.now engine.new) }
     ensures only { OnlyTasks engine.old engine.new }
     ensures counted { OnOk result (KeepsCounts definition.now engine.old engine.new) }
@@ -143,6 +138,7 @@ pub fn pass_down(
 ) -> Result<(), AllocError>
     requires able { Able (passed_down (agenda_of definition.now engine.now) (option_map value_view value.now)) }
     requires held { HoldsTasks definition.now engine.now }
+    requires may { MayHold engine.now.world.table (λ o. in_register o (option_map value_view value.now)) }
     ensures agenda { Leads result (passed_down (agenda_of definition.now engine.old) (option_map value_view value.now)) (agenda_of definition.now engine.new) }
     ensures only { OnlyTasks engine.old engine.new }
     ensures counted { OnOk result (KeepsCounts definition.now engine.old engine.new) }

@@ -4,7 +4,7 @@
 //! built, and a task holds its object from when it comes before the others until it is done. An emission holds its arguments, and the value
 //! that it has accumulated, from its beginning to its end, and a program what its registers name.
 
-ghost use Rattle.std.specs.Prelude.{◌≡◌, ℕ, ◌+◌, ◌≤◌, List, ◌∷◌, map, option_map, true, IsSome, OnOk};
+ghost use Rattle.std.specs.Prelude.{◌≡◌, ℕ, ◌+◌, ◌<◌, ◌≤◌, ◌^◌, List, ◌∷◌, map, option_map, None, true, IsSome, OnOk};
 ghost use Rattle.ui_machine.specs.Definition as machine;
 ghost use Rattle.ui_machine.specs.Seq.{total};
 ghost use Rattle.ui_machine.specs.State.Handlers.{Handler};
@@ -16,7 +16,7 @@ ghost use Rattle.instance_tables.specs.Store.{id_of, count_of, may_hold, named_b
 ghost use Rattle.engine_world.specs.KnownHandlers.{TakesKnownHandlers};
 ghost use Rattle.engine_world.specs.View.{world_of};
 ghost use Rattle.engine_world.specs.TaskView.{task_of, task_in, agenda_of};
-ghost use Rattle.engine_world.specs.Counting.{Connects, IsCounted, OnlyCounts, KeepsCounts, in_given, in_subject};
+ghost use Rattle.engine_world.specs.Counting.{Connects, IsCounted, MayHold, MayPush, OnlyCounts, KeepsCounts, in_given, in_subject};
 
 use crate::engine::Engine;
 use crate::task::Task;
@@ -26,24 +26,17 @@ use signal_core::Cursor;
 use std::alloc::AllocError;
 use ui_machine::ObjectId;
 
-/// Holds an object, if there is one, once more. It refuses one that does not live, or that is held as often as may be.
-///
-/// # Errors
-///
-/// `AllocError` if memory is refused.
+/// Holds an object, if there is one, once more. It lives, and may be held so.
 #[inline(always)]
-pub fn hold_any(table: &mut Table, id: Option<ObjectId>) -> Result<(), AllocError>
+pub fn hold_any(table: &mut Table, id: Option<ObjectId>)
+    requires may { MayHold table.now (λ o. in_option o (id_of id)) }
     ensures only { OnlyCounts table.old table.new }
-    ensures counts { OnOk result ((o : ℕ) → count_of table.new.counts o ≡ count_of table.old.counts o + in_option o (id_of id)) }
+    ensures counts { (o : ℕ) → count_of table.new.counts o ≡ count_of table.old.counts o + in_option o (id_of id) }
 {
     let Some(id) = id else {
-        return Ok(());
+        return;
     };
-    if !table.can_hold(id) {
-        return Err(AllocError);
-    }
     table.hold(id);
-    Ok(())
 }
 
 /// Lets an object go, if there is one.
@@ -70,14 +63,14 @@ pub fn named(value: &Value) -> Option<ObjectId>
 }
 
 /// Holds each object that one of these values names once more.
-fn hold_values(table: &mut Table, values: &[Value]) -> Result<(), AllocError>
+fn hold_values(table: &mut Table, values: &[Value])
+    requires may { MayHold table.now (λ o. total (in_value o) (map value_view values.now)) }
     ensures only { OnlyCounts table.old table.new }
-    ensures counts { OnOk result ((o : ℕ) → count_of table.new.counts o ≡ count_of table.old.counts o + total (in_value o) (map value_view values.now)) }
+    ensures counts { (o : ℕ) → count_of table.new.counts o ≡ count_of table.old.counts o + total (in_value o) (map value_view values.now) }
 {
     for value in values {
-        hold_any(table, named(value))?;
+        hold_any(table, named(value));
     }
-    Ok(())
 }
 
 /// Lets each object go that one of these values names.
@@ -139,14 +132,14 @@ pub(crate) fn register_named(register: &Option<Value>) -> Option<ObjectId>
 }
 
 // Holds each object that one of these registers names once more.
-fn hold_registers(table: &mut Table, registers: &[Option<Value>]) -> Result<(), AllocError>
+fn hold_registers(table: &mut Table, registers: &[Option<Value>])
+    requires may { MayHold table.now (λ o. total (in_register o) (registers_of registers.now)) }
     ensures only { OnlyCounts table.old table.new }
-    ensures counts { OnOk result ((o : ℕ) → count_of table.new.counts o ≡ count_of table.old.counts o + total (in_register o) (registers_of registers.now)) }
+    ensures counts { (o : ℕ) → count_of table.new.counts o ≡ count_of table.old.counts o + total (in_register o) (registers_of registers.now) }
 {
     for register in registers {
-        hold_any(table, register_named(register))?;
+        hold_any(table, register_named(register));
     }
-    Ok(())
 }
 
 /// Lets each object go that one of these registers names.
@@ -161,57 +154,63 @@ pub fn let_go_registers(table: &mut Table, registers: &[Option<Value>])
 }
 
 // Holds what an emission holds beside its object, and what the registers of a program name.
-fn hold_given(table: &mut Table, task: &Task) -> Result<(), AllocError>
+fn hold_given(table: &mut Table, task: &Task)
+    requires may { (d : machine.Definition) (hs : List Handler) → MayHold table.now (λ o. in_given o (task_of d hs task.now)) }
     ensures only { OnlyCounts table.old table.new }
-    ensures counts { OnOk result ((d : machine.Definition) (hs : List Handler) (o : ℕ) → count_of table.new.counts o ≡ count_of table.old.counts o + in_given o (task_of d hs task.now)) }
+    ensures counts { (d : machine.Definition) (hs : List Handler) (o : ℕ) → count_of table.new.counts o ≡ count_of table.old.counts o + in_given o (task_of d hs task.now) }
 {
     match task {
         Task::Beginning(emission) => hold_values(table, emission.args.as_slice()),
         Task::Emitting { cursor, args, .. } => hold_emitted(table, cursor, args.as_slice()),
-        Task::Setting { .. } => Ok(()),
-        Task::Notifying { .. } => Ok(()),
-        Task::Transferring { .. } => Ok(()),
-        Task::Unsetting { .. } => Ok(()),
+        Task::Setting { .. } => {}
+        Task::Notifying { .. } => {}
+        Task::Transferring { .. } => {}
+        Task::Unsetting { .. } => {}
         Task::Running(frame) => hold_registers(table, frame.registers.as_slice()),
-        Task::Thawing { .. } => Ok(()),
-        Task::Constructing { .. } => Ok(()),
-        Task::Building { .. } => Ok(()),
-        Task::Adopting { .. } => Ok(()),
-        Task::Binding { .. } => Ok(()),
-        Task::Connecting { .. } => Ok(()),
-        Task::Answering { .. } => Ok(()),
+        Task::Thawing { .. } => {}
+        Task::Constructing { .. } => {}
+        Task::Building { .. } => {}
+        Task::Adopting { .. } => {}
+        Task::Binding { .. } => {}
+        Task::Connecting { .. } => {}
+        Task::Answering { .. } => {}
         Task::Calling(call) => hold_values(table, call.args.as_slice()),
-        Task::Handling(_) => Ok(()),
-        Task::Due { .. } => Ok(()),
+        Task::Handling(_) => {}
+        Task::Due { .. } => {}
     }
 }
 
 // Holds the arguments of an emission, and the value that it has accumulated.
-fn hold_emitted(table: &mut Table, cursor: &Cursor, args: &[Value]) -> Result<(), AllocError>
+fn hold_emitted(table: &mut Table, cursor: &Cursor, args: &[Value])
+    requires may { MayHold table.now (λ o. total (in_value o) (map value_view args.now) + in_register o cursor.now.value) }
     ensures only { OnlyCounts table.old table.new }
-    ensures counts { OnOk result ((o : ℕ) → count_of table.new.counts o
-        ≡ count_of table.old.counts o + (total (in_value o) (map value_view args.now) + in_register o cursor.now.value)) }
+    ensures counts { (o : ℕ) → count_of table.new.counts o
+        ≡ count_of table.old.counts o + (total (in_value o) (map value_view args.now) + in_register o cursor.now.value) }
 {
-    hold_values(table, args)?;
-    hold_any(table, accumulated(cursor))
+    hold_values(table, args);
+    hold_any(table, accumulated(cursor));
 }
 
 /// Where each object is counted as often as it is mentioned, no count is at its end, so that what lives may be held once more: what is counted
-/// is kept in lists, and no list is longer than memory. It looks at no object.
+/// is kept in lists, and no list is longer than memory. What does not live is not counted. It looks at no object.
 pub fn never_full(engine: &Engine)
-    ensures { (d : machine.Definition) → IsCounted d engine.now → (o : ℕ) → IsSome (living engine.now.world.table.objects o) → may_hold engine.now.world.table o ≡ true }
+    ensures may { (d : machine.Definition) → IsCounted d engine.now → (o : ℕ) → IsSome (living engine.now.world.table.objects o) → may_hold engine.now.world.table o ≡ true }
+    ensures room { (d : machine.Definition) → IsCounted d engine.now → (o : ℕ) → count_of engine.now.world.table.counts o + 2 ^ 64 < 2 ^ 128 }
+    ensures dead { (o : ℕ) → living engine.now.world.table.objects o ≡ None → count_of engine.now.world.table.counts o ≡ 0 }
 {
     engine.world.table.hold_few();
     engine.world.context.len();
+    engine.world.table.next_unheld();
 }
 
-/// Puts a task before the others, which holds its objects from then on.
+/// Puts a task before the others, which holds its objects from then on: they live.
 ///
 /// # Errors
 ///
 /// `AllocError` if memory is refused.
 pub fn push_task(engine: &mut Engine, task: Task) -> Result<(), AllocError>
-    requires { TakesKnownHandlers engine.now.world.handlers.last task }
+    requires begun { TakesKnownHandlers engine.now.world.handlers.last task }
+    requires may { MayPush engine.now task }
     ensures agenda { OnOk result ((d : machine.Definition) → agenda_of d engine.new ≡ task_in d engine.old task ∷ agenda_of d engine.old) }
     ensures world { world_of engine.new.world ≡ world_of engine.old.world }
     ensures same { engine.new.counted ≡ engine.old.counted }
@@ -219,8 +218,10 @@ pub fn push_task(engine: &mut Engine, task: Task) -> Result<(), AllocError>
     ensures counted { OnOk result ((d : machine.Definition) → KeepsCounts d engine.old engine.new) }
     ensures connects { OnOk result ((d : machine.Definition) → Connects d engine.old → Connects d engine.new) }
 {
-    hold_any(&mut engine.world.table, task.object())?;
-    hold_given(&mut engine.world.table, &task)?;
+    // For the proof: what lives may be held so often.
+    never_full(engine);
+    hold_any(&mut engine.world.table, task.object());
+    hold_given(&mut engine.world.table, &task);
     engine.stack.push(task)?;
     Ok(())
 }

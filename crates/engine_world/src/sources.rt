@@ -4,11 +4,11 @@ ghost use Rattle.std.specs.Prelude.{◌≡◌, ℕ, ◌+◌, ◌≤◌, cond, op
 ghost use Rattle.ui_machine.specs.Definition as machine;
 ghost use Rattle.ui_machine.specs.Seq.{total};
 ghost use Rattle.ui_machine.specs.Rules.MainLoop.{answered};
-ghost use Rattle.ui_machine.specs.State.References.{in_source};
+ghost use Rattle.ui_machine.specs.State.References.{in_option, in_source};
 ghost use Rattle.ui_machine.specs.State.Sources.{has_room, without_program};
 ghost use Rattle.instance_tables.specs.Store.{count_of, id_of};
 ghost use Rattle.main_context.specs.Dues.{identity_of};
-ghost use Rattle.engine_world.specs.Counting.{KeepsCounts, OnlyCounts};
+ghost use Rattle.engine_world.specs.Counting.{KeepsCounts, MayHold, OnlyCounts};
 ghost use Rattle.engine_world.specs.Quiet.{IsQuiet};
 ghost use Rattle.engine_world.specs.SourceView.{HoldsSources, with_new_source};
 ghost use Rattle.engine_world.specs.View.{world_of};
@@ -54,6 +54,7 @@ impl NewSource {
 ///
 /// `AllocError` if memory is refused.
 pub fn attach_source(engine: &mut Engine, source: NewSource) -> Result<bool, AllocError>
+    requires may { MayHold engine.now.world.table (λ o. in_option o (id_of source.arg)) }
     ensures room { IfOk result (λ b. b ≡ has_room (world_of engine.old.world).sources (world_of engine.old.world).last_source) }
     ensures world { IfOk result (λ b. world_of engine.new.world ≡ cond b (with_new_source (world_of engine.old.world) source) (world_of engine.old.world)) }
     ensures quiet { IsQuiet (world_of engine.old.world) (world_of engine.new.world) }
@@ -66,7 +67,7 @@ pub fn attach_source(engine: &mut Engine, source: NewSource) -> Result<bool, All
         Err(AttachError::SourceLimit) => return Ok(false),
         Err(AttachError::OutOfMemory) => return Err(AllocError),
     }
-    hold_any(&mut engine.world.table, source.arg)?;
+    hold_any(&mut engine.world.table, source.arg);
     Ok(true)
 }
 

@@ -1,1 +1,1 @@
-mod LivingProofs
+pub mod LivingProofs

@@ -206,7 +206,7 @@ rests_name_living d a w rest = record {
 
 module _ (d : Definition) (well : WellRead d) (a : Accepted d) where
   -- what begins well goes on so
-  throughout : (most : ℕ) → most ≤ most_steps → (c : Config) → IsGood d a most c → Throughout d c (AllNamesLiving d)
+  pub throughout : (most : ℕ) → most ≤ most_steps → (c : Config) → IsGood d a most c → Throughout d c (AllNamesLiving d)
   throughout most few c good replies fit at reached =
       all_living d a.weighed.costs a.weighed.depths most (depth (graph d) a.weighed.depths) at (stays steps_keep_good d well a most few replies fit c at good reached)
 

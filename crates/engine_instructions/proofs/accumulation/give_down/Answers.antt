@@ -1,4 +1,4 @@
-use Rattle.std.proofs.Common.{◌≡◌, List, [], ◌∷◌, option_map, refl, sym, subst, ap, ◌∙◌, arith}
+use Rattle.std.proofs.Common.{◌≡◌, ℕ, List, [], ◌∷◌, option_map, refl, sym, subst, ap, ◌∙◌, arith}
 use Rattle.ui_machine.specs.Rules.Accumulation.{given_down}
 use Rattle.ui_machine.specs.Seq.{total}
 use Rattle.ui_machine.specs.State.References.{in_task}
@@ -11,6 +11,7 @@ use Rattle.engine_world.specs.View.{world_of}
 use Rattle.engine_world.specs.declared.task.Task as code
 use Rattle.engine_world.specs.declared.task.Task.TheVariants as tasks
 use Rattle.engine_instructions.proofs.Collecting.{TakesNone, gives_last, gives_nothing, gives_other, gives_source, popped_emission, popped_source, source_able}
+use Rattle.engine_instructions.proofs.Holding.{counted_may}
 use Rattle.engine_world.proofs.Left.{same_agenda}
 use Rattle.engine_world.proofs.Registers.{on_ok, stack_same}
 use Rattle.engine_instructions.proofs.accumulation.give_down.Goals as goal
@@ -73,13 +74,16 @@ accumulate-requires c =
     let known = subst (λ (t : code.Task). TakesKnownHandlers last t) c.in-Emitting.is (c.in-Some.ensures.first last c.requires.begun) in
     let d = c.args.definition.now in
     let hs = c.args.engine.now.world.handlers.handlers in
+    let e = c.args.engine.now in
+    let first = λ (o : ℕ). ap (λ (ts : List Task). total (in_task o) ts) (c.in-Some.ensures.tasks d hs) in
+    let emission = λ (o : ℕ). ap (λ (t : code.Task). in_task o (task_of d hs t)) c.in-Emitting.is in
     let tasks = c.in-Some.ensures.tasks d hs ∙ ap (λ (t : code.Task). task_of d hs t ∷ tasks_of d hs c.pop.new.self) c.in-Emitting.is in
     record {
       able = subst (λ (ts : List Task). Able (given_down d (world_of c.args.engine.now.world) ts (option_map value_view c.args.given))) tasks c.requires.able;
-      held = λ o.
-          let first = ap (λ (ts : List Task). total (in_task o) ts) (c.in-Some.ensures.tasks d hs) in
-          let emission = ap (λ (t : code.Task). in_task o (task_of d hs t)) c.in-Emitting.is in
-          omega (arith, c.requires.held.at o, first, emission);
+      held = λ o. omega (arith, c.requires.held.at o, first o, emission o);
+      may = c.requires.may;
+      again =
+          counted_may d e c.in-Emitting.cursor.value c.never_full.ensures.room c.never_full.ensures.dead c.requires.counted (λ o. omega (arith, c.requires.held.at o, first o, emission o));
       begun = known.0;
       ends = known.1;
     }

@@ -5,8 +5,10 @@ use Rattle.frames.specs.FrameView.{frame_view}
 use Rattle.engine_world.specs.Counting.{nothing}
 use Rattle.engine_world.specs.TaskView.{agenda_of, call_of}
 use Rattle.engine_world.specs.View.{world_of}
+use Rattle.engine_world.proofs.Held.{pushes_living}
+use Rattle.engine_instructions.proofs.Holding.{all_counted, begun_names, call_lives}
 use Rattle.engine_instructions.proofs.PeerCalls.{calls, due_able}
-use Rattle.engine_instructions.proofs.Pushed.{count_pushed, frame_held, world_pushed}
+use Rattle.engine_instructions.proofs.Pushed.{count_pushed, frame_held, lives_pushed, world_pushed}
 use Rattle.engine_instructions.proofs.Starting.{started_left}
 use Rattle.engine_instructions.proofs.calls.call_from_program.Goals as goal
 
@@ -18,6 +20,19 @@ due_call-requires c =
     record {
       able = due_able d (world_of e.world) (frame_view c.args.frame) call.to.0 call.object.0 (string_bytes call.method) (map number_of call.args.items) e.counted (agenda_of d e) c.requires.able;
     }
+
+pub push_task-requires-clause-may : goal.push_task-requires-clause-may
+push_task-requires-clause-may c =
+    let d = c.args.definition.now in
+    let e = c.args.engine.now in
+    let w = world_of e.world in
+    let b = c.push_frame.new.engine in
+    let call = c.args.call.now in
+    let due = call_of c.in_ok-due.due in
+    let f = frame_view c.args.frame in
+    let names = begun_names e.counted (agenda_of d e) _ w (Calling due) f (calls d w f call.to.0 call.object.0 (string_bytes call.method) (map number_of call.args.items) due c.in_ok-due.ensures) c.requires.names in
+    pushes_living d b _ (all_counted d b (frame_held d e b f (c.in_ok-push_frame.ensures.counted d) c.requires.counted))
+    (λ _ o held. lives_pushed d e b f c.push_frame.ensures.beside o (call_lives w due o names held))
 
 pub returns-clause-step : goal.returns-clause-step
 returns-clause-step c =

@@ -32,6 +32,7 @@ write_register-requires c =
       able = written_able d e c.connect_handler.new.engine (frame_view c.args.frame) c.args.to.0 c.args.object.0 (connect_view c.args.connect.now) (connection_of c.in_ok-connection.connection) c.in_ok-outcome.outcome
           c.in_ok-connection.ensures.connection c.in_ok-outcome.ensures.outcome c.in_ok-outcome.ensures.agenda c.connect_handler.ensures.same
           c.is_connected-is_connected.result c.is_connected-is_connected.ensures c.requires.able;
+      names = refl;
       counted = c.in_ok-outcome.ensures.counted.at _ c.requires.counted;
     }
 

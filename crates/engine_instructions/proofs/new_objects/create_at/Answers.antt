@@ -1,10 +1,13 @@
-use Rattle.std.proofs.Common.{◌≡◌, ◌<◌, ℕ, IfSome, List, Option, length, false, ap, subst, sym, ◌∙◌}
+use Rattle.std.proofs.Common.{◌≡◌, ◌<◌, ℕ, IfSome, IsSome, List, Option, length, false, ap, subst, sym, ◌∙◌}
 use Rattle.std.proofs.lemmas.Result.{err_from_is_err_and}
 use Rattle.ui_machine.specs.Definition.Values as values
+use Rattle.ui_machine.specs.Definition.Values.{Value}
 use Rattle.std.specs.Prelude.{Some}
 use Rattle.ui_machine.specs.State.Config.{World}
+use Rattle.ui_machine.specs.State.Objects.{living}
 use Rattle.ui_machine.specs.State.Peers.{Peer}
 use Rattle.ui_machine.specs.State.Tasks.{Constructing}
+use Rattle.law_typing.specs.Good.Living.{NamesLiving}
 use Rattle.frames.specs.FrameView.{frame_view}
 use Rattle.g_values.specs.View.{value_view}
 use Rattle.engine_world.specs.Counting.{nothing}
@@ -12,6 +15,7 @@ use Rattle.engine_world.specs.TaskView.{agenda_of}
 use Rattle.engine_world.specs.NewObjects.{begun}
 use Rattle.engine_world.specs.View.{world_of}
 use Rattle.engine_instructions.proofs.Creating.{create_world, create_written, made_able, write_able}
+use Rattle.engine_instructions.proofs.Holding.{lives_held}
 use Rattle.engine_world.proofs.Ableness.{instructed}
 use Rattle.engine_world.proofs.Building.{makes_any}
 use Rattle.engine_world.proofs.Left.{same_agenda}
@@ -36,6 +40,7 @@ write_register-requires c =
       able = write_able d e m (frame_view c.args.frame) c.args.to.0 c.args.place.0 c.args.peer (begun new (world_of m.world)) (Constructing new.object.0 new.steps false) (value_view c.object_value.result)
           (c.in_ok-new.ensures.made false) (same_agenda d e m c.make.ensures.same.0 c.make.ensures.handlers) c.make.ensures.same.1
           (c.object_value.ensures ∙ ap (λ n. values.object (Some n)) c.in_ok-new.ensures.identity) c.requires.able;
+      names = subst (λ (v : Value). NamesLiving (world_of m.world) v) (sym c.object_value.ensures) c.in_ok-new.ensures.live;
       counted = c.in_ok-new.ensures.counted.at _ c.requires.counted;
     }
 
@@ -58,6 +63,7 @@ begin_construction-requires c =
       peer =
           subst (λ (peer : Option ℕ). IfSome peer (λ number. number < length (world_of c.write_register.new.engine.world).peers)) (sym c.in_ok-new.ensures.peer)
           (subst (λ (ps : List Peer). IfSome c.args.peer (λ number. number < length ps)) (sym seats) c.requires.peer);
+      may = lives_held d c.write_register.new.engine new.object.0 c.in_ok-write_register.ensures.counted (subst (λ (w : World). IsSome (living w.objects new.object.0)) (sym world) c.in_ok-new.ensures.live);
     }
 
 pub returns-clause-step : goal.returns-clause-step

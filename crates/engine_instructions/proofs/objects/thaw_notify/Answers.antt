@@ -1,4 +1,4 @@
-use Rattle.std.proofs.Common.{List, ℕ, [], ◌∷◌, ap, reverse, ◌∙◌}
+use Rattle.std.proofs.Common.{List, ℕ, [], ◌∷◌, refl, ap, reverse, ◌∙◌}
 use Rattle.frames.specs.FrameView.{frame_view}
 use Rattle.ui_machine.specs.Instructions.Objects.{thaw_notify}
 use Rattle.ui_machine.specs.Rules.NotifyQueue.{frozen_less}
@@ -8,13 +8,16 @@ use Rattle.engine_world.specs.Counting.{in_frame, nothing}
 use Rattle.engine_world.specs.TaskView.{agenda_of}
 use Rattle.engine_world.specs.View.{world_of}
 use Rattle.engine_world.proofs.Counts.{frozen_alike, keeps_change, with_table}
+use Rattle.engine_world.proofs.Held.{pushes_one}
+use Rattle.engine_instructions.proofs.Holding.{lives_held}
 use Rattle.engine_instructions.proofs.Jumping.{stuck_left}
 use Rattle.engine_instructions.proofs.ObjectSteps.{thaw_none, thaw_stuck, thaws}
-use Rattle.engine_instructions.proofs.Pushed.{count_pushed, frame_held, objects_world, world_pushed}
+use Rattle.engine_instructions.proofs.Pushed.{count_pushed, frame_held, lives_pushed, objects_world, world_pushed}
 use Rattle.engine_world.proofs.Registers.{stops_left}
 use Rattle.engine_instructions.proofs.Starting.{started_left}
 use Rattle.ui_machine.specs.declared.arm.Halt.TheVariants as halts
 use Rattle.engine_world.proofs.Ableness.{is_ok, no_arm, none_stops}
+use Rattle.engine_world.proofs.LivingObjects.{lives_on}
 use Rattle.engine_instructions.proofs.objects.thaw_notify.Goals as goal
 
 pub object_in-object-requires : goal.object_in-object-requires
@@ -37,6 +40,21 @@ thaw-slots-requires c = record {
       (stuck_left c.args.definition.now e (thaw_notify w f c.args.object.0) arm
       (thaw_stuck w f c.args.object.0 c.object_in-object.result.0 c.object_in-object.ensures arm is)));
 }
+
+pub push_task-requires-clause-may : goal.push_task-requires-clause-may
+push_task-requires-clause-may c =
+    let d = c.args.definition.now in
+    let e = c.args.engine.now in
+    let f = frame_view c.args.frame in
+    let t = c.thaw-slots.new.self in
+    let m = with_table e t in
+    let b = c.push_frame.new.engine in
+    let id = c.object_in-object.result.0 in
+    let changes = c.thaw-slots.ensures.changes in
+    pushes_one b _ id (λ d o. refl)
+    (lives_held d b id
+    (frame_held d m b f (c.in_ok-push_frame.ensures.counted d) ((keeps_change d e t id frozen_less _ (frozen_alike d) changes c.thaw-slots.ensures.beside).at (λ o. in_frame o f) c.requires.counted))
+    (lives_pushed d m b f c.push_frame.ensures.beside id (lives_on e.world.table.objects id frozen_less _ changes)))
 
 pub returns-clause-step : goal.returns-clause-step
 returns-clause-step c =

@@ -1,4 +1,4 @@
-use Rattle.std.proofs.Common.{ap}
+use Rattle.std.proofs.Common.{Some, ap}
 use Rattle.ui_machine.specs.Instructions.{in_front}
 use Rattle.ui_machine.specs.State.Config.{Started}
 use Rattle.ui_machine.specs.Outcome.{Answer}
@@ -8,6 +8,7 @@ use Rattle.frames.specs.FrameView.{frame_view}
 use Rattle.engine_world.specs.TaskView.{agenda_of}
 use Rattle.engine_world.specs.View.{world_of}
 use Rattle.engine_world.proofs.Ableness.{able_as, instructed}
+use Rattle.engine_world.proofs.Named.{names_as, written_names}
 use Rattle.engine_instructions.proofs.PropertySteps.{get_operand, get_readable, gets}
 use Rattle.engine_instructions.proofs.properties.get_property.Goals as goal
 
@@ -34,6 +35,17 @@ write_register-requires-clause-able c =
     (ap (λ (a : Answer Started). left e.counted (in_front (agenda_of d e) a))
     (gets d (world_of e.world) (frame_view c.args.frame) c.args.to.0 c.args.object.0 c.args.property.now c.object_in-object.result.0 c.object_in-object.ensures (value_view c.in_ok-value.value) c.in_ok-value.ensures))
     c.requires.able
+
+pub write_register-requires-clause-names : goal.write_register-requires-clause-names
+write_register-requires-clause-names c =
+    let d = c.args.definition.now in
+    let e = c.args.engine.now in
+    let w = world_of e.world in
+    let f = frame_view c.args.frame in
+    let v = value_view c.in_ok-value.value in
+    let there = ap (λ (a : Answer Started). left e.counted (in_front (agenda_of d e) a))
+    (gets d w f c.args.to.0 c.args.object.0 c.args.property.now c.object_in-object.result.0 c.object_in-object.ensures v c.in_ok-value.ensures) in
+    written_names e.counted (agenda_of d e) w c.args.to.0 (Some v) f (able_as there c.requires.able) (names_as there c.requires.names)
 
 pub returns-clause-step : goal.returns-clause-step
 returns-clause-step c =

@@ -10,6 +10,7 @@ use Rattle.ui_machine.specs.State.Config.{World}
 use Rattle.engine_world.specs.Counting.{Counts, KeepsCounts, nothing}
 use Rattle.engine_world.specs.TaskView.{agenda_of}
 use Rattle.engine_world.specs.View.{world_of}
+use Rattle.engine_instructions.proofs.Holding.{all_counted}
 use Rattle.engine_instructions.proofs.Jumping.{stuck_left}
 use Rattle.engine_instructions.proofs.PropertySteps.{tell_no_spec, tell_operand, tell_slot, tells, tells_nothing}
 use Rattle.engine_instructions.proofs.Pushed.{count_pushed, frame_held, leads_before, raising_able, world_pushed}
@@ -54,6 +55,10 @@ raise-requires c = record {
       let readable : is_readable s ≡ true = search rules in
       raising_able d e c.push_frame.new.engine f c.push_frame.ensures.beside (λ (v : World). raising v id slot)
       (able_as (tells d (world_of e.world) f c.args.object.0 c.args.property.now id c.object_in-object.ensures slot c.slot_at-slot.ensures s c.spec_of-spec.ensures.spec readable) (instructed e.counted (agenda_of d e) _ c.requires.able));
+  counted =
+      let d = c.args.definition.now in
+      let b = c.push_frame.new.engine in
+      all_counted d b (frame_held d c.args.engine.now b (frame_view c.args.frame) (c.in_ok-push_frame.ensures.counted d) c.requires.counted);
 }
 
 pub returns-then-not-is_readable-clause-step : goal.returns-then-not-is_readable-clause-step

@@ -1,10 +1,11 @@
-use Rattle.std.proofs.Common.{rules}
+use Rattle.std.proofs.Common.{refl, rules}
 use Rattle.ui_machine.specs.Rules.NotifyQueue.{raised}
 use Rattle.ui_machine.specs.Rules.Sets.{raising}
 use Rattle.ui_machine.specs.State.Objects.{changed}
 use Rattle.engine_world.proofs.Ableness.{first, in_uncounted}
-use Rattle.engine_world.proofs.Counts.{keeps_on, keeps_change, raised_alike}
-use Rattle.engine_world.proofs.LivingObjects.{lives_changed}
+use Rattle.engine_world.proofs.Counts.{keeps_on, keeps_change, raised_alike, still_counted, with_table}
+use Rattle.engine_world.proofs.Held.{pushes_one}
+use Rattle.engine_world.proofs.LivingObjects.{lives_changed, lives_on}
 use Rattle.engine_instructions.proofs.properties.raise.Goals as goal
 
 pub add-requires : goal.add-requires
@@ -15,6 +16,19 @@ add-requires c = record {
       lives_changed e.world.table.objects c.args.object.0 (raised c.args.slot)
       (first (changed e.world.table.objects c.args.object.0 (raised c.args.slot)) _ (in_uncounted _ e.counted _ c.requires.able));
 }
+
+pub push_task-requires-clause-may : goal.push_task-requires-clause-may
+push_task-requires-clause-may c =
+    let d = c.args.definition.now in
+    let e = c.args.engine.now in
+    let id = c.args.object.0 in
+    let t = c.add.new.self in
+    let changes = c.in_ok-add.ensures.changes in
+    pushes_one (with_table e t) _ id (λ d o. refl) (record {
+      d = d;
+      counted = still_counted d e (with_table e t) (keeps_change d e t id (raised c.args.slot) _ (raised_alike d c.args.slot) changes c.add.ensures.beside) c.requires.counted;
+      lives = lives_on e.world.table.objects id (raised c.args.slot) _ changes;
+    })
 
 pub returns-in_ok-push_task-clause-step : goal.returns-in_ok-push_task-clause-step
 unfolding raising

@@ -1,4 +1,4 @@
-use Rattle.std.proofs.Common.{[], ◌∷◌, ap, ◌∙◌}
+use Rattle.std.proofs.Common.{[], ◌∷◌, refl, ap, ◌∙◌}
 use Rattle.g_values.specs.View.{value_view}
 use Rattle.frames.specs.FrameView.{frame_view}
 use Rattle.ui_machine.specs.Instructions.Properties.{set_property}
@@ -6,8 +6,11 @@ use Rattle.ui_machine.specs.State.Tasks.{Setting}
 use Rattle.engine_world.specs.Counting.{nothing}
 use Rattle.engine_world.specs.TaskView.{agenda_of}
 use Rattle.engine_world.specs.View.{world_of}
+use Rattle.engine_world.proofs.Held.{pushes_one}
+use Rattle.engine_instructions.proofs.Holding.{lives_held}
+use Rattle.engine_instructions.proofs.ObjectSteps.{operand_lives}
 use Rattle.engine_instructions.proofs.PropertySteps.{set_operand, set_slot, set_value, sets, settable_is, settable_named}
-use Rattle.engine_instructions.proofs.Pushed.{count_pushed, frame_held, world_pushed}
+use Rattle.engine_instructions.proofs.Pushed.{count_pushed, frame_held, lives_pushed, world_pushed}
 use Rattle.engine_world.proofs.Ableness.{instructed}
 use Rattle.engine_instructions.proofs.Starting.{started_left}
 use Rattle.engine_instructions.proofs.properties.set_property.Goals as goal
@@ -41,6 +44,17 @@ value_in-requires c = record {
       let is = settable_is d w id c.args.property.now c.slot_at-slot.result c.slot_at-slot.ensures (set_slot d w f c.args.object.0 c.args.property.now c.args.from.0 id c.object_in-object.ensures may) in
       set_value d w f c.args.object.0 c.args.property.now c.args.from.0 id c.object_in-object.ensures c.slot_at-slot.result is may;
 }
+
+pub push_task-requires-clause-may : goal.push_task-requires-clause-may
+push_task-requires-clause-may c =
+    let d = c.args.definition.now in
+    let e = c.args.engine.now in
+    let f = frame_view c.args.frame in
+    let b = c.push_frame.new.engine in
+    let id = c.object_in-object.result.0 in
+    pushes_one b _ id (λ d o. refl)
+    (lives_held d b id (frame_held d e b f (c.in_ok-push_frame.ensures.counted d) c.requires.counted)
+    (lives_pushed d e b f c.push_frame.ensures.beside id (operand_lives (world_of e.world) f c.args.object.0 id c.object_in-object.ensures)))
 
 pub returns-clause-step : goal.returns-clause-step
 returns-clause-step c =

@@ -16,6 +16,7 @@ use Rattle.engine_world.proofs.Left.{same_agenda}
 use Rattle.engine_world.proofs.Quiets.{quiet_same}
 use Rattle.engine_world.proofs.Registers.{going_left, register_moved, stops_left, table_world, write_stops, writes_register}
 use Rattle.engine_world.proofs.Ableness.{no_arm, none_stops}
+use Rattle.engine_instructions.proofs.Holding.{written_may}
 use Rattle.engine_instructions.proofs.registers.write_null_and_say_limit.Goals as goal
 
 pub put-requires : goal.put-requires
@@ -29,6 +30,7 @@ put-requires c = record {
       (stops_left e.counted (agenda_of d e) (written_to w c.args.to.0 (Some (value_view c.args.value)) f) (halts.Stuck arm)
       (write_stops w f c.args.to.0 (Some (value_view c.args.value)) (halts.Stuck arm) none)));
   held = λ o. omega (arith, c.requires.counted.exact o);
+  may = written_may c.args.definition.now c.args.engine.now c.args.frame c.never_full.ensures.room c.requires.counted (Some (value_view c.args.value)) c.requires.names;
 }
 
 pub returns-clause-step : goal.returns-clause-step
@@ -41,7 +43,7 @@ returns-clause-step c =
     let b = c.push_frame.new.engine in
     let world = ap (λ (x : Engine). world_of x.world) c.push_frame.ensures.beside ∙ table_world e c.put.new.table c.put.ensures.only in
     going_left e.counted (agenda_of d e) (written_to w c.args.to.0 (Some (value_view c.args.value)) f) w new _ _ _
-    (writes_register w f c.args.to.0 (Some (value_view c.args.value)) new.registers c.in_ok-put.ensures.written ∙ ap (λ (x : Frame). goes_on w [] x) (sym c.put.ensures.beside))
+    (writes_register w f c.args.to.0 (Some (value_view c.args.value)) new.registers c.put.ensures.written ∙ ap (λ (x : Frame). goes_on w [] x) (sym c.put.ensures.beside))
     (c.in_ok-say_limit.ensures.ok ∙ ap (λ (v : World). said d v (lines.limit c.args.word.now)) world)
     (same_agenda d b c.say_limit.new.engine c.say_limit.ensures.same.0 c.say_limit.ensures.handlers ∙ c.in_ok-push_frame.ensures.agenda d)
     (c.say_limit.ensures.same.1 ∙ ap (λ (x : Engine). x.counted) c.push_frame.ensures.beside)
@@ -61,5 +63,5 @@ returns-clause-counted c =
     let new = frame_view c.put.new.frame in
     c.in_ok-say_limit.ensures.counted.at nothing
     (c.in_ok-push_frame.ensures.counted d nothing
-    (register_moved d e c.put.new.table nothing (λ o. in_frame o f) (λ o. in_frame o new) c.put.ensures.only c.in_ok-put.ensures.counts
+    (register_moved d e c.put.new.table nothing (λ o. in_frame o f) (λ o. in_frame o new) c.put.ensures.only c.put.ensures.counts
     (taken_alike d e (λ o. in_frame o f) (λ o. nothing o + in_frame o f) (λ o. omega arith) c.requires.counted)))

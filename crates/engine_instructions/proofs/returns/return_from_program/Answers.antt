@@ -11,7 +11,9 @@ use Rattle.engine_world.specs.View.{world_of}
 use Rattle.engine_world.proofs.Ableness.{able_as, in_left}
 use Rattle.engine_world.proofs.Counts.{config_same, given_back}
 use Rattle.engine_world.proofs.Left.{left_kept}
-use Rattle.engine_instructions.proofs.Returning.{given_able, returning_gives}
+use Rattle.engine_world.proofs.Rooms.{frame_counted}
+use Rattle.engine_instructions.proofs.Holding.{counted_may}
+use Rattle.engine_instructions.proofs.Returning.{given_able, given_within, returning_gives}
 use Rattle.engine_instructions.proofs.returns.return_from_program.Goals as goal
 
 pub given_by-requires : goal.given_by-requires
@@ -30,6 +32,10 @@ give_down-requires c =
     record {
       able = able_as (returning_gives d (world_of e.world) f (option_map number_of c.args.from) (program_view c.args.program.now) c.requires.program (agenda_of d e) _ c.in_ok-given.ensures able) able;
       held = record { at = λ o. omega (arith, c.requires.counted.exact o) };
+      may =
+          counted_may d e _ c.never_full.ensures.room c.never_full.ensures.dead (frame_counted d e c.args.frame c.requires.counted)
+          (λ o. omega (arith, given_within f (option_map number_of c.args.from) _ o c.in_ok-given.ensures, c.requires.counted.exact o));
+      counted = frame_counted d e c.args.frame c.requires.counted;
       sources = record { at = λ o. omega (arith, c.requires.counted.exact o) };
       begun = c.requires.counted.connects.begun;
     }

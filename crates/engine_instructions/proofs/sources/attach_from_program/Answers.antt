@@ -1,14 +1,19 @@
-use Rattle.std.proofs.Common.{◌≡◌, true, false, refl, sym, ◌∙◌}
+use Rattle.std.proofs.Common.{◌≡◌, Option, true, false, refl, subst, sym, ◌∙◌}
 use Rattle.ui_machine.specs.Instructions.Sources.{with_source}
+use Rattle.ui_machine.specs.State.References.{in_option}
 use Rattle.ui_machine.specs.State.Sources.{has_room}
+use Rattle.ui_machine.specs.declared.ids.ObjectId.{ObjectId}
 use Rattle.frames.specs.FrameView.{frame_view}
 use Rattle.instance_tables.specs.Store.{id_of}
+use Rattle.engine_world.specs.Counting.{MayHold}
 use Rattle.engine_world.specs.EngineView.{config_of}
 use Rattle.engine_world.specs.TaskView.{agenda_of}
 use Rattle.engine_world.specs.View.{world_of}
 use Rattle.engine_world.proofs.Ableness.{able_as, instructed}
 use Rattle.engine_world.proofs.Left.{same_agenda}
 use Rattle.engine_instructions.specs.AttachView.{attach_of}
+use Rattle.engine_instructions.proofs.Holding.{data_may}
+use Rattle.engine_instructions.proofs.ObjectSteps.{data_lives}
 use Rattle.engine_instructions.proofs.SourceSteps.{attach_held, attach_known, attached_left, unattached_left}
 use Rattle.engine_instructions.proofs.Starting.{leads_as}
 use Rattle.engine_instructions.proofs.sources.attach_from_program.Goals as goal
@@ -28,6 +33,17 @@ data_in-arg-requires c =
           (instructed e.counted (agenda_of d e) _ c.requires.able);
     }
 
+pub attach_source-requires : goal.attach_source-requires
+attach_source-requires c = record {
+  may =
+      let d = c.args.definition.now in
+      let e = c.args.engine.now in
+      let f = c.args.frame in
+      let arg = c.data_in-arg.result in
+      let lives = data_lives (world_of e.world) (frame_view f) _ (id_of arg) c.data_in-arg.ensures in
+      subst (λ (i : Option ObjectId). MayHold e.world.table (λ o. in_option o (id_of i))) (sym c.source-source.ensures.arg) (data_may d e f c.never_full.ensures.room c.requires.counted (id_of arg) lives);
+}
+
 pub write_register-requires : goal.write_register-requires
 write_register-requires c =
     let d = c.args.definition.now in
@@ -37,10 +53,10 @@ write_register-requires c =
     let f = frame_view c.args.frame in
     let a = attach_of c.args.attach in
     let room : has_room w.sources w.last_source ≡ true = sym c.in_ok-attach_source.ensures.room ∙ c.if-branch.true in
-    let world : world_of m.world ≡ with_source w a c.program_named-program.result (id_of c.data_in-arg.result) = c.in_ok-attach_source.ensures.world ∙ rw c.if-branch.true (c.source-source.ensures w) in
+    let world : world_of m.world ≡ with_source w a c.program_named-program.result (id_of c.data_in-arg.result) = c.in_ok-attach_source.ensures.world ∙ rw c.if-branch.true (c.source-source.ensures.attached w) in
     let same = attached_left d e m f c.args.to.0 a c.program_named-program.result c.program_named-program.ensures (id_of c.data_in-arg.result) c.data_in-arg.ensures
     (same_agenda d e m c.attach_source.ensures.same.0 c.attach_source.ensures.handlers) c.attach_source.ensures.same.1 room world in
-    record { able = able_as same c.requires.able; counted = (c.in_ok-attach_source.ensures.counted d).at _ c.requires.counted }
+    record { able = able_as same c.requires.able; names = refl; counted = (c.in_ok-attach_source.ensures.counted d).at _ c.requires.counted }
 
 pub write_null_and_say_limit-requires : goal.write_null_and_say_limit-requires
 write_null_and_say_limit-requires c =
@@ -54,7 +70,7 @@ write_null_and_say_limit-requires c =
     let world : world_of m.world ≡ w = c.in_ok-attach_source.ensures.world ∙ rw c.if-branch.false refl in
     let same = unattached_left d e m f c.args.to.0 a c.program_named-program.result c.program_named-program.ensures (id_of c.data_in-arg.result) c.data_in-arg.ensures
     (same_agenda d e m c.attach_source.ensures.same.0 c.attach_source.ensures.handlers) c.attach_source.ensures.same.1 full world in
-    record { able = able_as same c.requires.able; counted = (c.in_ok-attach_source.ensures.counted d).at _ c.requires.counted }
+    record { able = able_as same c.requires.able; names = refl; counted = (c.in_ok-attach_source.ensures.counted d).at _ c.requires.counted }
 
 pub returns-then-branch-clause-step : goal.returns-then-branch-clause-step
 returns-then-branch-clause-step c =
@@ -65,7 +81,7 @@ returns-then-branch-clause-step c =
     let f = frame_view c.args.frame in
     let a = attach_of c.args.attach in
     let room : has_room w.sources w.last_source ≡ true = sym c.in_ok-attach_source.ensures.room ∙ c.if-branch.true in
-    let world : world_of m.world ≡ with_source w a c.program_named-program.result (id_of c.data_in-arg.result) = c.in_ok-attach_source.ensures.world ∙ rw c.if-branch.true (c.source-source.ensures w) in
+    let world : world_of m.world ≡ with_source w a c.program_named-program.result (id_of c.data_in-arg.result) = c.in_ok-attach_source.ensures.world ∙ rw c.if-branch.true (c.source-source.ensures.attached w) in
     let same = attached_left d e m f c.args.to.0 a c.program_named-program.result c.program_named-program.ensures (id_of c.data_in-arg.result) c.data_in-arg.ensures
     (same_agenda d e m c.attach_source.ensures.same.0 c.attach_source.ensures.handlers) c.attach_source.ensures.same.1 room world in
     leads_as c.write_register.result (config_of d c.write_register.new.engine) same c.write_register.ensures.step

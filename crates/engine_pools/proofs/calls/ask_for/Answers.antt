@@ -7,7 +7,7 @@ use Rattle.engine_instructions.proofs.Whole.{engine_whole}
 use Rattle.std.specs.Prelude.{option_map}
 use Rattle.g_values.specs.View.{value_view}
 use Rattle.engine_tasks.specs.CallView.{reply_of}
-use Rattle.engine_pools.proofs.CallSteps.{askable, call_breaks, call_can, call_follows}
+use Rattle.engine_pools.proofs.CallSteps.{askable, call_breaks, call_can, call_follows, call_names}
 use Rattle.engine_world.proofs.Ableness.{none_stops}
 use Rattle.engine_pools.proofs.calls.ask_for.Goals as goal
 
@@ -19,6 +19,10 @@ pub answer-requires-clause-able : goal.answer-requires-clause-able
 answer-requires-clause-able g c =
     none_stops _
     (call_can c.args.definition.now _ _ (call_of c.args.call) (agenda_of c.args.definition.now c.args.engine.now) c.requires.safe c.requires.none refl c.requires.asked _ _ c.ask-value.ensures.asks)
+
+pub answer-requires-clause-names : goal.answer-requires-clause-names
+answer-requires-clause-names g c =
+    call_names c.args.definition.now _ _ (call_of c.args.call) (agenda_of c.args.definition.now c.args.engine.now) c.requires.safe c.requires.none refl c.requires.asked _ _ c.ask-value.ensures.asks
 
 pub returns-clause-follows : goal.returns-clause-follows
 returns-clause-follows g c =

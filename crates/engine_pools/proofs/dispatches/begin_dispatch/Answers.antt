@@ -4,7 +4,11 @@ use Rattle.engine_world.specs.TaskView.{task_in}
 use Rattle.std.proofs.Common.{map}
 use Rattle.engine_world.specs.View.{held_of}
 use Rattle.engine_world.proofs.Counts.{Exact, keeps_on, keeps_by}
+use Rattle.engine_world.proofs.Held.{pushes_nothing}
 use Rattle.engine_pools.proofs.dispatches.begin_dispatch.Goals as goal
+
+pub push_task-requires-clause-may : goal.push_task-requires-clause-may
+push_task-requires-clause-may c = pushes_nothing _ c.args.task (λ d o. c.requires.plain d c.args.engine.now.world.handlers.handlers o)
 
 pub returns-clause-ok : goal.returns-clause-ok
 returns-clause-ok c =

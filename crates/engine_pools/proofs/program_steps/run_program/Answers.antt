@@ -20,6 +20,7 @@ use Rattle.engine_world.specs.TaskView.{agenda_of}
 use Rattle.engine_world.specs.View.{world_of}
 use Rattle.engine_world.specs.declared.engine.Engine.{Engine}
 use Rattle.engine_world.proofs.Counts.{keeps_same, taken_alike}
+use Rattle.engine_world.proofs.Named.{names_as}
 use Rattle.engine_instructions.specs.ClosedPeers.{LeavesClosed}
 use Rattle.engine_pools.specs.TaskClosings.{ProgramLeaves, TakenLeaves}
 use Rattle.engine_instructions.proofs.KnownCode.{taken_known}
@@ -66,6 +67,7 @@ execute-requires c =
       known = taken_known d.types c.in-Some.program.now (frame_view c.args.frame) (frame_view c.take.new.self) c.in-Some-take.instruction.now
           c.in-Some.ensures.known c.in-Some-take.ensures;
       able = able_as whole c.requires.able;
+      names = names_as whole c.requires.names;
       counted = taken_alike d b _ _ (λ o. ap (λ (rs : Registers). total (in_register o) rs) (sym kept.0)) (same.at _ c.requires.counted);
     }
 

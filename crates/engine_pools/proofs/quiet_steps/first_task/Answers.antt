@@ -14,7 +14,7 @@ use Rattle.engine_world.specs.EngineView.{config_of}
 use Rattle.engine_world.proofs.Counts.{config_same, taken_off, given_back, same_tasks}
 use Rattle.engine_world.specs.View.{world_of}
 use Rattle.engine_pools.proofs.Standing.{first_none}
-use Rattle.engine_pools.proofs.Stepping.{first_can, first_stepped, first_grows}
+use Rattle.engine_pools.proofs.Stepping.{first_can, first_names_so, first_stepped, first_grows}
 use Rattle.engine_pools.proofs.quiet_steps.first_task.Goals as goal
 
 pub sink_first_floating-requires-clause-none : goal.sink_first_floating-requires-clause-none
@@ -52,6 +52,11 @@ act-requires c = record {
       let hs = e.world.handlers.handlers in
       none_stops _
       (first_can d hs (config_of d e) (config_of d e) c.requires.none c.in-Some.task c.pop.new.self (c.in-Some.ensures.tasks d hs) c.requires.quiet c.requires.safe);
+  names =
+      let d = c.args.definition.now in
+      let e = c.args.engine.now in
+      let hs = e.world.handlers.handlers in
+      first_names_so d hs (config_of d e) (config_of d e) c.requires.none c.in-Some.task c.pop.new.self (c.in-Some.ensures.tasks d hs) c.requires.quiet c.requires.safe;
   begun = c.in-Some.ensures.first c.args.engine.now.world.handlers.last c.requires.counted.connects.begun;
   counted =
       let d = c.args.definition.now in

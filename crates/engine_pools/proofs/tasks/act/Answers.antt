@@ -1,6 +1,11 @@
-use Rattle.std.proofs.Common.{Result, Ok, refl}
+use Rattle.std.proofs.Common.{Result, Ok, refl, ap, arith}
+use Rattle.ui_machine.specs.State.References.{in_task}
 use Rattle.std.specs.declared.alloc.AllocError.{AllocError}
 use Rattle.engine_world.proofs.Counts.{done_plain}
+use Rattle.engine_world.specs.TaskView.{task_in}
+use Rattle.engine_world.specs.declared.task.Task as code
+use Rattle.engine_world.proofs.Floats.{same_self}
+use Rattle.engine_world.proofs.Held.{counted_lives}
 use Rattle.engine_world.proofs.Rooms.{task_counted}
 use Rattle.engine_instructions.proofs.Whole.{leads_whole}
 use Rattle.engine_pools.proofs.tasks.act.Goals as goal
@@ -18,7 +23,10 @@ validate_and_set-requires c = record {
 }
 
 pub notify-requires : goal.notify-requires
-notify-requires c = record { able = rw c.in-Notifying.is at c.requires.able }
+notify-requires c = record {
+  able = rw c.in-Notifying.is at c.requires.able;
+  counted = task_counted c.args.definition.now c.args.engine.now c.args.task c.requires.counted;
+}
 
 pub begin_emission-requires-clause-able : goal.begin_emission-requires-clause-able
 begin_emission-requires-clause-able c = rw c.in-Beginning.is at c.requires.able
@@ -26,20 +34,51 @@ begin_emission-requires-clause-able c = rw c.in-Beginning.is at c.requires.able
 pub emit-requires-clause-able : goal.emit-requires-clause-able
 emit-requires-clause-able c = rw c.in-Emitting.is at c.requires.able
 
+pub emit-requires-clause-names : goal.emit-requires-clause-names
+emit-requires-clause-names c = rw c.in-Emitting.is at c.requires.names
+
 pub transfer-requires : goal.transfer-requires
-transfer-requires c = record { able = rw c.in-Transferring.is at c.requires.able }
+transfer-requires c = record {
+  able = rw c.in-Transferring.is at c.requires.able;
+  counted = task_counted c.args.definition.now c.args.engine.now c.args.task c.requires.counted;
+}
 
 pub run_program-requires-clause-able : goal.run_program-requires-clause-able
 run_program-requires-clause-able c = rw c.in-Running.is at c.requires.able
 
+pub run_program-requires-clause-names : goal.run_program-requires-clause-names
+run_program-requires-clause-names c = rw c.in-Running.is at c.requires.names
+
 pub notify_thawed-requires : goal.notify_thawed-requires
-notify_thawed-requires c = record { able = rw c.in-Thawing.is at c.requires.able }
+notify_thawed-requires c = record {
+  able = rw c.in-Thawing.is at c.requires.able;
+  live =
+      let d = c.args.definition.now in
+      let e = c.args.engine.now in
+      counted_lives d _ e c.never_full.ensures.dead c.requires.counted c.in-Thawing.object.0
+      (let one = ap (λ (t : code.Task). in_task c.in-Thawing.object.0 (task_in d e t)) c.in-Thawing.is in omega (arith, one, same_self c.in-Thawing.object.0));
+  counted = task_counted c.args.definition.now c.args.engine.now c.args.task c.requires.counted;
+}
 
 pub construct-requires : goal.construct-requires
-construct-requires c = record { able = rw c.in-Constructing.is at c.requires.able }
+construct-requires c = record {
+  able = rw c.in-Constructing.is at c.requires.able;
+  live =
+      let d = c.args.definition.now in
+      let e = c.args.engine.now in
+      counted_lives d _ e c.never_full.ensures.dead c.requires.counted c.in-Constructing.object.0
+      (let one = ap (λ (t : code.Task). in_task c.in-Constructing.object.0 (task_in d e t)) c.in-Constructing.is in omega (arith, one, same_self c.in-Constructing.object.0));
+  counted = task_counted c.args.definition.now c.args.engine.now c.args.task c.requires.counted;
+}
 
 pub build-requires-clause-able : goal.build-requires-clause-able
 build-requires-clause-able c = rw c.in-Building.is at c.requires.able
+
+pub build-requires-clause-names : goal.build-requires-clause-names
+build-requires-clause-names c = rw c.in-Building.is at c.requires.names
+
+pub build-requires-clause-counted : goal.build-requires-clause-counted
+build-requires-clause-counted c = task_counted c.args.definition.now c.args.engine.now c.args.task c.requires.counted
 
 pub adopt_from_build-requires : goal.adopt_from_build-requires
 adopt_from_build-requires c = record {
@@ -56,11 +95,24 @@ connect_from_build-requires-clause-able c = rw c.in-Connecting.is at c.requires.
 pub pass_over-requires-clause-able : goal.pass_over-requires-clause-able
 pass_over-requires-clause-able c = rw c.in-Calling.is at c.requires.able
 
+pub pass_over-requires-clause-names : goal.pass_over-requires-clause-names
+pass_over-requires-clause-names c = rw c.in-Calling.is at c.requires.names
+
 pub run_source-requires : goal.run_source-requires
-run_source-requires c = record { able = rw c.in-Due.is at c.requires.able }
+run_source-requires c = record {
+  able = rw c.in-Due.is at c.requires.able;
+  names = rw c.in-Due.is at c.requires.names;
+  counted = task_counted c.args.definition.now c.args.engine.now c.args.task c.requires.counted;
+}
 
 pub handle_event-requires-clause-able : goal.handle_event-requires-clause-able
 handle_event-requires-clause-able c = rw c.in-Handling.is at c.requires.able
+
+pub handle_event-requires-clause-names : goal.handle_event-requires-clause-names
+handle_event-requires-clause-names c = rw c.in-Handling.is at c.requires.names
+
+pub handle_event-requires-clause-counted : goal.handle_event-requires-clause-counted
+handle_event-requires-clause-counted c = task_counted c.args.definition.now c.args.engine.now c.args.task c.requires.counted
 
 pub unreachable-requires : goal.unreachable-requires
 unreachable-requires c = rw c.in-Answering.is at c.requires.able

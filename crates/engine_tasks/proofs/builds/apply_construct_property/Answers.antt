@@ -15,6 +15,7 @@ use Rattle.engine_world.specs.TaskView.{agenda_of}
 use Rattle.engine_world.proofs.Ableness.{in_uncounted, tested}
 use Rattle.g_values.specs.View.{value_view}
 use Rattle.ui_machine.specs.Rules.Sets.{spec_at}
+use Rattle.engine_world.proofs.Held.{lives_still, may_on, pushes_one}
 use Rattle.engine_tasks.proofs.builds.apply_construct_property.Goals as goal
 
 module _ (d : Definition) (w : World) (id slot : ℕ) (v : Value) (tasks : List Task) where
@@ -27,6 +28,14 @@ module _ (d : Definition) (w : World) (id slot : ℕ) (v : Value) (tasks : List 
       by (Ok s) able =
           ap (λ b. only_if b arms.Flags (starts w (Setting id slot v ∷ tasks))) (tested (is_writable s) arms.Flags (starts w (Setting id slot v ∷ tasks)) able)
       by (Err arm) able = absurd able
+
+pub push_task-requires-2-clause-may : goal.push_task-requires-2-clause-may
+push_task-requires-2-clause-may c =
+    let d = c.args.definition.now in
+    let e = c.args.engine.now in
+    let b = c.push_task.new.engine in
+    pushes_one b _ c.args.object.0 (λ d o. refl)
+    (may_on d e b c.args.object.0 c.requires.counted (c.in_ok-push_task.ensures.counted d) (lives_still e b c.args.object.0 c.push_task.ensures.world c.requires.live))
 
 pub returns-clause-step : goal.returns-clause-step
 returns-clause-step c =

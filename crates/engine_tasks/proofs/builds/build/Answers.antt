@@ -12,14 +12,25 @@ use Rattle.engine_world.specs.View.{world_of}
 use Rattle.engine_world.specs.TaskView.{agenda_of, build_from}
 use Rattle.engine_world.specs.EngineView.{config_of}
 use Rattle.engine_world.proofs.Building.{object_within, builds_next, builds_stuck, only_forwards}
-use Rattle.engine_world.proofs.Counts.{keeps_on}
+use Rattle.engine_world.proofs.Counts.{keeps_on, still_counted}
+use Rattle.ui_machine.specs.State.References.{in_task}
+use Rattle.engine_world.proofs.Held.{pushes_nothing}
+use Rattle.engine_world.proofs.Named.{names_as}
+use Rattle.engine_world.proofs.Parts.{task_alike}
 use Rattle.engine_world.specs.Able.{Leads}
 use Rattle.engine_world.proofs.Registers.{on_ok}
 use Rattle.engine_world.proofs.Ableness.{able_as, no_arm, none_stops}
 use Rattle.engine_tasks.proofs.builds.build.Goals as goal
 
 pub push_task-requires : goal.push_task-requires
-push_task-requires c = c.behind.ensures.begun c.args.engine.now.world.handlers.last
+push_task-requires c = record {
+  begun = c.behind.ensures.begun c.args.engine.now.world.handlers.last;
+  may =
+      let d = c.args.definition.now in
+      let e = c.args.engine.now in
+      let hs = e.world.handlers.handlers in
+      pushes_nothing e c.behind.result (λ any o. task_alike any d hs hs c.behind.result o ∙ ap (in_task o) (c.behind.ensures.task hs));
+}
 
 pub returns-clause-step : goal.returns-clause-step
 returns-clause-step c =
@@ -65,7 +76,17 @@ make_from_build-requires c = record {
       rw (pushed, c.push_task.ensures.world, c.push_task.ensures.same) (able_as next c.requires.able);
   peer =
       subst (λ (peers : List Peer). IfSome c.own_peer-peer.result (λ number. number < length peers)) (sym (ap (λ (w : World). w.peers) c.push_task.ensures.world)) c.own_peer-peer.ensures.within;
+  counted = still_counted c.args.definition.now c.args.engine.now c.push_task.new.engine (c.in_ok-push_task.ensures.counted c.args.definition.now) c.requires.counted;
 }
+
+pub set_forward_reference-requires-clause-names : goal.set_forward_reference-requires-clause-names
+set_forward_reference-requires-clause-names c =
+    let d = c.args.definition.now in
+    let w = world_of c.args.engine.now.world in
+    let rest = agenda_of d c.args.engine.now in
+    let n = c.args.engine.now.counted in
+    let left = only_forwards d c.types-types.ensures.basic c.args.place.0 c.args.forwards (c.is_object.ensures.past c.if-not-is_object.true) in
+    names_as (ap (λ (items : List Item). uncounted rest n (building d w items)) left) c.requires.names
 
 pub set_forward_reference-requires-clause-able : goal.set_forward_reference-requires-clause-able
 set_forward_reference-requires-clause-able c =

@@ -18,7 +18,9 @@ use Rattle.ui_machine.specs.Rules.Construction.{constructed}
 use Rattle.engine_world.specs.Able.{Able}
 use Rattle.ui_machine.specs.State.Objects.{asked}
 use Rattle.engine_world.proofs.Ableness.{in_uncounted, no_arm}
+use Rattle.engine_world.proofs.Held.{may_counted, same_lives}
 use Rattle.engine_world.proofs.LivingObjects.{lives_where}
+use Rattle.instance_tables.proofs.Few.{same_most}
 use Rattle.engine_tasks.proofs.builds.hold_made.Goals as goal
 
 module _ (w : World) (id place : ℕ) (at : asked w.objects id (λ o. Ok o.place) ≡ Ok place) (able : Able (constructed w id true)) where
@@ -36,6 +38,15 @@ place_of-place-requires c = record {
       let w = world_of c.args.engine.now.world in
       let id = c.args.object.0 in
       lives_where w.objects id _ (λ arm is. no_arm (constructed w id true) arm (in_uncounted _ _ _ c.requires.able) (no_object w id arm is));
+}
+
+pub hold_any-requires : goal.hold_any-requires
+hold_any-requires c = record {
+  may =
+      let w = world_of c.args.engine.now.world in
+      let id = c.args.object.0 in
+      may_counted c.args.definition.now c.args.engine.now _ c.never_full.ensures.room c.requires.counted (λ o. let one = same_most o id in omega (arith, one))
+      (λ o. same_lives w.objects o id (lives_where w.objects id _ (λ arm is. no_arm (constructed w id true) arm (in_uncounted _ _ _ c.requires.able) (no_object w id arm is))));
 }
 
 pub returns-clause-step : goal.returns-clause-step
@@ -63,5 +74,5 @@ returns-clause-counted c =
     λ o. ap (λ (hs : List BuilderEntry). total (in_held o) hs) c.in_ok-set_builder_entry.ensures ∙ total-written (in_held o) unbuilt b place (built id) refl (holds_nothing o (builder_entry w place) there) in
     keeps_by d e _ refl (λ g. g) refl (stays d e _ refl refl) (λ taken _ h.
     sunk_exact d taken c.hold_any.new.table c.sink.new.self n a id c.sink.ensures
-    (holder_more d taken e.world.table c.hold_any.new.table b n a a (λ o. same o id) c.hold_any.ensures.only c.in_ok-hold_any.ensures.counts
+    (holder_more d taken e.world.table c.hold_any.new.table b n a a (λ o. same o id) c.hold_any.ensures.only c.hold_any.ensures.counts
     (λ o. omega (arith, more o)) h))

@@ -6,10 +6,15 @@ use Rattle.engine_world.proofs.Counts.{keeps_on}
 use Rattle.engine_world.proofs.Left.{left_with, same_agenda}
 use Rattle.engine_world.proofs.Ableness.{in_uncounted}
 use Rattle.engine_world.proofs.Building.{makes_any}
+use Rattle.engine_world.proofs.Held.{may_on}
 use Rattle.engine_tasks.proofs.builds.make_from_build.Goals as goal
 
 pub make-requires : goal.make-requires
 make-requires c = record { able = λ held. makes_any c.args.definition.now (world_of c.args.engine.now.world) c.args.place.0 c.args.peer true held (in_uncounted _ _ _ c.requires.able) }
+
+pub begin_construction-requires-clause-may : goal.begin_construction-requires-clause-may
+begin_construction-requires-clause-may c =
+    may_on c.args.definition.now c.args.engine.now c.make.new.engine c.in_ok-new.new.object.0 c.requires.counted c.in_ok-new.ensures.counted c.in_ok-new.ensures.live
 
 pub returns-clause-step : goal.returns-clause-step
 returns-clause-step c =

@@ -8,11 +8,14 @@ use Rattle.g_values.specs.declared.value.Value.{Value}
 use Rattle.engine_world.specs.EngineView.{config_of}
 use Rattle.engine_world.specs.View.{world_of}
 use Rattle.engine_world.specs.TaskView.{agenda_of}
-use Rattle.engine_world.proofs.Counts.{keeps_on}
+use Rattle.engine_world.proofs.Counts.{keeps_on, still_counted}
 use Rattle.engine_world.proofs.Registers.{on_ok}
 use Rattle.engine_tasks.proofs.TurnTaking.{begins_as}
 use Rattle.engine_tasks.proofs.ProgramStarts.{begins_before}
+use Rattle.law_typing.specs.Good.Living.{NamesLiving}
+use Rattle.law_typing.specs.Verdict.Accepted.{Each}
 use Rattle.engine_world.proofs.Ableness.{able_as}
+use Rattle.engine_world.proofs.Held.{lives_still}
 use Rattle.engine_world.specs.Able.{Leads}
 use Rattle.engine_tasks.proofs.builds.run_constructed.Goals as goal
 
@@ -27,7 +30,12 @@ begin_program-requires c =
     let begins = begins_as d (agenda_of d b) _ b.counted e.counted (world_of b.world) (world_of e.world) c.args.program c.args.program (map value_view c.push.new.self.items) (values.object (Some c.args.object.0) ∷ [])
     (c.in_ok-push_task.ensures.agenda d) c.push_task.ensures.same c.push_task.ensures.world refl given
     ∙ sym (begins_before d (world_of e.world) c.args.program (values.object (Some c.args.object.0) ∷ []) tasks (agenda_of d e) e.counted) in
-    record { able = able_as (sym begins) c.requires.able }
+    record {
+      able = able_as (sym begins) c.requires.able;
+      counted = still_counted d e b (c.in_ok-push_task.ensures.counted d) c.requires.counted;
+      names =
+          subst (λ (vs : List values.Value). Each (NamesLiving (world_of b.world)) vs) (sym given) (lives_still e b c.args.object.0 c.push_task.ensures.world c.requires.live, tt);
+    }
 
 pub returns-clause-step : goal.returns-clause-step
 returns-clause-step c =

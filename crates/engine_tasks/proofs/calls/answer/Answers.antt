@@ -11,6 +11,7 @@ use Rattle.engine_tasks.specs.CallView.{answered, reply_of}
 use Rattle.engine_tasks.proofs.CallSteps.{asks, goes_on_so, able_to_go_on, able_to_conclude, is_closed}
 use Rattle.engine_world.proofs.Ableness.{able_as}
 use Rattle.engine_world.specs.Able.{Leads}
+use Rattle.engine_world.proofs.Named.{names_as}
 use Rattle.engine_tasks.proofs.calls.answer.Goals as goal
 
 pub returns-then-not-is_asked-clause-step : goal.returns-then-not-is_asked-clause-step
@@ -50,6 +51,17 @@ conclude-requires-clause-able c =
     let answer = option_map value_view c.args.answer in
     let is = asks d w call rest answer (sym c.is_asked.ensures ∙ c.if-not-is_asked.false) in
     able_to_go_on d w call rest e.counted _ (answered d w call answer) is c.requires.able _ c.in_ok-conclusion.ensures
+
+pub conclude-requires-clause-names : goal.conclude-requires-clause-names
+conclude-requires-clause-names c =
+    let d = c.args.definition.now in
+    let e = c.args.engine.now in
+    let w = world_of e.world in
+    let call = call_of c.args.call in
+    let rest = agenda_of d e in
+    let answer = option_map value_view c.args.answer in
+    let is = asks d w call rest answer (sym c.is_asked.ensures ∙ c.if-not-is_asked.false) in
+    names_as (ap (left e.counted) (is ∙ ap (λ a. a >>= goes_on_so d w call rest) c.in_ok-conclusion.ensures)) c.requires.names
 
 pub returns-clause-step : goal.returns-clause-step
 returns-clause-step c =

@@ -13,6 +13,11 @@ use Rattle.engine_world.proofs.Counts.{config_same, keeps_said, less_held}
 use Rattle.engine_world.proofs.Quiets.{quiet_same}
 use Rattle.engine_world.proofs.Registers.{tasks_world}
 use Rattle.engine_tasks.proofs.CallSteps.{concludes, able_to_receive}
+use Rattle.instance_tables.proofs.Few.{value_most}
+use Rattle.engine_world.specs.declared.task.Task.TheVariants as tasks
+use Rattle.engine_world.proofs.Held.{may_counted, value_lives}
+use Rattle.engine_world.proofs.Rooms.{task_counted}
+use Rattle.engine_tasks.proofs.Holding.{received_names}
 use Rattle.engine_tasks.proofs.calls.conclude.Goals as goal
 
 -- what the arguments hold, as a slice
@@ -23,6 +28,12 @@ pub pass_answer-requires : goal.pass_answer-requires
 pass_answer-requires c = record {
   able = able_to_receive c.args.engine.now.counted _ (agenda_of c.args.definition.now c.args.engine.now) c.args.call.to.0 (value_view c.args.conclusion.value) c.requires.able;
   held = record { at = λ o. omega (arith, c.requires.counted.exact o) };
+  may =
+      let d = c.args.definition.now in
+      let e = c.args.engine.now in
+      let v = value_view c.args.conclusion.value in
+      may_counted d e _ c.never_full.ensures.room (task_counted d e (tasks.Calling c.args.call) c.requires.counted) (λ o. let one = value_most o v in omega (arith, one))
+      (λ o. value_lives e.world.table.objects o v (received_names e.counted _ c.args.call.to.0 v (agenda_of d e) c.requires.able c.requires.names));
 }
 
 pub returns-in_err-pass_answer-clause-quiet : goal.returns-in_err-pass_answer-clause-quiet

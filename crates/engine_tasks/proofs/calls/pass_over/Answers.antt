@@ -9,6 +9,7 @@ use Rattle.engine_tasks.specs.CallView.{unanswered}
 use Rattle.engine_tasks.proofs.CallSteps.{goes_on_so, is_closed, able_to_go_on, not_asked, able_to_conclude}
 use Rattle.engine_world.proofs.Ableness.{in_left}
 use Rattle.engine_world.specs.Able.{Leads}
+use Rattle.engine_world.proofs.Named.{names_as}
 use Rattle.engine_tasks.proofs.calls.pass_over.Goals as goal
 
 pub unanswered-requires : goal.unanswered-requires
@@ -30,6 +31,16 @@ conclude-requires-clause-able c =
     let rest = agenda_of d e in
     let is = is_closed d w call rest None (not_asked d w call rest (in_left e.counted _ c.requires.able)) in
     able_to_go_on d w call rest e.counted _ (unanswered d w call) is c.requires.able _ c.in_ok-conclusion.ensures
+
+pub conclude-requires-clause-names : goal.conclude-requires-clause-names
+conclude-requires-clause-names c =
+    let d = c.args.definition.now in
+    let e = c.args.engine.now in
+    let w = world_of e.world in
+    let call = call_of c.args.call in
+    let rest = agenda_of d e in
+    let is = is_closed d w call rest None (not_asked d w call rest (in_left e.counted _ c.requires.able)) in
+    names_as (ap (left e.counted) (is ∙ ap (λ a. a >>= goes_on_so d w call rest) c.in_ok-conclusion.ensures)) c.requires.names
 
 pub returns-clause-step : goal.returns-clause-step
 returns-clause-step c =

@@ -1,23 +1,18 @@
-use Rattle.std.proofs.Common.{suc, List, arith, ap, ℕ, Result, Err, Ok, [], subst, sym, ◌≡◌, ◌∙◌, ◌∷◌, ◌<◌, ◌≤◌}
+use Rattle.std.proofs.Common.{suc, List, arith, ap, ℕ, Ok, subst, sym, ◌≡◌, ◌∙◌, ◌∷◌, ◌<◌, ◌≤◌}
 use Rattle.ui_machine.specs.Rules.Build.{building_child}
-use Rattle.ui_machine.specs.State.Config.{World, Started}
+use Rattle.ui_machine.specs.State.Config.{World}
 use Rattle.ui_machine.specs.State.Tasks.{Item, Building, Task}
 use Rattle.engine_world.specs.KinView.{kin_at, Kin, kin_of, joined}
 use Rattle.engine_world.specs.View.{world_of}
 use Rattle.engine_world.specs.TaskView.{build_from, agenda_of}
-use Rattle.engine_world.proofs.Kin.{no_kin, no_object_there, joins_then}
+use Rattle.engine_world.proofs.Kin.{no_kin, no_object_there, joins_not, joins_then}
 use Rattle.ui_machine.specs.declared.arm.Arm.TheVariants as arms
 use Rattle.ui_machine.specs.Definition.{Definition}
 use Rattle.engine_world.specs.Able.{Able, Leads}
 use Rattle.definition_format.specs.Meaning.{IsBasic, object_count}
 use Rattle.engine_world.proofs.Ableness.{in_uncounted, no_arm, none_stops}
-use Rattle.ui_machine.specs.declared.arm.Halt.{Halt}
-use Rattle.ui_machine.specs.declared.arm.Halt.TheVariants as halts
-use Rattle.std.specs.declared.alloc.AllocError.{AllocError}
 use Rattle.engine_world.proofs.Counts.{keeps_on, still_counted}
 use Rattle.engine_world.proofs.Left.{same_agenda}
-use Rattle.ui_machine.specs.declared.arm.Arm.{Arm}
-use Rattle.ui_machine.specs.Outcome.{Answer}
 use Rattle.ui_machine.specs.Steps.{uncounted}
 use Rattle.engine_world.proofs.Registers.{on_ok}
 use Rattle.std.specs.Prelude.{OnErr}
@@ -37,17 +32,7 @@ module _ (d : Definition) (w : World) (place : ℕ) (items : List Item) (able : 
   able_joined : (kin : Kin) → kin_at d w place ≡ Ok kin → Able (joined d w kin.parent kin.child)
   able_joined kin is =
       none_stops (joined d w kin.parent kin.child)
-      (λ arm stops. no_arm (building_child d w place items) arm able (stuck (building_child d w place items) arm (joins_then d w place items [] 0 {X = Unit {0}} kin (Err (halts.Stuck arm)) w is stops)))
-    where
-      stuck : (a : Answer Started) (arm : Arm) → uncounted [] 0 a ≡ Err arm → a ≡ Err arm
-      stuck (Ok s) arm stops = cc stops
-      stuck (Err other) arm stops = let same : other ≡ arm = cc stops in ap Err same
-
--- what code leads to, where both are joined
-joins_on : (d : Definition) (w : World) (place : ℕ) (items : List Item) (rest : List Task) (n : ℕ) {X : Type 0} (kin : Kin) (r : Result X AllocError) (new : World) → kin_at d w place ≡ Ok kin
-    → Leads r (joined d w kin.parent kin.child) new → Leads r (uncounted rest n (building_child d w place items)) (record { world = new; agenda = Building items ∷ rest; counted = n })
-joins_on d w place items rest n {X} kin (Ok x) new is leads = let found : Result X Halt = Ok x in joins_then d w place items rest n kin found new is leads
-joins_on d w place items rest n {X} kin (Err e) new is leads = tt
+      (λ arm stuck. no_arm (building_child d w place items) arm able (joins_not d w place items kin arm is stuck))
 
 pub kin_at-kin-requires : goal.kin_at-kin-requires
 kin_at-kin-requires c =
@@ -91,7 +76,7 @@ returns-clause-step c =
     let a = uncounted rest n (building_child d w c.args.place.0 items) in
     subst (λ (ts : List Task). Leads c.join.result a (record { world = new; agenda = ts; counted = c.join.new.engine.counted })) (sym agenda)
     (subst (λ k. Leads c.join.result a (record { world = new; agenda = Building items ∷ rest; counted = k })) (sym counted)
-    (joins_on d w c.args.place.0 items rest n kin c.join.result new c.kin_at-kin.ensures goes))
+    (joins_then d w c.args.place.0 items rest n kin c.join.result new c.kin_at-kin.ensures goes))
 
 pub returns-clause-quiet : goal.returns-clause-quiet
 returns-clause-quiet c =

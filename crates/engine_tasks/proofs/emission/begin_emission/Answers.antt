@@ -1,14 +1,15 @@
-use Rattle.std.proofs.Common.{[], ℕ, suc, List, ◌∷◌, option_map, sym, ap, subst, ◌∙◌, arith}
+use Rattle.std.proofs.Common.{[], ℕ, suc, List, ◌∷◌, IsSome, option_map, sym, ap, subst, ◌∙◌, arith}
 use Rattle.ui_machine.specs.Definition.Types.{GType}
 use Rattle.ui_machine.specs.Definition.Signals.{Signal}
 use Rattle.ui_machine.specs.Output.Lines as lines
 use Rattle.ui_machine.specs.Output.Text.{text_of_line}
 use Rattle.ui_machine.specs.Rules.EmissionPlan.{beginning_emission}
+use Rattle.ui_machine.specs.State.Objects.{living}
 use Rattle.ui_machine.specs.State.References.{same}
 use Rattle.ui_machine.specs.State.Tasks.{Emitting, Task}
 use Rattle.ui_machine.specs.Steps.{counted}
 use Rattle.signal_core.specs.Connected.{Numbered}
-use Rattle.signal_core.specs.Emission.{begun}
+use Rattle.signal_core.specs.Emission.{Walk, begun}
 use Rattle.signal_core.specs.Laws.{walk_for}
 use Rattle.signal_core.specs.SignalView.{declared_view}
 use Rattle.signal_core.specs.declared.emission.Emission.{Emission}
@@ -24,7 +25,10 @@ use Rattle.engine_tasks.proofs.Emitted.{beginning_starts, begun_as, begin_unhear
 use Rattle.engine_world.proofs.Left.{left_with}
 use Rattle.engine_world.proofs.Notified.{counted_on}
 use Rattle.engine_world.proofs.Ableness.{in_counted, able_as, no_arm}
+use Rattle.engine_world.specs.declared.task.Task.TheVariants as tasks
+use Rattle.engine_world.proofs.Held.{may_on}
 use Rattle.engine_world.proofs.LivingObjects.{lives_where}
+use Rattle.engine_world.proofs.Rooms.{task_counted}
 use Rattle.engine_tasks.proofs.emission.begin_emission.Goals as goal
 
 pub count-requires : goal.count-requires
@@ -58,6 +62,26 @@ unreachable-requires-in_default-emission c =
     let g = λ (s : Signal). walk_for 0 s.accumulator (planned d c.class_of-class.result m.object.0 m.signal (new_of m).detail s) in
     let none = begun_none (λ (x : Emission). begun x 0) g _ (ap (option_map (λ (x : Emission). begun x 0)) (sym c.in_default-emission.is) ∙ c.emission.ensures 0) in
     no_arm (beginning_emission d w (new_of m)) _ able (begin_unknown d w (new_of m) _ (rw c.count.ensures at c.class_of-class.ensures) none)
+
+pub start_emission-requires : goal.start_emission-requires
+start_emission-requires c =
+    let d = c.args.definition.now in
+    let e = c.args.engine.now in
+    let is = c.count.ensures in
+    let m = c.args.emission in
+    let able = (in_counted (agenda_of d e) e.counted _ c.requires.able).1 in
+    let lives = lives_where (world_of e.world).objects m.object.0 _ (λ arm never. no_arm (beginning_emission d (world_of e.world) (new_of m)) arm able (begin_unheard d (world_of e.world) (new_of m) arm never)) in
+    let declared = sym c.signal.ensures ∙ ap (option_map declared_view) c.in-Some.is in
+    let g = λ (s : Signal). walk_for 0 s.accumulator (planned d c.class_of-class.result m.object.0 m.signal (new_of m).detail s) in
+    let found = ap (option_map (λ (x : Emission). begun x 0)) (sym c.in-Some-emission.is) ∙ c.emission.ensures 0 in
+    let same_object = ap (λ (v : Walk). v.object) (begun_as (λ (x : Emission). begun x 0) g c.in-Some-emission.planned _ (declared_view c.in-Some.declared) found declared) in
+    let kept = keeps_same d e c.count.new.engine (ap (λ (f : Engine). f.world.table) is) (ap (λ (f : Engine). f.world.weak) is) (subst (λ (f : Engine). PassesGot d f) (sym is)) (ap (λ (f : Engine). f.world.context) is) (ap (λ (f : Engine). f.world.builder) is) (ap (λ (f : Engine). f.stack) is)
+    (ap (λ (f : Engine). f.world.handlers) is) in
+    record {
+      may = may_on d e c.count.new.engine c.in-Some-emission.planned.object.0 (task_counted d e (tasks.Beginning m) c.requires.counted) kept
+          (subst (λ (f : Engine). IsSome (living f.world.table.objects c.in-Some-emission.planned.object.0)) (sym is)
+          (subst (λ i. IsSome (living e.world.table.objects i)) (sym same_object) lives));
+    }
 
 pub returns-clause-step : goal.returns-clause-step
 returns-clause-step c =

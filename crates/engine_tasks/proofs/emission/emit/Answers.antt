@@ -13,6 +13,7 @@ use Rattle.engine_tasks.proofs.EmissionSteps.{at_before, bindings_with, due_of, 
 use Rattle.ui_machine.specs.State.Config.{Config}
 use Rattle.engine_world.proofs.Ableness.{able_as}
 use Rattle.engine_world.specs.Able.{Leads}
+use Rattle.engine_world.proofs.Named.{names_as}
 use Rattle.engine_tasks.proofs.emission.emit.Goals as goal
 
 pub take_transfer-requires-clause-free : goal.take_transfer-requires-clause-free
@@ -74,6 +75,19 @@ emit_transfers-requires-clause-able c =
     c.args.args.items c.args.by_event c.next.new.cursor c.next.ensures.stage next.0 next.1 so c.begin_transfers-due.result c.begin_transfers-due.ensures in
     able_as begins c.requires.able
 
+pub emit_transfers-requires-clause-names : goal.emit_transfers-requires-clause-names
+emit_transfers-requires-clause-names c =
+    let d = c.args.definition.now in
+    let e = c.args.engine.now in
+    let v = world_of e.world in
+    let w = c.args.cursor in
+    let last = e.world.handlers.last in
+    let next = due_of w v.handlers c.in-Some-next.turn (sym c.next.ensures.turn ∙ c.in-Some-next.is) in
+    let so : is_transfers next.0.step.turn ≡ true = ap (λ (t : Turn). is_transfers t) (next.2 ∙ c.in-Transfers.is) in
+    let begins = bindings_with v w c.args.transfers c.next_transfer.new.transfers c.next_transfer.ensures.later c.in_default.ensures.next.0 c.in_default.ensures.next.1 d (agenda_of d e) e.counted last c.last-last.ensures.rises
+    c.args.args.items c.args.by_event c.next.new.cursor c.next.ensures.stage next.0 next.1 so c.begin_transfers-due.result c.begin_transfers-due.ensures in
+    names_as begins c.requires.names
+
 pub returns-in-Transfers-clause-step : goal.returns-in-Transfers-clause-step
 returns-in-Transfers-clause-step c =
     let d = c.args.definition.now in
@@ -99,6 +113,19 @@ take_turn-requires-clause-able c =
     let turns = turns_with v w c.args.transfers c.next_transfer.new.transfers c.next_transfer.ensures.later c.in_default.ensures.next.0 c.in_default.ensures.next.1 d (agenda_of d e) e.counted last c.last-last.ensures.rises
     c.args.args.items c.args.by_event c.next.new.cursor c.next.ensures.stage next.0 next.1 plain c.in-Some-next.turn next.2 in
     able_as turns c.requires.able
+
+pub take_turn-requires-clause-names : goal.take_turn-requires-clause-names
+take_turn-requires-clause-names c =
+    let d = c.args.definition.now in
+    let e = c.args.engine.now in
+    let v = world_of e.world in
+    let w = c.args.cursor in
+    let last = e.world.handlers.last in
+    let next = due_of w v.handlers c.in-Some-next.turn (sym c.next.ensures.turn ∙ c.in-Some-next.is) in
+    let plain : is_transfers next.0.step.turn ≡ false = ap (λ (t : Turn). is_transfers t) next.2 ∙ of_program c.in-Some-next.turn c.in_default-turn.not-Transfers in
+    let turns = turns_with v w c.args.transfers c.next_transfer.new.transfers c.next_transfer.ensures.later c.in_default.ensures.next.0 c.in_default.ensures.next.1 d (agenda_of d e) e.counted last c.last-last.ensures.rises
+    c.args.args.items c.args.by_event c.next.new.cursor c.next.ensures.stage next.0 next.1 plain c.in-Some-next.turn next.2 in
+    names_as turns c.requires.names
 
 pub returns-in_default-turn-clause-step : goal.returns-in_default-turn-clause-step
 returns-in_default-turn-clause-step c =

@@ -13,6 +13,7 @@ use Rattle.engine_tasks.proofs.EmissionSteps.{behind_plain, due_of, ends_with, n
 use Rattle.ui_machine.specs.State.Config.{Config}
 use Rattle.engine_world.proofs.Ableness.{able_as}
 use Rattle.engine_world.specs.Able.{Leads}
+use Rattle.engine_world.proofs.Named.{names_as}
 use Rattle.engine_tasks.proofs.emission.emit_transfers.Goals as goal
 
 pub take_transfer-requires-clause-free : goal.take_transfer-requires-clause-free
@@ -75,6 +76,19 @@ take_turn-requires-clause-able c =
     let turns = turns_with v w c.args.transfers c.next_transfer.new.transfers c.next_transfer.ensures.later c.in_default.ensures.next.0 c.in_default.ensures.next.1 d (agenda_of d e) e.counted last c.last-last.ensures.rises
     c.args.args.items c.args.by_event c.next.new.cursor c.next.ensures.stage next.0 next.1 plain c.in-Some-next.turn next.2 in
     able_as turns c.requires.able
+
+pub take_turn-requires-clause-names : goal.take_turn-requires-clause-names
+take_turn-requires-clause-names c =
+    let d = c.args.definition.now in
+    let e = c.args.engine.now in
+    let v = world_of e.world in
+    let w = c.args.cursor in
+    let last = e.world.handlers.last in
+    let next = due_of w v.handlers c.in-Some-next.turn (sym c.next.ensures.turn ∙ c.in-Some-next.is) in
+    let plain = behind_plain v last c.last-last.ensures.rises w c.requires.behind next.0 next.1 in
+    let turns = turns_with v w c.args.transfers c.next_transfer.new.transfers c.next_transfer.ensures.later c.in_default.ensures.next.0 c.in_default.ensures.next.1 d (agenda_of d e) e.counted last c.last-last.ensures.rises
+    c.args.args.items c.args.by_event c.next.new.cursor c.next.ensures.stage next.0 next.1 plain c.in-Some-next.turn next.2 in
+    names_as turns c.requires.names
 
 pub returns-clause-step : goal.returns-clause-step
 returns-clause-step c =

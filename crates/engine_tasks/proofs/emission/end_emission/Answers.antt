@@ -1,4 +1,4 @@
-use Rattle.std.proofs.Common.{◌≡◌, ℕ, ◌+◌, List, map, Option, option_map, Ok, refl, sym, ap, ◌∙◌, arith}
+use Rattle.std.proofs.Common.{◌≡◌, ℕ, ◌+◌, List, [], map, Option, option_map, Ok, refl, sym, ap, ◌∙◌, arith}
 use Rattle.std.proofs.lemmas.Result.{err_from_is_err_and}
 use Rattle.ui_machine.specs.Definition.Values as values
 use Rattle.ui_machine.specs.Rules.Accumulation.{result_of, told, ending}
@@ -18,6 +18,12 @@ use Rattle.ui_machine.specs.State.Config.{World}
 use Rattle.engine_world.specs.declared.engine.Engine.{Engine}
 use Rattle.engine_world.proofs.Ableness.{in_left, no_arm}
 use Rattle.engine_world.proofs.LivingObjects.{lives_where}
+use Rattle.engine_world.specs.Counting.{in_emitted}
+use Rattle.engine_world.specs.declared.task.Task.TheVariants as tasks
+use Rattle.engine_world.specs.declared.task.Transfers.TheVariants as at
+use Rattle.engine_world.proofs.Held.{counted_lives, may_counted}
+use Rattle.engine_world.proofs.Rooms.{register_most, task_most}
+use Rattle.engine_tasks.proofs.Holding.{result_held}
 use Rattle.engine_tasks.proofs.emission.end_emission.Goals as goal
 
 -- what the arguments hold, as a slice
@@ -64,6 +70,15 @@ pass_down-requires c =
       able = able_to_pass d (world_of e.world) m (agenda_of d e) _ (rw c.object-object.ensures at c.class_of-class.ensures) (declared_view c.in-Some.signal) (rw c.signal-number.ensures at declared) v is
           (in_left e.counted _ c.requires.able);
       held = record { at = λ o. omega (arith, c.requires.counted.exact o) };
+      may =
+          may_counted d e _ c.never_full.ensures.room (record {
+            taken = λ o. same o c.args.cursor.object + in_emitted o (emission_of c.args.cursor c.args.args.items c.args.by_event);
+            counts = c.requires.counted;
+            little = λ o. (let most = task_most c.args.definition.now c.args.engine.now.world.handlers.handlers o (tasks.Emitting c.args.cursor c.args.args c.args.by_event (at.Due [])) in omega (arith, most));
+          })
+          (λ o. let one = register_most o v in omega (arith, one))
+          (λ o held. counted_lives d _ e c.never_full.ensures.dead c.requires.counted o
+          (let less = result_held d o (option_map kind_view c.in-Some.signal.result) c.args.cursor.value in let same_held = ap (in_register o) is in omega (arith, held, less, same_held)));
     }
 
 pub returns-in_err-pass_down-clause-quiet : goal.returns-in_err-pass_down-clause-quiet

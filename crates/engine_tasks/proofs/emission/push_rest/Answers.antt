@@ -2,7 +2,16 @@ use Rattle.std.proofs.Common.{ap, arith}
 use Rattle.ui_machine.specs.State.References.{same}
 use Rattle.engine_world.specs.TaskView.{emission_of}
 use Rattle.engine_world.proofs.Counts.{pushed_rest}
+use Rattle.engine_world.proofs.Held.{may_less, may_one}
 use Rattle.engine_tasks.proofs.emission.push_rest.Goals as goal
+
+pub hold_any-requires : goal.hold_any-requires
+hold_any-requires c = record {
+  may =
+      let e = c.args.engine.now in
+      may_less e.world.table (λ o. same o c.args.cursor.object) _ (λ o. let one = ap (same o) c.object.ensures in omega (arith, one))
+      (may_one e c.args.cursor.object c.never_full.ensures.room c.requires.may);
+}
 
 pub returns-clause-agenda : goal.returns-clause-agenda
 returns-clause-agenda c d = c.in_ok-push.ensures.tasks d c.args.engine.now.world.handlers.handlers
@@ -11,4 +20,4 @@ pub returns-clause-counted : goal.returns-clause-counted
 returns-clause-counted c d taken h =
     let e = c.args.engine.now in
     pushed_rest d e c.hold_any.new.table c.push.new.self taken (emission_of c.args.cursor c.args.args.items c.args.by_event) _ c.hold_any.ensures.only
-    (λ o. omega (arith, c.in_ok-hold_any.ensures.counts o, ap (same o) c.object.ensures)) (c.in_ok-push.ensures.tasks d e.world.handlers.handlers) (c.in_ok-push.ensures.begun e.world.handlers.last (c.requires.begun, c.requires.ends)) h
+    (λ o. omega (arith, c.hold_any.ensures.counts o, ap (same o) c.object.ensures)) (c.in_ok-push.ensures.tasks d e.world.handlers.handlers) (c.in_ok-push.ensures.begun e.world.handlers.last (c.requires.begun, c.requires.ends)) h

@@ -1,9 +1,15 @@
+use Rattle.std.proofs.Common.{◌∷◌, true, ap}
+use Rattle.ui_machine.specs.State.Tasks.{Beginning}
+use Rattle.ui_machine.specs.Steps.{uncounted}
 use Rattle.engine_world.specs.View.{world_of}
-use Rattle.engine_world.specs.TaskView.{agenda_of}
+use Rattle.engine_world.specs.TaskView.{agenda_of, new_of}
+use Rattle.engine_world.specs.declared.task.NewEmission.{NewEmission}
 use Rattle.engine_world.proofs.Emits.{not_held, args_stop, detail_stops, emits}
 use Rattle.engine_world.proofs.Ableness.{no_arm, none_stops}
 use Rattle.ui_machine.specs.declared.arm.Halt.TheVariants as halts
+use Rattle.engine_world.proofs.Held.{emission_lives, pushes_living}
 use Rattle.engine_world.proofs.Left.{left_with}
+use Rattle.engine_world.proofs.Named.{names_there}
 use Rattle.engine_tasks.proofs.events.emit_from_event.Goals as goal
 
 pub held_object-object-requires : goal.held_object-object-requires
@@ -31,6 +37,16 @@ operands-requires c =
           no_arm _ arm c.requires.able
           (args_stop d (world_of e.world) c.args.place.0 c.args.signal _ _ (agenda_of d e) e.counted _ c.held_object-object.ensures _ c.in_ok-detail.ensures (halts.Stuck arm) none));
     }
+
+pub push_task-requires-clause-may : goal.push_task-requires-clause-may
+push_task-requires-clause-may c =
+    let d = c.args.definition.now in
+    let e = c.args.engine.now in
+    let w = world_of e.world in
+    let new : NewEmission = record { object = c.held_object-object.result; signal = c.args.signal; detail = c.in_ok-detail.detail; args = c.in_ok-args.args; by_event = true } in
+    let is = emits d w c.args.place.0 c.args.signal _ _ (agenda_of d e) e.counted _ c.held_object-object.ensures _ c.in_ok-detail.ensures _ c.in_ok-args.ensures in
+    let names = names_there _ (record { world = w; agenda = Beginning (new_of new) ∷ agenda_of d e; counted = e.counted }) (ap (uncounted (agenda_of d e) e.counted) is) c.requires.names in
+    pushes_living d e _ c.requires.counted (λ d' o. emission_lives w o (new_of new) names.0)
 
 pub returns-clause-step : goal.returns-clause-step
 returns-clause-step c =

@@ -15,6 +15,8 @@ use Rattle.engine_world.proofs.Forwarded.{held_then}
 use Rattle.engine_world.proofs.Counts.{keeps_on}
 use Rattle.engine_world.specs.Able.{Leads}
 use Rattle.engine_world.proofs.Ableness.{able_as, in_uncounted}
+use Rattle.engine_world.proofs.Held.{lives_still, may_on, pushes_one}
+use Rattle.engine_world.proofs.Named.{names_there}
 use Rattle.engine_tasks.proofs.Settable.{sets_on}
 use Rattle.engine_tasks.proofs.forward_references.set_forward_reference.Goals as goal
 
@@ -27,6 +29,27 @@ returns-in_default-clause-step c =
     let n = c.args.engine.now.counted in
     let items = ap (λ (fs : List ForwardReference). build_end d fs) c.in_default.ensures.0 in
     subst (λ (its : List Item). Leads c.bind_from_build.result (uncounted rest n (building d w its)) (config_of d c.bind_from_build.new.engine)) (sym items) c.bind_from_build.ensures.step
+
+pub push_task-requires-2-clause-may : goal.push_task-requires-2-clause-may
+unfolding building_forward set_forward
+push_task-requires-2-clause-may c =
+    let a = c.args in
+    let d = a.definition.now in
+    let e = a.engine.now in
+    let w = world_of e.world in
+    let b = c.push_task.new.engine in
+    let f = c.in-Some.forward in
+    let items = build_end d c.take.new.self in
+    let object = c.held_object-object.result.0 in
+    let v = value_view c.held_value-value.result in
+    let set = λ (id : ℕ). set_forward w id f.slot f.to.0 items in
+    let first = ap (λ (fs : List ForwardReference). building d w (build_end d fs)) c.in-Some.ensures in
+    let is : building d w (build_end d a.forwards) ≡ starts w (Setting object f.slot v ∷ Building items ∷ []) =
+    first
+    ∙ sets_on (held_object w f.object.0) (λ (id : ℕ). spec_at d w.objects id f.slot) set object c.held_object-object.ensures (able_as first (in_uncounted _ _ _ c.requires.able))
+    ∙ held_then (held_object w f.to.0) (λ (x : Value). starts w (Setting object f.slot x ∷ Building items ∷ [])) v c.held_value-value.ensures in
+    let names = names_there _ (record { world = w; agenda = Setting object f.slot v ∷ Building items ∷ agenda_of d e; counted = e.counted }) (ap (uncounted (agenda_of d e) e.counted) is) c.requires.names in
+    pushes_one b _ object (λ d o. refl) (may_on d e b object c.requires.counted (c.in_ok-push_task.ensures.counted d) (lives_still e b object c.push_task.ensures.world names.0.0))
 
 pub returns-clause-step : goal.returns-clause-step
 unfolding building_forward set_forward

@@ -1,4 +1,4 @@
-use Rattle.std.proofs.Common.{ℕ, suc, List, [], ◌∷◌, map, false, Some, Bor, option_map, string_bytes, sym, ap, subst, ◌∙◌, arith}
+use Rattle.std.proofs.Common.{ℕ, suc, List, [], ◌∷◌, map, false, Some, IsSome, Bor, option_map, string_bytes, sym, ap, subst, ◌∙◌, arith}
 use Rattle.ui_machine.specs.Definition.Types.{GType}
 use Rattle.ui_machine.specs.Definition.Signals.{Signal}
 use Rattle.ui_machine.specs.Output.Lines as lines
@@ -7,13 +7,14 @@ use Rattle.ui_machine.specs.Rules.EmissionPlan.{notifying}
 use Rattle.ui_machine.specs.State.Tasks.{Emitting, Task}
 use Rattle.ui_machine.specs.Steps.{counted}
 use Rattle.ui_machine.specs.Seq.{total}
+use Rattle.ui_machine.specs.State.Objects.{living}
 use Rattle.ui_machine.specs.State.References.{in_value}
 use Rattle.g_values.specs.View.{value_view}
 use Rattle.g_values.specs.declared.value.Value.{Value}
 use Rattle.param_specs.specs.declared.spec.Spec.{Spec}
 use Rattle.param_specs.specs.View.{spec_view}
 use Rattle.signal_core.specs.Connected.{Numbered}
-use Rattle.signal_core.specs.Emission.{begun}
+use Rattle.signal_core.specs.Emission.{Walk, begun}
 use Rattle.signal_core.specs.Laws.{walk_for}
 use Rattle.signal_core.specs.declared.emission.Emission.{Emission}
 use Rattle.definition_format.specs.Meaning.{planned}
@@ -27,6 +28,7 @@ use Rattle.engine_tasks.proofs.Emitted.{begun_as, begun_some, notifying_starts, 
 use Rattle.engine_world.proofs.Left.{left_with}
 use Rattle.engine_world.proofs.Notified.{counted_on, unnamed, unknown, unheard}
 use Rattle.engine_world.proofs.Ableness.{in_counted, no_arm}
+use Rattle.engine_world.proofs.Held.{may_on}
 use Rattle.engine_world.proofs.LivingObjects.{lives_where}
 use Rattle.engine_tasks.proofs.notifications.notify.Goals as goal
 
@@ -62,6 +64,27 @@ unreachable-requires-in_default-emission c =
     let g = λ (s : Signal). walk_for 0 s.accumulator (planned d c.class_of-class.result id 0 (Some (string_bytes c.in_ok-name.name)) s) in
     let none = begun_none (λ (m : Emission). begun m 0) g _ (ap (option_map (λ (m : Emission). begun m 0)) (sym c.in_default-emission.is) ∙ c.emission.ensures 0) in
     no_arm (notifying d w id c.args.slot) _ able (unknown d w id c.args.slot _ (rw c.count.ensures at c.class_of-class.ensures) _ some none)
+
+pub start_emission-requires : goal.start_emission-requires
+start_emission-requires c =
+    let d = c.args.definition.now in
+    let e = c.args.engine.now in
+    let is = c.count.ensures in
+    let id = c.args.object.0 in
+    let name = string_bytes c.in_ok-name.name in
+    let able = (in_counted (agenda_of d e) e.counted _ c.requires.able).1 in
+    let lives = lives_where (world_of e.world).objects id _ (λ arm never. no_arm (notifying d (world_of e.world) id c.args.slot) arm able (unheard d (world_of e.world) id c.args.slot arm never)) in
+    let g = λ (s : Signal). walk_for 0 s.accumulator (planned d c.class_of-class.result id 0 (Some name) s) in
+    let found = ap (option_map (λ (m : Emission). begun m 0)) (sym c.in-Some-emission.is) ∙ c.emission.ensures 0 in
+    let declared = begun_some (λ (m : Emission). begun m 0) g c.in-Some-emission.emission _ found in
+    let same_object = ap (λ (v : Walk). v.object) (begun_as (λ (m : Emission). begun m 0) g c.in-Some-emission.emission _ declared.0 found declared.1) in
+    let same = keeps_same d e c.count.new.engine (ap (λ (f : Engine). f.world.table) is) (ap (λ (f : Engine). f.world.weak) is) (subst (λ (f : Engine). PassesGot d f) (sym is)) (ap (λ (f : Engine). f.world.context) is) (ap (λ (f : Engine). f.world.builder) is) (ap (λ (f : Engine). f.stack) is)
+    (ap (λ (f : Engine). f.world.handlers) is) in
+    record {
+      may = may_on d e c.count.new.engine c.in-Some-emission.emission.object.0 c.requires.counted same
+          (subst (λ (f : Engine). IsSome (living f.world.table.objects c.in-Some-emission.emission.object.0)) (sym is)
+          (subst (λ i. IsSome (living e.world.table.objects i)) (sym same_object) lives));
+    }
 
 pub returns-clause-step : goal.returns-clause-step
 returns-clause-step c =

@@ -1,4 +1,6 @@
-use Rattle.std.proofs.Common.{ℕ, List, ◌∷◌, ap, sym, ◌∙◌, map}
+use Rattle.std.proofs.Common.{ℕ, List, ◌∷◌, ap, sym, ◌∙◌, map, arith}
+use Rattle.ui_machine.specs.Seq.{total}
+use Rattle.ui_machine.specs.State.References.{in_register}
 use Rattle.ui_machine.specs.Definition.Types.{GType}
 use Rattle.ui_machine.specs.Output.Lines as lines
 use Rattle.ui_machine.specs.Output.Text.{text_of_line}
@@ -13,8 +15,10 @@ use Rattle.engine_world.proofs.Counts.{keeps_on, keeps_said}
 use Rattle.engine_world.proofs.Left.{left_with}
 use Rattle.engine_tasks.proofs.ProgramStarts.{begins_program, begins_unknown, begins_fit}
 use Rattle.ui_machine.specs.declared.arm.Arm.TheVariants as arms
-use Rattle.ui_machine.specs.Rules.Programs.{beginning_program}
+use Rattle.ui_machine.specs.Rules.Programs.{beginning_program, first_registers}
 use Rattle.engine_world.proofs.Ableness.{in_uncounted, no_arm}
+use Rattle.engine_world.proofs.Held.{pushes_living, registers_live}
+use Rattle.engine_world.proofs.Named.{first_names}
 use Rattle.engine_tasks.proofs.programs.begin_program.Goals as goal
 
 pub unreachable-requires : goal.unreachable-requires
@@ -23,6 +27,17 @@ unreachable-requires c =
     let w = world_of c.args.engine.now.world in
     let args = map value_view c.args.args.items in
     no_arm (beginning_program d w c.args.number args) arms.Code (in_uncounted _ _ _ c.requires.able) (begins_unknown d w c.args.number args (sym c.in_default.ensures.program))
+
+pub push_task-requires-clause-may : goal.push_task-requires-clause-may
+push_task-requires-clause-may c =
+    let d = c.args.definition.now in
+    let e = c.args.engine.now in
+    let w = world_of e.world in
+    let p = program_view c.in-Some.program.now in
+    let args = map value_view c.args.args.items in
+    pushes_living d e _ c.requires.counted (λ d' o held.
+    let same = ap (λ (f : Frame). total (in_register o) f.registers) c.in_ok-frame.ensures in
+    registers_live w o (first_registers p args) (first_names w p args c.requires.names) (omega (arith, held, same)))
 
 pub returns-clause-step : goal.returns-clause-step
 returns-clause-step c =

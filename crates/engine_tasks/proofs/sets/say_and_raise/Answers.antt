@@ -1,11 +1,12 @@
-use Rattle.std.proofs.Common.{◌≡◌, true, ap, string_bytes, rules, ◌∙◌}
+use Rattle.std.proofs.Common.{◌≡◌, true, refl, ap, string_bytes, rules, ◌∙◌}
 use Rattle.ui_machine.specs.Rules.Sets.{raising, raising_if}
 use Rattle.ui_machine.specs.Rules.NotifyQueue.{raised}
 use Rattle.ui_machine.specs.State.Objects.{changed}
 use Rattle.engine_world.proofs.Counts.{keeps_on, keeps_said, keeps_change, raised_alike}
 use Rattle.engine_world.specs.View.{with_line, world_of}
 use Rattle.engine_world.proofs.Ableness.{able_as, first, in_uncounted}
-use Rattle.engine_world.proofs.LivingObjects.{lives_changed}
+use Rattle.engine_world.proofs.Held.{may_on, pushes_one}
+use Rattle.engine_world.proofs.LivingObjects.{lives_changed, lives_on}
 use Rattle.engine_tasks.proofs.sets.say_and_raise.Goals as goal
 
 pub add-requires : goal.add-requires
@@ -17,6 +18,15 @@ add-requires c = record {
       let able = able_as (ap (λ b. raising_if b w c.args.object.0 c.args.slot) told) (in_uncounted _ _ _ c.requires.able) in
       lives_changed w.objects c.args.object.0 (raised c.args.slot) (first (changed w.objects c.args.object.0 (raised c.args.slot)) _ able);
 }
+
+pub push_task-requires-clause-may : goal.push_task-requires-clause-may
+push_task-requires-clause-may c =
+    let d = c.args.definition.now in
+    let e = c.args.engine.now in
+    let id = c.args.object.0 in
+    pushes_one _ _ id (λ d o. refl)
+    (may_on d e _ id c.requires.counted (keeps_change d e c.add.new.self id (raised c.args.slot) _ (raised_alike d c.args.slot) c.in_ok-add.ensures.changes c.add.ensures.beside)
+    (lives_on e.world.table.objects id (raised c.args.slot) _ c.in_ok-add.ensures.changes))
 
 pub returns-then-branch-clause-step : goal.returns-then-branch-clause-step
 unfolding raising

@@ -15,7 +15,7 @@ pub returns-clause-counted : goal.returns-clause-counted
 returns-clause-counted c =
     let d = c.args.definition.now in
     let e = c.args.engine.now in
-    let room = named_held e.world.table (value_view c.args.value) (c.never_full.ensures d c.requires.counted) c.requires.lives in
+    let room = named_held e.world.table (value_view c.args.value) (c.never_full.ensures.may d c.requires.counted) c.requires.lives in
     keeps_by d e _ refl (λ g. g) refl (stays d e _ refl refl) (λ taken knows h.
     written_exact d e.world.weak e.world.table c.write.new.self c.args.object.0 c.args.slot (value_view c.args.value) taken (map held_of e.world.builder.items) (agenda_of d e) _ knows
     c.write.ensures.changes c.write.ensures.beside

@@ -10,7 +10,7 @@ use Rattle.engine_world.specs.EngineView.{config_of}
 use Rattle.engine_world.specs.View.{world_of}
 use Rattle.engine_world.specs.TaskView.{agenda_of}
 use Rattle.ui_machine.specs.State.Sources.{source_of}
-use Rattle.engine_world.proofs.Counts.{keeps_on}
+use Rattle.engine_world.proofs.Counts.{keeps_on, still_counted}
 use Rattle.engine_world.proofs.SourceCounts.{found_none}
 use Rattle.engine_world.proofs.Registers.{on_ok}
 use Rattle.engine_tasks.proofs.TurnTaking.{begins_as}
@@ -18,6 +18,7 @@ use Rattle.engine_tasks.proofs.ProgramStarts.{begins_before}
 use Rattle.engine_tasks.proofs.Sourcing.{source_absent, source_begins}
 use Rattle.engine_world.specs.Able.{Leads}
 use Rattle.engine_world.proofs.Ableness.{able_as, in_uncounted, no_arm}
+use Rattle.engine_world.proofs.Named.{begins_names, names_as}
 use Rattle.engine_tasks.proofs.sources.run_source.Goals as goal
 
 pub unreachable-requires : goal.unreachable-requires
@@ -39,7 +40,11 @@ begin_program-requires c =
     (c.in_ok-push_task.ensures.agenda d) c.push_task.ensures.same c.push_task.ensures.world refl c.in_ok-args.ensures
     ∙ sym (begins_before d (world_of e.world) due.program given (Answering c.args.source ∷ []) (agenda_of d e) e.counted)
     ∙ sym so in
-    record { able = able_as (sym begins) c.requires.able }
+    record {
+      able = able_as (sym begins) c.requires.able;
+      counted = still_counted d e b (c.in_ok-push_task.ensures.counted d) c.requires.counted;
+      names = begins_names b.counted (agenda_of d b) d (world_of b.world) due.program (map value_view c.in_ok-args.args.items) (able_as (sym begins) c.requires.able) (names_as (sym begins) c.requires.names);
+    }
 
 pub returns-clause-step : goal.returns-clause-step
 returns-clause-step c =

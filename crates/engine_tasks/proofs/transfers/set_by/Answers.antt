@@ -4,7 +4,18 @@ use Rattle.bindings.specs.Made.{Made}
 use Rattle.g_values.specs.View.{value_view}
 use Rattle.engine_world.specs.View.{world_of}
 use Rattle.engine_world.proofs.Counts.{keeps_on, keeps_same}
+use Rattle.engine_world.proofs.Held.{lives_still, may_on, pushes_one}
 use Rattle.engine_tasks.proofs.transfers.set_by.Goals as goal
+
+pub push_task-requires-2-clause-may : goal.push_task-requires-2-clause-may
+push_task-requires-2-clause-may c =
+    let d = c.args.definition.now in
+    let e = c.args.engine.now in
+    let m = record e { world = record e.world { bindings = c.setting.new.self } } in
+    let b = c.push_task.new.engine in
+    let id = c.args.transfer.target.0 in
+    pushes_one b _ id (λ d o. refl)
+    (may_on d e b id c.requires.counted (keeps_on d e m b (keeps_same d e m refl refl (λ g. g) refl refl refl refl) (c.in_ok-push_task.ensures.counted d)) (lives_still m b id c.push_task.ensures.world c.requires.live))
 
 pub returns-clause-step : goal.returns-clause-step
 returns-clause-step c =

@@ -9,11 +9,11 @@ use Rattle.engine_world.specs.EngineView.{config_of}
 use Rattle.engine_world.specs.TaskView.{agenda_of}
 use Rattle.engine_world.specs.View.{world_of}
 use Rattle.engine_world.specs.declared.engine.Engine.{Engine}
-use Rattle.engine_world.proofs.Counts.{keeps_on, keeps_same}
+use Rattle.engine_world.proofs.Counts.{keeps_on, keeps_same, still_counted}
 use Rattle.engine_world.proofs.Notified.{counted_on}
 use Rattle.engine_world.proofs.Registers.{on_ok}
 use Rattle.engine_tasks.specs.TransferSteps.{carried_value, to_end}
-use Rattle.engine_tasks.proofs.Carrying.{transfer_sets, transfers_by}
+use Rattle.engine_tasks.proofs.Carrying.{target_lives, transfer_sets, transfers_by}
 use Rattle.engine_world.specs.Able.{Leads}
 use Rattle.engine_world.proofs.Ableness.{able_as, first, in_counted}
 use Rattle.engine_tasks.proofs.transfers.transfer.Goals as goal
@@ -44,7 +44,14 @@ set_by-requires c =
     counted_on rest e.counted _ (in_counted rest e.counted _ c.requires.able).0
     ∙ ap (λ (x : Engine). uncounted (agenda_of d x) x.counted (transferring d (world_of x.world) c.args.number c.args.back)) (sym is)
     ∙ ap (uncounted (agenda_of d f) f.counted) (transfer_sets d (world_of f.world) c.args.number c.args.back t (sym c.in-Some.is ∙ c.transfer.ensures) v c.in_ok-value.ensures) in
-    record { able = able_as whole c.requires.able }
+    let by_value = ap (λ (x : Engine). transferring d (world_of x.world) c.args.number c.args.back) (sym is)
+    ∙ transfers_by d (world_of f.world) c.args.number c.args.back t (sym c.in-Some.is ∙ c.transfer.ensures) in
+    let same = keeps_same d e f (ap (λ (x : Engine). x.world.table) is) (ap (λ (x : Engine). x.world.weak) is) (subst (λ (x : Engine). PassesGot d x) (sym is)) (ap (λ (x : Engine). x.world.context) is) (ap (λ (x : Engine). x.world.builder) is) (ap (λ (x : Engine). x.stack) is) (ap (λ (x : Engine). x.world.handlers) is) in
+    record {
+      able = able_as whole c.requires.able;
+      live = target_lives d (world_of f.world) t (first (carried_value d (world_of f.world) t) (λ v. set_by (world_of f.world) t.number (to_end t) v) (able_as by_value (in_counted rest e.counted _ c.requires.able).1));
+      counted = still_counted d e f same c.requires.counted;
+    }
 
 pub returns-clause-step : goal.returns-clause-step
 returns-clause-step c =

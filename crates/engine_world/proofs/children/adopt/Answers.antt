@@ -16,7 +16,7 @@ adopt-requires c = record {
       let t = e.world.table in
       let child = c.args.kin.child.0 in
       held_room t child
-      (c.never_full.ensures c.args.definition.now c.requires.counted child (both_live t c.args.kin.parent.0 child c.requires.free).1);
+      (c.never_full.ensures.may c.args.definition.now c.requires.counted child (both_live t c.args.kin.parent.0 child c.requires.free).1);
 }
 
 pub returns-clause-counted : goal.returns-clause-counted

@@ -1,9 +1,7 @@
-use Rattle.std.proofs.Common.{◌≡◌, ◌<◌, ℕ, List, None, length, slice_get, slice_set, subst, take, sym, ap, arith, ◌∙◌}
-use Rattle.ui_machine.specs.Definition.Places.{Place}
+use Rattle.std.proofs.Common.{◌<◌, ℕ, List, length, slice_get, slice_set, subst, take, sym, ap, arith, ◌∙◌}
 use Rattle.ui_machine.specs.Seq.{read}
 use Rattle.ui_machine.specs.State.Peers.{first_left}
 use Rattle.definition_format.specs.Meaning.{name_bytes}
-use Rattle.engine_world.specs.PeerPlaces.{AreGot}
 use Rattle.engine_world.specs.GotNames.{AreAllGot}
 use Rattle.engine_world.proofs.GotPeers.{counted_got, read_beside, read_here}
 use Rattle.engine_world.proofs.object_peers.count_got.Goals as goal

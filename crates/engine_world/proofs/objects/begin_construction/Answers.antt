@@ -1,4 +1,4 @@
-use Rattle.std.proofs.Common.{◌≡◌, ◌<◌, ℕ, IfSome, List, Option, ap, length, string_bytes, subst, sym, ◌∙◌}
+use Rattle.std.proofs.Common.{◌≡◌, ◌<◌, ℕ, IfSome, List, Option, refl, ap, length, string_bytes, subst, sym, ◌∙◌}
 use Rattle.ui_machine.specs.Rules.Construction.{lent}
 use Rattle.ui_machine.specs.State.Config.{World}
 use Rattle.ui_machine.specs.State.Peers.{Peer}
@@ -6,12 +6,16 @@ use Rattle.signal_core.specs.Connected.{Connected}
 use Rattle.engine_world.specs.TaskView.{tasks_of}
 use Rattle.engine_world.specs.View.{with_line, world_of}
 use Rattle.engine_world.proofs.Counts.{keeps_lent, keeps_on, keeps_said}
+use Rattle.engine_world.proofs.Held.{pushes_one}
 use Rattle.engine_world.proofs.objects.begin_construction.Goals as goal
 
 -- a number is one of the peers still
 still_there : (peer : Option ℕ) (v w u : World) → w ≡ u → u.peers ≡ v.peers → IfSome peer (λ number. number < length v.peers) → IfSome peer (λ number. number < length w.peers)
 still_there peer v w u is same there =
     subst (λ (ps : List Peer). IfSome peer (λ number. number < length ps)) (sym (ap (λ (x : World). x.peers) is ∙ same)) there
+
+pub push_task-requires-clause-may : goal.push_task-requires-clause-may
+push_task-requires-clause-may c = pushes_one c.args.engine.now _ c.args.new.object.0 (λ d o. refl) c.requires.may
 
 pub lend-requires : goal.lend-requires
 lend-requires c =

@@ -4,7 +4,12 @@ use Rattle.ui_machine.specs.State.References.{in_object}
 use Rattle.engine_world.specs.View.{held_of}
 use Rattle.engine_world.specs.TaskView.{agenda_of}
 use Rattle.engine_world.proofs.Counts.{keeps_by, beside_of, to_counted, from_counted, stays}
+use Rattle.engine_world.proofs.Held.{newest_lives}
 use Rattle.engine_world.proofs.objects.create_object.Goals as goal
+
+pub returns-clause-live : goal.returns-clause-live
+returns-clause-live c =
+    newest_lives c.args.engine.now.world.table.objects c.add.new.table.objects c.new-object.result c.in-Ok.id.0 c.in-Ok.ensures.added.identity c.in-Ok.ensures.added.objects
 
 pub returns-clause-counted : goal.returns-clause-counted
 returns-clause-counted c none =

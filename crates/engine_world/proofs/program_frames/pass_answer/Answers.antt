@@ -39,6 +39,7 @@ receive-requires c = record {
       let first = ap (λ (ts : List Task). total (in_task o) ts) (c.in-Some.ensures.tasks d hs) in
       let program = ap (λ (t : code.Task). in_task o (task_of d hs t)) c.in-Running.is in
       omega (arith, c.requires.held.at o, first, program);
+  may = c.requires.may;
 }
 
 pub returns-clause-agenda : goal.returns-clause-agenda

@@ -1,7 +1,8 @@
-use Rattle.std.proofs.Common.{[], List, Option, Some, Ok, sym, subst, ap, ◌∙◌, option_map}
+use Rattle.std.proofs.Common.{[], List, Option, Some, Ok, sym, subst, ap, ◌∙◌, option_map, arith}
 use Rattle.ui_machine.specs.Definition.Values.{Value}
 use Rattle.ui_machine.specs.Outcome.{Answer}
 use Rattle.ui_machine.specs.Rules.Accumulation.{taken}
+use Rattle.ui_machine.specs.State.References.{in_register}
 use Rattle.ui_machine.specs.State.Tasks.{Task}
 use Rattle.g_values.specs.View.{value_view}
 use Rattle.g_values.specs.declared.value.Value as code
@@ -11,6 +12,7 @@ use Rattle.bytecode.specs.declared.computations.Register.{Register}
 use Rattle.engine_world.specs.TaskView.{agenda_of}
 use Rattle.engine_world.specs.Able.{Leads}
 use Rattle.engine_world.proofs.Ableness.{able_as, no_arm}
+use Rattle.engine_world.proofs.Held.{may_less}
 use Rattle.engine_world.proofs.Registers.{receives_able}
 use Rattle.engine_world.proofs.program_frames.pass_to.Goals as goal
 
@@ -34,6 +36,11 @@ receive-requires-clause-able c =
     let given = ap (option_map value_view) c.in-Some-value.is ∙ ap (λ (v : Value). Some v) (sym c.in_ok-value.ensures.value) in
     let is = into ∙ ap (λ (v : Option Value). taken (Some to) f [] v) given in
     receives_able f [] to (Some (value_view c.in_ok-value.value)) (able_as is c.requires.able)
+
+pub receive-requires-clause-may : goal.receive-requires-clause-may
+receive-requires-clause-may c =
+    let given = ap (option_map value_view) c.in-Some-value.is ∙ ap (λ (v : Value). Some v) (sym c.in_ok-value.ensures.value) in
+    may_less c.args.engine.now.world.table _ _ (λ o. let same = ap (in_register o) given in omega (arith, same)) c.requires.may
 
 pub returns-clause-agenda : goal.returns-clause-agenda
 returns-clause-agenda c d =

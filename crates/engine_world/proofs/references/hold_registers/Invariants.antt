@@ -1,4 +1,4 @@
-use Rattle.std.proofs.Common.{◌≡◌, ℕ, ◌+◌, drop}
+use Rattle.std.proofs.Common.{◌≡◌, ℕ, ◌+◌, ◌≤◌, drop}
 use Rattle.ui_machine.specs.Seq.{total}
 use Rattle.ui_machine.specs.State.References.{in_register}
 use Rattle.bytecode.specs.Computing.{registers_of}
@@ -11,4 +11,5 @@ invariant-loop-register l = record {
   only : OnlyCounts l.fn.table l.table;
   counts : (o : ℕ) → count_of l.table.counts o + total (in_register o) (registers_of (drop l.register-index l.registers))
       ≡ count_of l.fn.table.counts o + total (in_register o) (registers_of l.registers);
+  less : (o : ℕ) → total (in_register o) (registers_of (drop l.register-index l.registers)) ≤ total (in_register o) (registers_of l.registers);
 }

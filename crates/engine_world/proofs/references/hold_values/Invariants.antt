@@ -1,4 +1,4 @@
-use Rattle.std.proofs.Common.{◌≡◌, ℕ, ◌+◌, drop, map}
+use Rattle.std.proofs.Common.{◌≡◌, ℕ, ◌+◌, ◌≤◌, drop, map}
 use Rattle.ui_machine.specs.Seq.{total}
 use Rattle.ui_machine.specs.State.References.{in_value}
 use Rattle.g_values.specs.View.{value_view}
@@ -11,4 +11,5 @@ invariant-loop-value l = record {
   only : OnlyCounts l.fn.table l.table;
   counts : (o : ℕ) → count_of l.table.counts o + total (in_value o) (map value_view (drop l.value-index l.values))
       ≡ count_of l.fn.table.counts o + total (in_value o) (map value_view l.values);
+  less : (o : ℕ) → total (in_value o) (map value_view (drop l.value-index l.values)) ≤ total (in_value o) (map value_view l.values);
 }

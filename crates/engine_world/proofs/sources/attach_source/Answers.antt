@@ -13,10 +13,10 @@ returns-clause-counted c d =
     let e = c.args.engine.now in
     let x = c.args.source in
     let s = new_source (e.world.context.last + 1) e.world.context.moment x.program x.priority x.interval (identity_of x.arg) in
-    context_moves d e c.hold_any.new.table c.attach_to.new.context c.in_ok-hold_any.ensures.only (λ o.
+    context_moves d e c.hold_any.new.table c.attach_to.new.context c.hold_any.ensures.only (λ o.
     omega (
       arith,
-      c.in_ok-hold_any.ensures.counts o,
+      c.hold_any.ensures.counts o,
       ap (λ (a : Attached). total (in_source o) a.sources) c.in-Ok.ensures.ok,
       total-append (in_source o) e.world.context.sources (s ∷ []),
     ))

@@ -1,0 +1,91 @@
+-- The engine's tasks name what lives, where the machine's do.
+use Rattle.std.proofs.Common.{◌≡◌, refl, subst, ℕ, true, List, [], ◌∷◌, map, IfSome, IsSome}
+use Rattle.ui_machine.specs.Rules.Sets.{lives}
+use Rattle.ui_machine.specs.State.Config.{Config, World}
+use Rattle.ui_machine.specs.State.Objects.{Objects, living}
+use Rattle.ui_machine.specs.State.Tasks.{Answering, Beginning, Building, Calling, Constructing, Due, Emission, Emitting, Handling, Notifying, Running, Setting, Task, Thawing, Transferring, Unsetting}
+use Rattle.machine_laws.specs.GoneLaws.{Gone, pruned}
+use Rattle.law_peers.specs.Forgetting.{forgotten_at}
+use Rattle.law_typing.specs.Good.Living.{TaskNamesLiving}
+use Rattle.law_typing.specs.Verdict.Accepted.{Each}
+use Rattle.engine_world.specs.Able.{TasksNameLiving}
+use Rattle.engine_world.specs.Standing.{gone_handlers, without_gone}
+
+-- the same objects live
+module _ (w v : World) (same : w.objects ≡ v.objects) where
+  emission_elsewhere : (e : Emission) → TaskNamesLiving w (Beginning e) → TaskNamesLiving v (Beginning e)
+  emission_elsewhere e names =
+      subst (λ (os : Objects). IsSome (living os e.object) × Each (λ x. lives os x ≡ true) e.args × IfSome e.value (λ x. lives os x ≡ true)) same names
+
+  object_elsewhere : (id : ℕ) → IsSome (living w.objects id) → IsSome (living v.objects id)
+  object_elsewhere id lives = subst (λ (os : Objects). IsSome (living os id)) same lives
+
+  task_elsewhere : (t : Task) → TaskNamesLiving w t → TaskNamesLiving v t
+  task_elsewhere (Setting id slot x) names = subst (λ (os : Objects). IsSome (living os id) × (lives os x ≡ true)) same names
+  task_elsewhere (Notifying id slot) names = object_elsewhere id names
+  task_elsewhere (Beginning e) names = emission_elsewhere e names
+  task_elsewhere (Emitting e turns) names = emission_elsewhere e names
+  task_elsewhere (Thawing id []) names = tt
+  task_elsewhere (Thawing id (slot ∷ slots)) names = object_elsewhere id names
+  task_elsewhere (Running f) names = subst (λ (os : Objects). Each (λ r. IfSome r (λ x. lives os x ≡ true)) f.registers) same names
+  task_elsewhere (Calling call) names = subst (λ (os : Objects). IsSome (living os call.object) × Each (λ x. lives os x ≡ true) call.args) same names
+  task_elsewhere (Constructing id steps held) names = object_elsewhere id names
+  task_elsewhere (Transferring number back) names = tt
+  task_elsewhere (Unsetting number) names = tt
+  task_elsewhere (Answering source) names = tt
+  task_elsewhere (Building items) names = tt
+  task_elsewhere (Handling request) names = tt
+  task_elsewhere (Due source) names = tt
+
+  pub tasks_elsewhere : (ts : List Task) → Each (TaskNamesLiving w) ts → Each (TaskNamesLiving v) ts
+  tasks_elsewhere [] names = tt
+  tasks_elsewhere (t ∷ ts) names = (task_elsewhere t names.0, tasks_elsewhere ts names.1)
+
+-- turns that are left out name nothing
+module _ (gone : Gone) (w : World) where
+  task_pruned : (t : Task) → TaskNamesLiving w t → TaskNamesLiving w (pruned gone t)
+  task_pruned (Emitting e turns) names = names
+  task_pruned (Setting id slot x) names = names
+  task_pruned (Notifying id slot) names = names
+  task_pruned (Beginning e) names = names
+  task_pruned (Thawing id slots) names = names
+  task_pruned (Running f) names = names
+  task_pruned (Calling call) names = names
+  task_pruned (Constructing id steps held) names = names
+  task_pruned (Transferring number back) names = names
+  task_pruned (Unsetting number) names = names
+  task_pruned (Answering source) names = names
+  task_pruned (Building items) names = names
+  task_pruned (Handling request) names = names
+  task_pruned (Due source) names = names
+
+  task_whole : (t : Task) → TaskNamesLiving w (pruned gone t) → TaskNamesLiving w t
+  task_whole (Emitting e turns) names = names
+  task_whole (Setting id slot x) names = names
+  task_whole (Notifying id slot) names = names
+  task_whole (Beginning e) names = names
+  task_whole (Thawing id slots) names = names
+  task_whole (Running f) names = names
+  task_whole (Calling call) names = names
+  task_whole (Constructing id steps held) names = names
+  task_whole (Transferring number back) names = names
+  task_whole (Unsetting number) names = names
+  task_whole (Answering source) names = names
+  task_whole (Building items) names = names
+  task_whole (Handling request) names = names
+  task_whole (Due source) names = names
+
+  tasks_pruned : (ts : List Task) → Each (TaskNamesLiving w) ts → Each (TaskNamesLiving w) (map (pruned gone) ts)
+  tasks_pruned [] names = tt
+  tasks_pruned (t ∷ ts) names = (task_pruned t names.0, tasks_pruned ts names.1)
+
+  tasks_whole : (ts : List Task) → Each (TaskNamesLiving w) (map (pruned gone) ts) → Each (TaskNamesLiving w) ts
+  tasks_whole [] names = tt
+  tasks_whole (t ∷ ts) names = (task_whole t names.0, tasks_whole ts names.1)
+
+-- what the machine's configuration names, the engine's does, which is without turns of handlers that are gone
+pub names_alike : (y x : Config) → without_gone (forgotten_at y) ≡ without_gone x → TasksNameLiving y → TasksNameLiving x
+names_alike y x is names =
+    tasks_whole (gone_handlers x.world) x.world x.agenda
+    (subst TasksNameLiving is
+    (tasks_pruned (gone_handlers (forgotten_at y).world) (forgotten_at y).world y.agenda (tasks_elsewhere y.world (forgotten_at y).world refl y.agenda names)))
