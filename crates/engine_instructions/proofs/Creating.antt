@@ -258,3 +258,12 @@ room_as live made n c limit most capped same few = by (nat_le n 4294967295) refl
         let none : nat_lt (live + c) limit ≡ false = grind (arith, nat_tests) in
         let never : nat_lt (live + n) most ≡ false = grind (arith, nat_tests) in
         ap (λ b. b && nat_lt (made + c) most_identities) none ∙ sym (ap (λ b. b && nat_lt (made + n) most_identities) never)
+
+-- where there is room for one object more, an identity is left for it
+pub identity_left : (d : Definition) (w : World) (n : ℕ) (there : Bool) → (has_room d w n && there) ≡ true → length w.objects < most_identities
+identity_left d w n there room = by (nat_lt (live w.objects + n) d.most_objects) (nat_lt (length w.objects + n) most_identities) refl room
+  where
+    by : (lives some : Bool) → nat_lt (length w.objects + n) most_identities ≡ some → ((lives && some) && there) ≡ true → length w.objects < most_identities
+    by true true is room = (let less : length w.objects + n < most_identities = grind (arith, nat_tests) in omega (arith, less))
+    by true false is room = absurd (cc room)
+    by false some is room = absurd (cc room)

@@ -15,7 +15,7 @@ mod Collecting
 mod Returning
 mod Calling
 pub mod Whole
-mod Creating
+pub mod Creating
 mod SourceSteps
 mod Unbinding
 mod PeerCalls

@@ -7,6 +7,7 @@ ghost use Rattle.ui_machine.specs.Outcome.{known};
 ghost use Rattle.ui_machine.specs.declared.arm.Arm.TheVariants as arms;
 ghost use Rattle.ui_machine.specs.Rules.Build.{is_making, of_items, to_make};
 ghost use Rattle.ui_machine.specs.State.Handlers.{Handler};
+ghost use Rattle.ui_machine.specs.State.Objects.{most_identities};
 ghost use Rattle.ui_machine.specs.Steps.{left};
 ghost use Rattle.definition_format.specs.Meaning.{object_count};
 ghost use Rattle.frames.specs.FrameView.{frame_view};
@@ -120,6 +121,7 @@ fn create_at(
 ) -> Result<(), AllocError>
     requires able { Able (left engine.now.counted (in_front (agenda_of definition.now engine.now) (created definition.now (world_of engine.now.world) (frame_view frame) to.0 place.0 peer))) }
     requires peer { IfSome peer (λ number. number < length engine.now.world.seats) }
+    requires identity { length (world_of engine.now.world).objects < most_identities }
     requires counted { Counts definition.now (λ o. in_frame o (frame_view frame)) engine.now }
     ensures step { Leads result
         (left engine.old.counted (in_front (agenda_of definition.now engine.old) (created definition.now (world_of engine.old.world) (frame_view frame) to.0 place.0 peer)))

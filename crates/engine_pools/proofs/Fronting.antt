@@ -115,6 +115,7 @@ module _ (d : Definition) (front : List (List ℕ)) where
         apt_kept at (question d at)
         (subst (λ (q : Option Question). IfSome q (IsApt d (fronted_at front at))) (question_stays front d at) (s.asks replies fit (fronted_at front at) (behind r)));
     names = λ replies fit at r. names_kept at (s.names replies fit (fronted_at front at) (behind r));
+    identities = λ replies fit at r. s.identities replies fit (fronted_at front at) (behind r);
   }
 
   pub comes_of_safe : (p : Point) (c : Config) → Stands (fronted_point front p) c → IsSafe d c → ComesOfSafe d p

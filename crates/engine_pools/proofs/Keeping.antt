@@ -1,10 +1,11 @@
 -- What keeps a session from ever being stuck: each dispatch begins where a law says so, and leaves the world at rest.
-use Rattle.std.proofs.Common.{◌≡◌, ℕ, List, [], ◌∷◌, None, Some, false, subst}
+use Rattle.std.proofs.Common.{◌≡◌, ℕ, ◌≤◌, List, [], ◌∷◌, Option, None, Some, false, length, subst, arith}
 use Rattle.ui_machine.specs.Definition.{Definition}
 use Rattle.ui_machine.specs.Rules.Events.{names_released, refusal}
 use Rattle.ui_machine.specs.Rules.MainLoop.{turned}
-use Rattle.ui_machine.specs.Runs.{Dispatches, Fits, RunsSources, Tally, beginning, of_build, of_request}
+use Rattle.ui_machine.specs.Runs.{Dispatches, Fits, RunsSource, RunsSources, Tally, beginning, of_build, of_request}
 use Rattle.ui_machine.specs.State.Config.{Config, World}
+use Rattle.ui_machine.specs.State.Objects.{most_identities}
 use Rattle.ui_machine.specs.State.Peers.{Peer, Reply}
 use Rattle.ui_machine.specs.State.Sources.{Source, is_numbered, source_of}
 use Rattle.ui_machine.specs.State.Tasks.{Due, Event, Request}
@@ -31,6 +32,10 @@ use Rattle.law_sessions.proofs.EntryProofs.{IsPrinted, build_printed, printed_fe
 use Rattle.law_sessions.proofs.KeepsProofs.{keeps}
 use Rattle.law_sessions.proofs.SessionProofs.{not_released, request_keeps, runs_source, source_keeps, turns}
 use Rattle.law_living.proofs.LivingProofs.{throughout}
+use Rattle.law_identities.specs.Identities.{HasIdentities}
+use Rattle.law_identities.specs.Kin.{HasKinMade}
+use Rattle.law_identities.proofs.RunProofs.{builds_have_identities, builds_have_kin_made, identities_last, requests_have_identities, sources_have_identities}
+use Rattle.engine_pools.proofs.KinMade.{kin_made}
 use Rattle.engine_pools.specs.Promises.{BuildKeeps, EventKeeps, Rests, by_request, by_source}
 use Rattle.engine_pools.specs.Safety.{IsSafe}
 use Rattle.engine_pools.proofs.Apt.{asks_on}
@@ -39,42 +44,51 @@ module _ (d : Definition) where
   -- the lines do not matter
   pub other_lines_rest : (w : World) (lines : List (List ℕ)) → Rests d w → Rests d (record w { transcript = lines })
   other_lines_rest w lines rests a =
-      let r = rests a in
-      record {
-        objects = λ id o e. (let g = r.objects id o e in record {
-          place = g.place;
-          is = g.is;
-          class = g.class;
-          values = g.values;
-          children = g.children;
-          parent = g.parent;
-          queue = g.queue;
-          apart = g.apart;
-          peer = g.peer;
-        });
-        handlers = r.handlers;
-        bindings = r.bindings;
-        sources = r.sources;
-        peers = r.peers;
-        document = r.document;
-        held = r.held;
-        floating = r.floating;
-        thawed = r.thawed;
-        few = r.few;
-      }
+      let r = (rests a).0 in (
+        record {
+          objects = λ id o e. (let g = r.objects id o e in record {
+            place = g.place;
+            is = g.is;
+            class = g.class;
+            values = g.values;
+            children = g.children;
+            parent = g.parent;
+            queue = g.queue;
+            apart = g.apart;
+            peer = g.peer;
+          });
+          handlers = r.handlers;
+          bindings = r.bindings;
+          sources = r.sources;
+          peers = r.peers;
+          document = r.document;
+          held = r.held;
+          floating = r.floating;
+          thawed = r.thawed;
+          few = r.few;
+        },
+        (rests a).1,
+      )
 
   pub without_lines_rests : (w : World) → Rests d w → Rests d (record w { transcript = [] })
   without_lines_rests w rests = other_lines_rest w [] rests
 
-  -- a dispatch leaves the world at rest
-  rests_by : (c : Config) → ((a : Accepted d) → (e : Entry) × Keeps d a e c) → (replies : List Reply) → Each (Fits d) replies → (count : ℕ) (new : World)
-      → Dispatches d replies c count new → Rests d new
-  rests_by c keeps replies fit count new dispatches a = ((keeps a).1.ends replies fit count new dispatches).1
+  -- a dispatch makes no more objects than there are identities
+  made_by : (c : Config) → HasKinMade c.world → HasIdentities c → (replies : List Reply) (count : ℕ) (new : World) → Dispatches d replies c count new → length new.objects ≤ most_identities
+  made_by c kin left replies count new s =
+      let last = identities_last d replies c s.at s.reached kin left in
+      subst (λ (v : World). length v.objects ≤ most_identities) s.leaves (omega (arith, last))
+
+  -- and leaves the world at rest
+  rests_by : (c : Config) → ((a : Accepted d) → (e : Entry) × Keeps d a e c) → ((a : Accepted d) → HasKinMade c.world × HasIdentities c) → (replies : List Reply) → Each (Fits d) replies
+      → (count : ℕ) (new : World) → Dispatches d replies c count new → Rests d new
+  rests_by c keeps left replies fit count new dispatches a =
+      (((keeps a).1.ends replies fit count new dispatches).1, made_by c (left a).0 (left a).1 replies count new dispatches)
 
   module _ (well : WellRead d) where
     -- what begins well is safe
-    safe_by : (a : Accepted d) (e : Entry) (c : Config) → IsPrinted d a e → IsGood d a (bound_of d a e) c → IsSafe d c
-    safe_by a e c printed good =
+    safe_by : (a : Accepted d) (e : Entry) (c : Config) → IsPrinted d a e → IsGood d a (bound_of d a e) c → HasIdentities c → IsSafe d c
+    safe_by a e c printed good left =
         let few = printed_few d a well e printed in
         let kept = keeps steps_keep_good d well a e c few printed good in
         record {
@@ -82,6 +96,7 @@ module _ (d : Definition) where
           safe = record { unstuck = kept.never_stuck; shallow = kept.shallow };
           asks = asks_on d a (bound_of d a e) steps_keep_good well few c good;
           names = throughout d well a (bound_of d a e) few c good;
+          identities = λ replies fit at reached. identities_last d replies c at reached (kin_made d c.world good.objects) left;
         }
 
     -- ** the build
@@ -90,23 +105,23 @@ module _ (d : Definition) where
       pub build_promised : BuildKeeps d peers
       build_promised a = keeps steps_keep_good d well a entries.build (of_build d peers) (printed_few d a well entries.build (build_printed d a)) (build_printed d a) (build_begins d well a peers ready)
 
-      pub build_safe : Accepted d → IsSafe d (of_build d peers)
-      build_safe a = safe_by a entries.build (of_build d peers) (build_printed d a) (build_begins d well a peers ready)
+      pub build_safe : length d.places ≤ most_identities → Accepted d → IsSafe d (of_build d peers)
+      build_safe few a = safe_by a entries.build (of_build d peers) (build_printed d a) (build_begins d well a peers ready) (builds_have_identities d peers few)
 
-      pub build_rests : (replies : List Reply) → Each (Fits d) replies → (count : ℕ) (new : World) → Dispatches d replies (of_build d peers) count new → Rests d new
-      build_rests = rests_by (of_build d peers) (λ a. (_, build_promised a))
+      pub build_rests : length d.places ≤ most_identities → (replies : List Reply) → Each (Fits d) replies → (count : ℕ) (new : World) → Dispatches d replies (of_build d peers) count new → Rests d new
+      build_rests few = rests_by (of_build d peers) (λ a. (_, build_promised a)) (λ a. (builds_have_kin_made d peers, builds_have_identities d peers few))
 
     -- ** requests
 
     module _ (w : World) (rests : Rests d w) (r : Request) (read : RequestRead d r) (held : names_released w r ≡ false) where
       request_promised : (a : Accepted d) → Keeps d a (entry_of d r) (of_request w r)
-      request_promised a = request_keeps steps_keep_good d well a w (rests a) r read held
+      request_promised a = request_keeps steps_keep_good d well a w (rests a).0 r read held
 
       pub request_safe : Accepted d → IsSafe d (of_request w r)
-      request_safe a = safe_by a (entry_of d r) (of_request w r) (request_printed d a r) (requests_begin d well a w (rests a) r read held)
+      request_safe a = safe_by a (entry_of d r) (of_request w r) (request_printed d a r) (requests_begin d well a w (rests a).0 r read held) (requests_have_identities d w r (rests a).1)
 
       pub request_rests : (replies : List Reply) → Each (Fits d) replies → (count : ℕ) (new : World) → Dispatches d replies (of_request w r) count new → Rests d new
-      request_rests = rests_by (of_request w r) (λ a. (_, request_promised a))
+      request_rests = rests_by (of_request w r) (λ a. (_, request_promised a)) (λ a. (kin_made d w (rests a).0.objects, requests_have_identities d w r (rests a).1))
 
       request_event_keeps : EventKeeps d w (config.request r)
       request_event_keeps a e c (by_request s) = request_promised a
@@ -122,30 +137,39 @@ module _ (d : Definition) where
 
     module _ (w : World) (rests : Rests d w) (number : ℕ) (s : Source) (stands : source_of number w.sources ≡ Some s) where
       source_promised : (a : Accepted d) → (e : Entry) × Keeps d a e (beginning w (Due number))
-      source_promised a = (_, source_keeps steps_keep_good d well a w (rests a) number s stands)
+      source_promised a = (_, source_keeps steps_keep_good d well a w (rests a).0 number s stands)
 
       pub source_safe : Accepted d → IsSafe d (beginning w (Due number))
       source_safe a =
-          safe_by a (entries.source s.program) (beginning w (Due number)) (source_printed d a s.program (source_known a w (rests a) number s stands).told)
-          (sources_begin d well a w (rests a) number s stands)
+          safe_by a (entries.source s.program) (beginning w (Due number)) (source_printed d a s.program (source_known a w (rests a).0 number s stands).told)
+          (sources_begin d well a w (rests a).0 number s stands) (sources_have_identities w number (rests a).1)
 
       pub source_rests : (replies : List Reply) → Each (Fits d) replies → (count : ℕ) (new : World) → Dispatches d replies (beginning w (Due number)) count new → Rests d new
-      source_rests = rests_by (beginning w (Due number)) source_promised
+      source_rests = rests_by (beginning w (Due number)) source_promised (λ a. (kin_made d w (rests a).0.objects, sources_have_identities w number (rests a).1))
 
     -- ** turns
 
     pub turn_rests : (w : World) (moment : ℕ) → Rests d w → Rests d (turned d w moment)
-    turn_rests w moment rests a = turns steps_keep_good d well a w moment (rests a)
+    turn_rests w moment rests a = (turns steps_keep_good d well a w moment (rests a).0, (rests a).1)
 
-    pub runs_rest : (a : Accepted d) (numbers : List ℕ) (replies : List Reply) → Each (Fits d) replies → (w : World) (tally : Tally) (new : World) → IsResting d a w
-        → RunsSources d numbers replies w tally new → IsResting d a new
-    runs_rest a [] replies fit w tally new rests run = subst (IsResting d a) run.same rests
+    -- what a source of a turn makes
+    source_made : (a : Accepted d) (number : ℕ) (s : Option Source) (replies : List Reply) (w : World) (tally : Tally) (new : World) → IsResting d a w → length w.objects ≤ most_identities
+        → RunsSource d number s replies w tally new → length new.objects ≤ most_identities
+    source_made a number None replies w tally new rest made run = subst (λ (v : World). length v.objects ≤ most_identities) run.same made
+    source_made a number (Some s) replies w tally new rest made run =
+        made_by (beginning w (Due number)) (kin_made d w rest.objects) (sources_have_identities w number made) replies run.steps new run.dispatches
+
+    pub runs_rest : (a : Accepted d) (numbers : List ℕ) (replies : List Reply) → Each (Fits d) replies → (w : World) (tally : Tally) (new : World)
+        → IsResting d a w × (length w.objects ≤ most_identities) → RunsSources d numbers replies w tally new → IsResting d a new × (length new.objects ≤ most_identities)
+    runs_rest a [] replies fit w tally new rests run = subst (λ (v : World). IsResting d a v × (length v.objects ≤ most_identities)) run.same rests
     runs_rest a (number ∷ more) replies fit w tally new rests run =
         let parts = both_fit d run.first run.later (subst (Each (Fits d)) run.replied fit) in
-        runs_rest a more run.later parts.1 run.mid run.later_tally new
-        (runs_source steps_keep_good d well a number run.first parts.0 w run.first_tally run.mid rests run.begins) run.goes_on
+        runs_rest a more run.later parts.1 run.mid run.later_tally new (
+          runs_source steps_keep_good d well a number run.first parts.0 w run.first_tally run.mid rests.0 run.begins,
+          source_made a number (source_of number w.sources) run.first w run.first_tally run.mid rests.0 rests.1 run.begins,
+        ) run.goes_on
 
     pub turn_event_keeps : (w : World) → Rests d w → (moment : ℕ) → EventKeeps d w (config.turn moment)
     turn_event_keeps w rests moment a e c (by_source m number v s runs) =
         source_keeps steps_keep_good d well a v
-        (runs_rest a runs.before runs.replies runs.fit (turned d w m) runs.tally v (turn_rests w m rests a) runs.run) number s runs.stands
+        (runs_rest a runs.before runs.replies runs.fit (turned d w m) runs.tally v (turn_rests w m rests a) runs.run).0 number s runs.stands

@@ -7,6 +7,7 @@ pub mod Points
 pub mod Asking
 pub mod Apt
 pub mod Resting
+mod KinMade
 pub mod Keeping
 pub mod Closings
 pub mod Known

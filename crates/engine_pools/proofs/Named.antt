@@ -1,10 +1,12 @@
--- The engine's tasks name what lives, where the machine's do.
-use Rattle.std.proofs.Common.{◌≡◌, refl, subst, ℕ, true, List, [], ◌∷◌, map, IfSome, IsSome}
+-- The engine's tasks name what lives, where the machine's do, and identities are left.
+use Rattle.std.proofs.Common.{◌≡◌, refl, subst, ℕ, true, List, [], ◌∷◌, map, IfSome, IsSome, arith}
+use Rattle.ui_machine.specs.Rules.Build.{is_making, of_items, to_make}
 use Rattle.ui_machine.specs.Rules.Sets.{lives}
 use Rattle.ui_machine.specs.State.Config.{Config, World}
 use Rattle.ui_machine.specs.State.Objects.{Objects, living}
 use Rattle.ui_machine.specs.State.Tasks.{Answering, Beginning, Building, Calling, Constructing, Due, Emission, Emitting, Handling, Notifying, Running, Setting, Task, Thawing, Transferring, Unsetting}
 use Rattle.machine_laws.specs.GoneLaws.{Gone, pruned}
+use Rattle.law_identities.specs.Identities.{HasIdentities}
 use Rattle.law_peers.specs.Forgetting.{forgotten_at}
 use Rattle.law_typing.specs.Good.Living.{TaskNamesLiving}
 use Rattle.law_typing.specs.Verdict.Accepted.{Each}
@@ -89,3 +91,32 @@ names_alike y x is names =
     tasks_whole (gone_handlers x.world) x.world x.agenda
     (subst TasksNameLiving is
     (tasks_pruned (gone_handlers (forgotten_at y).world) (forgotten_at y).world y.agenda (tasks_elsewhere y.world (forgotten_at y).world refl y.agenda names)))
+
+-- nor is anything to be made by them
+module _ (gone : Gone) where
+  task_makes : (t : Task) → of_items is_making (pruned gone t) ≡ of_items is_making t
+  task_makes (Emitting e turns) = refl
+  task_makes (Setting id slot x) = refl
+  task_makes (Notifying id slot) = refl
+  task_makes (Beginning e) = refl
+  task_makes (Thawing id slots) = refl
+  task_makes (Running f) = refl
+  task_makes (Calling call) = refl
+  task_makes (Constructing id steps held) = refl
+  task_makes (Transferring number back) = refl
+  task_makes (Unsetting number) = refl
+  task_makes (Answering source) = refl
+  task_makes (Building items) = refl
+  task_makes (Handling request) = refl
+  task_makes (Due source) = refl
+
+  tasks_make : (ts : List Task) → to_make (map (pruned gone) ts) ≡ to_make ts
+  tasks_make [] = refl
+  tasks_make (t ∷ ts) = omega (arith, task_makes t, tasks_make ts)
+
+-- identities are left for the engine's configuration, where they are for the machine's
+pub identities_alike : (y x : Config) → without_gone (forgotten_at y) ≡ x → HasIdentities y → HasIdentities x
+identities_alike y x is left =
+    let same = tasks_make (gone_handlers (forgotten_at y).world) y.agenda in
+    let there : HasIdentities (without_gone (forgotten_at y)) = omega (arith, left, same) in
+    subst HasIdentities is there

@@ -110,9 +110,13 @@ remembered_rests d a w r = rests_still d (map forgotten w.peers) w.peers (rememb
 
 -- beside a pool that is known
 pub rests_there : (d : Definition) (pool : List Seen) (w : World) → Knows w pool → Rests d w → Rests d (world_at pool w)
-rests_there d pool w knows rests a =
-    remembered_rests d a (world_at pool w) (subst (λ (l : List Peer). IsResting d a (record w { peers = l })) (sym (forgets_to pool w.peers knows)) (rests a))
+rests_there d pool w knows rests a = (
+  remembered_rests d a (world_at pool w) (subst (λ (l : List Peer). IsResting d a (record w { peers = l })) (sym (forgets_to pool w.peers knows)) (rests a).0),
+  (rests a).1,
+)
 
 pub rests_here : (d : Definition) (pool : List Seen) (w : World) → Knows w pool → Rests d (world_at pool w) → Rests d w
-rests_here d pool w knows rests a =
-    subst (λ (l : List Peer). IsResting d a (record w { peers = l })) (forgets_to pool w.peers knows) (forgotten_rests d a (world_at pool w) (rests a))
+rests_here d pool w knows rests a = (
+  subst (λ (l : List Peer). IsResting d a (record w { peers = l })) (forgets_to pool w.peers knows) (forgotten_rests d a (world_at pool w) (rests a).0),
+  (rests a).1,
+)

@@ -3,11 +3,12 @@
 use Rattle.ui_machine.specs.Definition.{Definition}
 use Rattle.ui_machine.specs.Runs.{beginning, of_build, of_request}
 use Rattle.ui_machine.specs.State.Config.{World, Config}
+use Rattle.ui_machine.specs.State.Objects.{most_identities}
 use Rattle.ui_machine.specs.State.Peers.{Peer}
 use Rattle.ui_machine.specs.State.Sources.{Source}
 use Rattle.ui_machine.specs.State.Tasks.{Due, Event, Request}
 use Rattle.ui_machine.specs.State.Tasks as config
-use Rattle.std.specs.Prelude.{ℕ, List}
+use Rattle.std.specs.Prelude.{ℕ, ◌≤◌, List, length}
 use Rattle.law_typing.specs.Good.Requests.{entry_of}
 use Rattle.law_typing.specs.Graph.Channels.{Entry}
 use Rattle.law_typing.specs.Graph.Channels as entries
@@ -16,9 +17,9 @@ use Rattle.law_typing.specs.Verdict.Accepted.{Accepted}
 use Rattle.law_sessions.specs.Dispatches.{Keeps}
 use Rattle.law_sessions.specs.Sessions.{Runs}
 
--- a world between two dispatches, however the definition is accepted
+-- a world between two dispatches, however the definition is accepted: no more objects were made than there are identities
 abbrev pub Rests : Definition → World → Type 0
-Rests d w = (a : Accepted d) → IsResting d a w
+Rests d w = (a : Accepted d) → IsResting d a w × (length w.objects ≤ most_identities)
 
 -- A dispatch that an event begins in a world, by what it begins with and where. A request begins one; a turn begins one for each of its
 -- sources that is still there at its place, once those before it have run.

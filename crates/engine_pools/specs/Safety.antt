@@ -1,10 +1,11 @@
--- Configurations from which nothing is ever stuck, each question is apt, and all that is named lives.
+-- Configurations from which nothing is ever stuck, each question is apt, all that is named lives, and identities are left.
 use Rattle.std.specs.Prelude.{◌≡◌, ℕ, IfSome, IsSomeAnd, None, slice_get}
 use Rattle.ui_machine.specs.Definition.{Definition}
 use Rattle.ui_machine.specs.State.Config.{Config}
 use Rattle.ui_machine.specs.State.Peers.{Question}
 use Rattle.ui_machine.specs.State.References.{mentions, next_unheld}
 use Rattle.ui_machine.specs.Steps.{question}
+use Rattle.law_identities.specs.Identities.{HasIdentities}
 use Rattle.law_sessions.specs.Dispatches.{Throughout}
 use Rattle.law_sessions.specs.Safe.{Safe}
 use Rattle.law_typing.specs.Good.Living.{AllNamesLiving}
@@ -24,12 +25,14 @@ pub record IsApt (d : Definition) (c : Config) (q : Question) : Type 0 where
 abbrev pub AsksAptly : Definition → Config → Type 0
 AsksAptly d c = IfSome (question d c) (IsApt d c)
 
--- a configuration from which no run is stuck, or has more than so many frames, each question is apt, and all that is named lives
+-- a configuration from which no run is stuck, or has more than so many frames, each question is apt, all that is named lives, and
+-- there are identities for what is still to be made
 pub record IsSafe (d : Definition) (c : Config) : Type 0 where
   pub most : ℕ
   pub safe : Safe d most c
   pub asks : Throughout d c (AsksAptly d)
   pub names : Throughout d c (AllNamesLiving d)
+  pub identities : Throughout d c HasIdentities
 
 -- the point is that of a safe configuration of the machine
 pub record ComesOfSafe (d : Definition) (p : Point) : Type 0 where

@@ -1,6 +1,8 @@
 //! What each task does, as the machine's.
 
-ghost use Rattle.std.specs.Prelude.{◌∷◌, OnOk, OnErr, IfOk};
+ghost use Rattle.std.specs.Prelude.{◌+◌, ◌≤◌, ◌∷◌, length, OnOk, OnErr, IfOk};
+ghost use Rattle.ui_machine.specs.Rules.Build.{to_make};
+ghost use Rattle.ui_machine.specs.State.Objects.{most_identities};
 ghost use Rattle.ui_machine.specs.State.References.{in_task};
 ghost use Rattle.ui_machine.specs.Steps.{act};
 ghost use Rattle.engine_world.specs.KnownHandlers.{TakesKnownHandlers};
@@ -48,6 +50,7 @@ pub(crate) fn act(
     requires names { LeadsToLiving
         (act definition.now (world_of engine.now.world) None
         (past_turns (world_of engine.now.world) (task_in definition.now engine.now task) ∷ agenda_of definition.now engine.now) engine.now.counted) }
+    requires identities { length (world_of engine.now.world).objects + to_make (task_in definition.now engine.now task ∷ agenda_of definition.now engine.now) ≤ most_identities }
     requires begun { TakesKnownHandlers engine.now.world.handlers.last task }
     requires counted { Counts definition.now (λ o. in_task o (task_in definition.now engine.now task)) engine.now }
     ensures step { LeadsWithoutGone result
@@ -59,8 +62,9 @@ pub(crate) fn act(
     ensures closing { OnOk result (TaskLeaves definition.now (world_of engine.old.world) (task_in definition.now engine.old task) engine.old.closing engine.new.closing) }
     ensures made { IfOk result (λ made. IsOfKind made (task_in definition.now engine.old task)) }
 {
-    // For the proof: what a task holds lives.
+    // For the proof: what a task holds lives, and what is known of a definition's places.
     never_full(engine);
+    let _types = definition.types();
     match task {
         Task::Setting {
             object,

@@ -10,7 +10,7 @@ ghost use Rattle.ui_machine.specs.State.Handlers.{Handler};
 ghost use Rattle.ui_machine.specs.State.Tasks.{Building, Constructing};
 ghost use Rattle.ui_machine.specs.Steps.{uncounted};
 ghost use Rattle.ui_machine.specs.Rules.Build.{building};
-ghost use Rattle.ui_machine.specs.State.Objects.{living};
+ghost use Rattle.ui_machine.specs.State.Objects.{living, most_identities};
 ghost use Rattle.g_values.specs.View.{value_view};
 ghost use Rattle.definition_format.specs.Meaning.{object_count};
 ghost use Rattle.engine_world.specs.Able.{Able, Leads, LeadsToLiving};
@@ -246,6 +246,7 @@ fn make_from_build(
     requires able { Able (uncounted (agenda_of definition.now engine.now) engine.now.counted (making definition.now (world_of engine.now.world) place.0 peer true)) }
     requires counted { IsCounted definition.now engine.now }
     requires peer { IfSome peer (λ number. number < length engine.now.world.seats) }
+    requires identity { length (world_of engine.now.world).objects < most_identities }
     ensures step { Leads result
         (uncounted (agenda_of definition.now engine.old) engine.old.counted (making definition.now (world_of engine.old.world) place.0 peer true))
         (config_of definition.now engine.new) }
@@ -273,6 +274,7 @@ pub fn build(
     requires names { LeadsToLiving (uncounted (agenda_of definition.now engine.now) engine.now.counted (building definition.now (world_of engine.now.world) (build_from definition.now place.0 forwards))) }
     requires counted { IsCounted definition.now engine.now }
     requires connects { Connects definition.now engine.now }
+    requires identity { place.0 < object_count definition.now → length (world_of engine.now.world).objects < most_identities }
     ensures step { Leads result
         (uncounted (agenda_of definition.now engine.old) engine.old.counted (building definition.now (world_of engine.old.world) (build_from definition.now place.0 forwards)))
         (config_of definition.now engine.new) }

@@ -9,7 +9,7 @@ ghost use Rattle.ui_machine.specs.State.References.{in_values};
 ghost use Rattle.ui_machine.specs.Definition as definition;
 ghost use Rattle.ui_machine.specs.Rules.Construction.{lent, with_object, making};
 ghost use Rattle.ui_machine.specs.State.Config.{starts};
-ghost use Rattle.ui_machine.specs.State.Objects.{living};
+ghost use Rattle.ui_machine.specs.State.Objects.{living, most_identities};
 ghost use Rattle.ui_machine.specs.State.Tasks.{Constructing};
 ghost use Rattle.g_values.specs.View.{value_view};
 ghost use Rattle.engine_world.specs.NewObjects.{Adds, before_lent, begun};
@@ -28,7 +28,7 @@ use crate::seats::Seats;
 use crate::task::{ConstructSteps, Task};
 use definitions::Definition;
 use g_values::Value;
-use instance_tables::{CreateError, Object, Table};
+use instance_tables::{Object, Table};
 use std::alloc::{AllocError, Global};
 use type_tree::TypeId;
 use ui_machine::{ObjectId, Place, Slot};
@@ -54,6 +54,7 @@ fn create_object(
     values: Vec<Value>,
     peer: Option<usize>,
 ) -> Result<ObjectId, AllocError>
+    requires identity { length (world_of engine.now.world).objects < most_identities }
     ensures world { OnOk result (world_of engine.new.world ≡ before_lent (world_of engine.old.world) (with_object definition.now (world_of engine.old.world) (made_object class place.0 (map value_view values.items) peer))) }
     ensures identity { IfOk result (λ id. id.0 ≡ suc (length (world_of engine.old.world).objects)) }
     ensures live { IfOk result (λ id. IsSome (living (world_of engine.new.world).objects id.0)) }
@@ -67,10 +68,7 @@ fn create_object(
         .types()
         .is_a(class, TypeId::new(INITIALLY_UNOWNED));
     let object = Object::new(engine.alloc, class, place, values, peer);
-    // A definition has no more objects than may live, and a program looks for room first, so that what wants is memory.
-    let Ok(id) = add(&mut engine.world.table, object, floats) else {
-        return Err(AllocError);
-    };
+    let id = add(&mut engine.world.table, object, floats)?;
     Ok(id)
 }
 
@@ -87,6 +85,7 @@ pub fn make(
     peer: Option<usize>,
 ) -> Result<NewObject, AllocError>
     requires able { (held : Bool) → Able (making definition.now (world_of engine.now.world) place.0 peer held) }
+    requires identity { length (world_of engine.now.world).objects < most_identities }
     ensures made { IfOk result (λ new. (held : Bool) → making definition.now (world_of engine.old.world) place.0 peer held
         ≡ starts (begun new (world_of engine.new.world)) (Constructing new.object.0 new.steps held ∷ [])) }
     ensures peer { IfOk result (λ new. new.peer ≡ peer) }
@@ -175,16 +174,17 @@ fn lend(seats: &mut Seats, peer: Option<usize>, object: ObjectId)
 }
 
 // One more object in a table, which begins floating or not.
-fn add(table: &mut Table, object: Object, floats: bool) -> Result<ObjectId, CreateError>
+fn add(table: &mut Table, object: Object, floats: bool) -> Result<ObjectId, AllocError>
+    requires identity { length table.now.objects < most_identities }
     requires childless { object.children ≡ [] }
     requires parentless { object.parent ≡ None }
     ensures added { IfOk result (λ id. Adds object floats id.0 table.old table.new) }
     ensures err { OnErr result (table.new ≡ table.old) }
 {
     if floats {
-        table.create_floating(object)
+        table.make_floating(object)
     } else {
-        table.create(object)
+        table.make(object)
     }
 }
 

@@ -1,8 +1,8 @@
 -- An object that was just made.
-use Rattle.std.proofs.Common.{◌≡◌, ◌∙◌, ℕ, zero, suc, ◌-◌, ◌<◌, ◌^◌, List, [], ◌∷◌, ◌++◌, true, length, None, Some, IsSome, refl, arith}
+use Rattle.std.proofs.Common.{◌≡◌, ◌∙◌, ℕ, zero, suc, ◌-◌, ◌<◌, ◌^◌, List, [], ◌∷◌, ◌++◌, length, None, Some, IsSome, refl, arith}
 use Rattle.ui_machine.specs.Seq.{read}
 use Rattle.ui_machine.specs.State.Objects.{Object, Objects, living}
-use Rattle.instance_tables.specs.Store.{Store, count_of, has_room, with_object}
+use Rattle.instance_tables.specs.Store.{Store, count_of, with_object}
 
 -- what does not live yet is not held as it is made
 read_front : (xs : List ℕ) (i : ℕ) → read 0 (xs ++ 0 ∷ []) i ≡ read 0 xs i
@@ -19,23 +19,23 @@ pub made_unheld : (os : Objects) (counts : List ℕ) → ((o : ℕ) → living o
 made_unheld os counts dead = read_front counts (length os) ∙ dead (suc (length os)) (read_behind os)
 
 -- a new object is there
-pub born_there : (s n : Store) (id : ℕ) (o : Object) → (has_room 0 s ≡ true) × (id ≡ suc (length s.objects)) × (n ≡ with_object o s) → living n.objects id ≡ Some o
-born_there s n id o created = rw (created.2, created.1) (by s.objects)
+pub born_there : (s n : Store) (id : ℕ) (o : Object) → (id ≡ suc (length s.objects)) × (n ≡ with_object o s) → living n.objects id ≡ Some o
+born_there s n id o created = rw (created.1, created.0) (by s.objects)
   where
     by : (os : Objects) → read None (os ++ Some o ∷ []) (length os) ≡ Some o
     by [] = refl
     by (x ∷ os) = by os
 
 -- so it lives
-pub born_lives : (s n : Store) (id : ℕ) (o : Object) → (has_room 0 s ≡ true) × (id ≡ suc (length s.objects)) × (n ≡ with_object o s) → IsSome (living n.objects id)
+pub born_lives : (s n : Store) (id : ℕ) (o : Object) → (id ≡ suc (length s.objects)) × (n ≡ with_object o s) → IsSome (living n.objects id)
 born_lives s n id o created = rw (born_there s n id o created) refl
 
 -- and nothing holds it
 pub born_unheld : (s n : Store) (id : ℕ) (o : Object) → ((i : ℕ) → living s.objects i ≡ None → count_of s.counts i ≡ 0)
-    → (has_room 0 s ≡ true) × (id ≡ suc (length s.objects)) × (n ≡ with_object o s) → count_of n.counts id ≡ 0
-born_unheld s n id o dead created = rw (created.2, created.1) (made_unheld s.objects s.counts dead)
+    → (id ≡ suc (length s.objects)) × (n ≡ with_object o s) → count_of n.counts id ≡ 0
+born_unheld s n id o dead created = rw (created.1, created.0) (made_unheld s.objects s.counts dead)
 
 -- so it may be held
 pub born_has_room : (s n : Store) (id : ℕ) (o : Object) → ((i : ℕ) → living s.objects i ≡ None → count_of s.counts i ≡ 0)
-    → (has_room 0 s ≡ true) × (id ≡ suc (length s.objects)) × (n ≡ with_object o s) → count_of n.counts id < 2 ^ 128 - 1
+    → (id ≡ suc (length s.objects)) × (n ≡ with_object o s) → count_of n.counts id < 2 ^ 128 - 1
 born_has_room s n id o dead created = let none = born_unheld s n id o dead created in omega (arith, none)

@@ -1,7 +1,6 @@
 -- Changes of instances as changes of a look-up.
-use Rattle.std.proofs.Common.{◌≡◌, ◌≢◌, ℕ, suc, [], ◌∷◌, IsSome, None, inl, inr, refl, subst, ◌+◌, ◌-◌, ◌<◌, ◌≤◌, ◌^◌, List, length, false, true, nat_lt, Option, Some, is_some, Result, Ok, Err, IfOk, OnErr, sym, ap, ◌∙◌, arith}
+use Rattle.std.proofs.Common.{◌≡◌, ◌≢◌, ℕ, suc, [], ◌∷◌, IsSome, None, inl, inr, refl, subst, ◌+◌, ◌<◌, ◌≤◌, List, length, false, true, nat_lt, Option, Some, is_some, Result, Ok, Err, IfOk, OnErr, sym, ap, ◌∙◌, arith}
 use Rattle.std.proofs.lemmas.Bool.{cases_eq}
-use Rattle.std.proofs.lemmas.Bool.Decides.{nat_tests}
 use Rattle.std.specs.Ordering.{nat_cmp}
 use Rattle.std.specs.BTreeMap.{is_at}
 use Rattle.std.specs.List.Sorted.{IsStrictlySortedBy}
@@ -16,7 +15,7 @@ use Rattle.instance_tables.specs.View.{object_in, objects_of, store_of, InRange,
 use Rattle.instance_tables.specs.declared.instance.Instance.{Instance}
 use Rattle.instance_tables.proofs.Scan.{is_at_other, is_at_self, look, look_other, look_self, sorted_scanned}
 use Rattle.instance_tables.proofs.Counts.{live_entries}
-use Rattle.instance_tables.proofs.Shown.{some_object, at_limit, at_end, by_identities, created_next, changes, updates, follows, beside, kept, recounted}
+use Rattle.instance_tables.proofs.Shown.{given_out, some_object, at_limit, by_identities, created_next, changes, updates, follows, beside, kept, recounted}
 
 -- ** another instance under an identity
 
@@ -113,17 +112,8 @@ module _ (m : List (ℕ × Instance)) (made limit : ℕ) (floats : List ObjectId
   pub full : (n : ℕ) → limit ≤ length m + n → has_room n old ≡ false
   full n h = at_limit (instances_at m) made limit floats old is n (omega (arith, live_len))
 
-  pub at_last : (n : ℕ) → most_identities ≤ made + n → has_room n old ≡ false
-  at_last n h = at_end (instances_at m) made limit floats old is n h
-
   pub below_limit : (n room : ℕ) → length m + n < limit → made + room ≡ most_identities → nat_lt n room ≡ has_room n old
   below_limit n room few left = by_identities (instances_at m) made limit floats old is n room (omega (arith, live_len)) left
-
-  -- below the limit there is room for one more, if there is an identity
-  pub next_fits : (id : ℕ) → id ≡ made + 1 → id < 2 ^ 64 → length m < limit → has_room 0 old ≡ true
-  next_fits id next small room =
-      let some : nat_lt 0 (most_identities - made) ≡ true = (let left : 0 < most_identities - made = omega arith in grind (arith, nat_tests)) in
-      sym (below_limit 0 (most_identities - made) (omega arith) (omega arith)) ∙ some
 
   -- the next identity has nothing yet
   pub next_absent : (id : ℕ) → id ≡ made + 1 → instances_at m id ≡ None
@@ -133,9 +123,10 @@ module _ (m : List (ℕ × Instance)) (made limit : ℕ) (floats : List ObjectId
       by None e = e
       by (Some x) e = let small : id ≤ made = (range id (ap is_some e)).1 in absurd (omega (arith, small, next))
 
-  pub stored : (n : List (ℕ × Instance)) (id : ℕ) (y : Instance) → Replaces (instances_at m) (instances_at n) id (Some y) → id ≡ made + 1 → id < 2 ^ 64
-      → length m < limit → y.mentions ≡ 0
-      → (has_room 0 old ≡ true) × (id ≡ suc (length old.objects)) × (store_of (instances_at n) id limit floats ≡ with_object y.object old)
-  stored n id y h next small room none =
-      created_next (instances_at m) (instances_at n) made limit floats old is id y (omega (arith, next)) h
-      (omega (arith, live_len)) (omega (arith, next)) none
+  pub stored : (n : List (ℕ × Instance)) (id : ℕ) (y : Instance) → Replaces (instances_at m) (instances_at n) id (Some y) → id ≡ made + 1 → y.mentions ≡ 0
+      → (id ≡ suc (length old.objects)) × (store_of (instances_at n) id limit floats ≡ with_object y.object old)
+  stored n id y h next none = created_next (instances_at m) (instances_at n) made limit floats old is id y (omega (arith, next)) h none
+
+  -- an identity is left for it
+  pub identity_left : length old.objects < most_identities → made < most_identities
+  identity_left few = let many : length old.objects ≡ made = given_out (instances_at m) made limit floats old is in omega (arith, many, few)

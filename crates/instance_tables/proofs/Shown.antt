@@ -240,14 +240,10 @@ module _ (at new : Lookup) (made limit : ℕ) (floats : List ObjectId) (old : St
       (more count_in ∙ ap (λ k. counts_of at made ++ k ∷ []) none)
       ∙ ap (with_object y.object) is
 
-  pub created_next : live old.objects < limit → made < most_identities → y.mentions ≡ 0
-      → (has_room 0 old ≡ true) × (id ≡ suc (length old.objects)) × (store_of new id limit floats ≡ with_object y.object old)
-  created_next room small none =
+  pub created_next : y.mentions ≡ 0 → (id ≡ suc (length old.objects)) × (store_of new id limit floats ≡ with_object y.object old)
+  created_next none =
       let many : length old.objects ≡ made = given_out at made limit floats old is in
-      let same : limit ≡ old.limit = ap (λ (s : Store). s.limit) is in
-      let fits : nat_lt (live old.objects + 0) old.limit ≡ true = grind (arith, nat_tests) in
-      let fits_too : nat_lt (length old.objects + 0) most_identities ≡ true = grind (arith, nat_tests) in
-      (rw (fits, fits_too) refl, omega arith, added none)
+      (omega (arith, many, next), added none)
 
 -- ** whether there is room
 

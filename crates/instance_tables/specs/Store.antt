@@ -103,12 +103,6 @@ Creates (Err OutOfMemory) o old new = (has_room 0 old ≡ true) × (new ≡ old)
 abbrev pub with_floating : ℕ → Store → Store
 with_floating id s = with_count (record s { floating = s.floating ++ id ∷ [] }) id (count_of s.counts id + 1)
 
--- the same of an object that is held once
-abbrev pub CreatesHeld : Result ObjectId CreateError → Object → Store → Store → Type 0
-CreatesHeld (Ok id) o old new = (has_room 0 old ≡ true) × (id.0 ≡ suc (length old.objects)) × (new ≡ with_count (with_object o old) id.0 (count_of (with_object o old).counts id.0 + 1))
-CreatesHeld (Err ObjectLimit) o old new = (has_room 0 old ≡ false) × (new ≡ old)
-CreatesHeld (Err OutOfMemory) o old new = (has_room 0 old ≡ true) × (new ≡ old)
-
 -- the same of an object that floats
 abbrev pub CreatesFloating : Result ObjectId CreateError → Object → Store → Store → Type 0
 CreatesFloating (Ok id) o old new = (has_room 0 old ≡ true) × (id.0 ≡ suc (length old.objects)) × (new ≡ with_floating id.0 (with_object o old))

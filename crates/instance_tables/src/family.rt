@@ -1,14 +1,14 @@
 //! Parents and children, and what floats.
 
-ghost use Rattle.std.specs.Prelude.{◌≡◌, ℕ, is_some, ◌+◌, ◌-◌, ◌^◌, ◌<◌, ◌≤◌, ◌++◌, ◌∷◌, [], IfOk, IsSome, Some, None, length, nat_eq, slice_get, OnOk, OnErr};
+ghost use Rattle.std.specs.Prelude.{◌≡◌, ℕ, suc, is_some, ◌+◌, ◌-◌, ◌^◌, ◌<◌, ◌≤◌, ◌++◌, ◌∷◌, [], IfOk, IsSome, Some, None, length, nat_eq, slice_get, OnOk, OnErr};
 ghost use Rattle.std.specs.List.{list_any};
 ghost use Rattle.ui_machine.specs.Seq.{total};
 ghost use Rattle.ui_machine.specs.State.Config.{without};
-ghost use Rattle.ui_machine.specs.State.Objects.{living};
+ghost use Rattle.ui_machine.specs.State.Objects.{living, most_identities};
 ghost use Rattle.ui_machine.specs.State.References.{same};
 ghost use Rattle.ui_machine.specs.Rules.Children.{updated, with_child, with_parent, without_child};
 ghost use Rattle.ui_machine.specs.Rules.Disposal.{children_of};
-ghost use Rattle.instance_tables.specs.Store.{CreatesFloating, CreatesHeld, id_of, ids_of, count_of, with_count, with_objects};
+ghost use Rattle.instance_tables.specs.Store.{CreatesFloating, id_of, ids_of, count_of, with_count, with_floating, with_object, with_objects};
 ghost use Rattle.instance_tables.specs.Family.{refusal_in, parent_in, Adopts, Leaves, Sinks};
 
 use crate::error::{AdoptError, CreateError};
@@ -181,33 +181,51 @@ impl Table {
         requires parentless { object.parent ≡ None }
         ensures { CreatesFloating result object self.old self.new }
     {
+        if !self.has_room(0) {
+            return Err(CreateError::ObjectLimit);
+        }
+        let Ok(id) = self.make_floating(object) else {
+            return Err(CreateError::OutOfMemory);
+        };
+        Ok(id)
+    }
+
+    /// The same where there is an identity for the object, as `make` makes one.
+    ///
+    /// # Errors
+    ///
+    /// `AllocError` if memory is refused. The table is as it was.
+    pub fn make_floating(&mut self, object: Object) -> Result<ObjectId, AllocError>
+        requires childless { object.children ≡ [] }
+        requires parentless { object.parent ≡ None }
+        requires identity { length self.old.objects < most_identities }
+        ensures made { IfOk result (λ id. (id.0 ≡ suc (length self.old.objects)) × (self.new ≡ with_floating id.0 (with_object object self.old))) }
+        ensures err { OnErr result (self.new ≡ self.old) }
+    {
         let mut floating = mem::replace(&mut self.floating, Vec::new(self.alloc));
-        let made = self.create_listed(object, &mut floating);
+        let made = self.make_listed(object, &mut floating);
         self.floating = floating;
         made
     }
 
     // One more object, which is held once by the list that it is put on.
-    fn create_listed(
+    fn make_listed(
         &mut self,
         object: Object,
         list: &mut Vec<ObjectId>,
-    ) -> Result<ObjectId, CreateError>
+    ) -> Result<ObjectId, AllocError>
         requires childless { object.children ≡ [] }
         requires parentless { object.parent ≡ None }
-        ensures creates { CreatesHeld result object self.old self.new }
+        requires identity { length self.old.objects < most_identities }
+        ensures made { IfOk result (λ id. (id.0 ≡ suc (length self.old.objects)) × (self.new ≡ with_count (with_object object self.old) id.0 (count_of (with_object object self.old).counts id.0 + 1))) }
+        ensures err { OnErr result (self.new ≡ self.old) }
         ensures listed { IfOk result (λ id. ids_of list.new.items ≡ ids_of list.old.items ++ id.0 ∷ []) }
         ensures unlisted { OnErr result (list.new.items ≡ list.old.items) }
     {
-        if !self.has_room(0) {
-            return Err(CreateError::ObjectLimit);
-        }
-        let Ok(()) = list.reserve(1) else {
-            return Err(CreateError::OutOfMemory);
-        };
+        list.reserve(1)?;
         // For the proof: what does not live is not held.
         let _unheld = self.next_unheld();
-        let id = self.create(object)?;
+        let id = self.make(object)?;
         // There is room.
         let Ok(()) = list.push(id) else {
             unreachable!()

@@ -1,13 +1,13 @@
 //! The objects by their identities.
 
-ghost use Rattle.std.specs.Prelude.{◌≡◌, ℕ, ◌+◌, ◌-◌, ◌<◌, ◌^◌, ◌↔◌, [], IfOk, IfSome, IsOk, IsSome, IsTrue, is_some, None, Ok, reverse, OnErr};
-ghost use Rattle.ui_machine.specs.State.Objects.{asked, changed, living, value_at, with_value};
+ghost use Rattle.std.specs.Prelude.{◌≡◌, ℕ, suc, length, ◌+◌, ◌-◌, ◌<◌, ◌^◌, ◌↔◌, [], IfOk, IfSome, IsOk, IsSome, IsTrue, is_some, None, Ok, reverse, OnErr};
+ghost use Rattle.ui_machine.specs.State.Objects.{asked, changed, living, most_identities, value_at, with_value};
 ghost use Rattle.ui_machine.specs.State.References.{next_unheld};
 ghost use Rattle.ui_machine.specs.Rules.NotifyQueue.{raised, frozen_more, frozen_less};
 ghost use Rattle.ui_machine.specs.Rules.Sets.{is_disposed};
 ghost use Rattle.ui_machine.specs.Rules.Disposal.{peer_of};
 ghost use Rattle.g_values.specs.View.{value_view};
-ghost use Rattle.instance_tables.specs.Store.{count_of, freezes_in, id_of, with_count, with_objects, has_room, may_hold, so_often, Creates};
+ghost use Rattle.instance_tables.specs.Store.{count_of, freezes_in, id_of, with_count, with_object, with_objects, has_room, may_hold, so_often, Creates};
 
 use crate::error::CreateError;
 use crate::instance::Instance;
@@ -101,12 +101,30 @@ impl Table {
         requires parentless { object.parent ≡ None }
         ensures { Creates result object self.old self.new }
     {
-        if self.instances.len() >= self.limit as usize {
+        if !self.has_room(0) {
             return Err(CreateError::ObjectLimit);
         }
-        let Some(id) = self.made.checked_add(1) else {
-            return Err(CreateError::ObjectLimit);
+        let Ok(id) = self.make(object) else {
+            return Err(CreateError::OutOfMemory);
         };
+        Ok(id)
+    }
+
+    /// The same where there is an identity for the object. How many may live is the caller's to know: the table's own limit is not asked.
+    ///
+    /// # Errors
+    ///
+    /// `AllocError` if memory is refused. The table is as it was.
+    pub fn make(&mut self, object: Object) -> Result<ObjectId, AllocError>
+        requires childless { object.children ≡ [] }
+        requires parentless { object.parent ≡ None }
+        requires identity { length self.old.objects < most_identities }
+        ensures made { IfOk result (λ id. (id.0 ≡ suc (length self.old.objects)) × (self.new ≡ with_object object self.old)) }
+        ensures err { OnErr result (self.new ≡ self.old) }
+    {
+        // For the proof: how many were made.
+        let _lives = self.instances.len();
+        let id = self.made + 1;
         // For the proof: how many values it has.
         object.holds_few();
         self.namers.add_names(&object, ObjectId(id));
@@ -114,9 +132,7 @@ impl Table {
             object,
             mentions: 0,
         };
-        let Ok(()) = self.instances.insert(ObjectId(id), instance) else {
-            return Err(CreateError::OutOfMemory);
-        };
+        self.instances.insert(ObjectId(id), instance)?;
         self.made = id;
         self.unheld = Some(lower(self.unheld, ObjectId(id)));
         Ok(ObjectId(id))

@@ -119,7 +119,7 @@ module _ (d : Definition) (w : World) where
   alive : (id : ℕ) → Lives (standing w.objects) id → IsLiving w id
   alive id h = at_place w.objects id h.place h.is
 
-  children_living : ObjectsGood d w → (id : ℕ) (o : Object) → living w.objects id ≡ Some o → Each (IsLiving w) o.children
+  pub children_living : ObjectsGood d w → (id : ℕ) (o : Object) → living w.objects id ≡ Some o → Each (IsLiving w) o.children
   children_living good id o there = each_so (Lives (standing w.objects)) (IsLiving w) alive o.children (good id o there).children
 
   handler_living : (h : Handler) → HandlerGood d (standing w.objects) h → IsLiving w h.object × IfSome h.arg (IsLiving w)

@@ -1,11 +1,12 @@
 -- A session in a turn.
-use Rattle.std.proofs.Common.{◌≡◌, refl, [], ◌∷◌, Some, arith}
+use Rattle.std.proofs.Common.{◌≡◌, refl, [], ◌∷◌, Some, length, true, arith}
+use Rattle.std.proofs.lemmas.Bool.Decides.{nat_tests}
 use Rattle.ui_machine.specs.State.Tasks.{Due, Event, emit, request, turn}
 use Rattle.ui_machine.specs.State.Config.{Config, World}
 use Rattle.ui_machine.specs.Rules.MainLoop.{turned}
 use Rattle.ui_machine.specs.Runs.{Reaches, beginning}
 use Rattle.ui_machine.specs.State.Sources.{Source}
-use Rattle.std.specs.Prelude.{List, None}
+use Rattle.std.specs.Prelude.{List, None, nat_le}
 use Rattle.law_typing.specs.Verdict.Accepted.{Each}
 use Rattle.law_typing.specs.Laws.WellRead.{WellRead}
 use Rattle.law_typing.proofs.WellReadProofs.{well_read}
@@ -54,7 +55,10 @@ rests : Rests definition world
 unfolding machine
 rests a =
     let run = played_is_run definition [] before [] (record { at = world; script = [] }) refl in
-    runs_rest definition well a [] (pool_ready definition refl) before read run.replies (none_replied definition run.replies run.given) run.tally world run.run
+    let few : nat_le (length world.objects) 512 ≡ true = refl in (
+      runs_rest definition well a [] (pool_ready definition refl) before read run.replies (none_replied definition run.replies run.given) run.tally world run.run,
+      grind (arith, nat_tests, few),
+    )
 
 begins : MayBegin definition (turn 100) world
 unfolding machine

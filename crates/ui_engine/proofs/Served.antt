@@ -1,10 +1,11 @@
 -- What a session asks of a dispatch, and what it keeps after it. The definition is named twice, as the code has it and as the session does.
-use Rattle.std.proofs.Common.{◌≡◌, ℕ, List, None, Ok, sym, subst}
+use Rattle.std.proofs.Common.{◌≡◌, ◌≤◌, ℕ, List, None, Ok, length, sym, ap, subst, arith}
 use Rattle.ui_machine.specs.Definition.{Definition}
 use Rattle.ui_machine.specs.Rules.Events.{refusal}
 use Rattle.ui_machine.specs.Rules.MainLoop.{turned}
 use Rattle.ui_machine.specs.Runs.{of_build}
 use Rattle.ui_machine.specs.State.Config.{World}
+use Rattle.ui_machine.specs.State.Objects.{most_identities}
 use Rattle.ui_machine.specs.State.Tasks.{Event, Request}
 use Rattle.ui_machine.specs.State.Tasks as config
 use Rattle.definition_format.specs.Origin.{IsDenoted}
@@ -38,13 +39,18 @@ module _ (d e : Definition) (same : e ≡ d) (from : IsDenoted e) where
   -- ** the build
 
   module _ (pool : List Seen) (matches : mismatch d (as_peers pool) ≡ None) where
-    pub builds_safely : Accepted d → IsSafe e (of_build d (as_peers pool))
-    builds_safely a = subst (λ (x : Definition). IsSafe x (of_build d (as_peers pool))) (sym same) (build_safe d well (as_peers pool) (matched_is_ready d (as_peers pool) matches (all_free pool)) a)
+    -- where it has few places
+    few_places : length e.places ≤ 512 → length d.places ≤ most_identities
+    few_places few = let one = ap (λ (x : Definition). length x.places) same in omega (arith, few, one)
 
-    pub built_rests : (may : Relations) (reply : Reply) (left : List Seen) (new : World) → Carried (Ok reply) d may (of_build d (as_peers pool)) (world_at left new) → Knows new left → Rests d new
-    built_rests may reply left new carried knows =
+    pub builds_safely : length e.places ≤ 512 → Accepted d → IsSafe e (of_build d (as_peers pool))
+    builds_safely few a =
+        subst (λ (x : Definition). IsSafe x (of_build d (as_peers pool))) (sym same) (build_safe d well (as_peers pool) (matched_is_ready d (as_peers pool) matches (all_free pool)) (few_places few) a)
+
+    pub built_rests : length e.places ≤ 512 → (may : Relations) (reply : Reply) (left : List Seen) (new : World) → Carried (Ok reply) d may (of_build d (as_peers pool)) (world_at left new) → Knows new left → Rests d new
+    built_rests few may reply left new carried knows =
         rests_here d left new knows
-        (build_rests d well (as_peers pool) (matched_is_ready d (as_peers pool) matches (all_free pool)) carried.0.replies (fitting d may carried.0.replies carried.0.given) reply.steps (world_at left new) carried.0.so)
+        (build_rests d well (as_peers pool) (matched_is_ready d (as_peers pool) matches (all_free pool)) (few_places few) carried.0.replies (fitting d may carried.0.replies carried.0.given) reply.steps (world_at left new) carried.0.so)
 
     pub build_keeps : BuildKeeps d (as_peers pool)
     build_keeps = build_promised d well (as_peers pool) (matched_is_ready d (as_peers pool) matches (all_free pool))

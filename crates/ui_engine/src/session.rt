@@ -69,8 +69,9 @@ fn build(verified: Verified, mut pool: PeerPool, beginning: Beginning) -> Starte
     ensures same { SameRelations (relations (λ p. (⟦<dyn Peer as Peer>⟧ p.peer.vtable).moves p.peer.value) (entries pool)) (relations (λ p. (⟦<dyn Peer as Peer>⟧ p.peer.vtable).moves p.peer.value) (entries result.session.pool)) }
 {
     let definition = verified.definition();
-    // For the proof: some bytes denote the definition.
+    // For the proof: some bytes denote the definition, and it has few places.
     let _types = definition.types();
+    let _places = definition.place_count();
     let Beginning {
         mut engine,
         forwards,

@@ -16,7 +16,7 @@ use Rattle.engine_world.specs.PeerPlaces.{is_there, taken}
 use Rattle.engine_world.specs.TaskView.{agenda_of}
 use Rattle.engine_world.specs.View.{world_of}
 use Rattle.engine_world.proofs.Ableness.{able_as, instructed, no_arm}
-use Rattle.engine_instructions.proofs.Creating.{creates, creates_none}
+use Rattle.engine_instructions.proofs.Creating.{creates, creates_none, identity_left}
 use Rattle.engine_instructions.proofs.new_objects.create.Goals as goal
 
 pub unreachable-requires : goal.unreachable-requires
@@ -68,6 +68,7 @@ create_at-requires c =
     record {
       able = able_as (ap (λ (a : Answer Started). left e.counted (in_front (agenda_of d e) a)) made) c.requires.able;
       peer = subst (λ (p : Option ℕ). IfSome p (λ number. number < length c.args.engine.now.world.seats)) (sym c.number.ensures) c.new_peer-peer.ensures.within;
+      identity = identity_left d w (to_make (agenda_of d e)) there room;
       counted = c.requires.counted;
     }
 

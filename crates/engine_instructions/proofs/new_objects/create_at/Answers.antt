@@ -28,7 +28,7 @@ make-requires c =
     let e = c.args.engine.now in
     let w = world_of e.world in
     let able = made_able d w (frame_view c.args.frame) c.args.to.0 c.args.place.0 c.args.peer (instructed e.counted (agenda_of d e) _ c.requires.able) in
-    record { able = λ held. makes_any d w c.args.place.0 c.args.peer false held able }
+    record { able = λ held. makes_any d w c.args.place.0 c.args.peer false held able; identity = c.requires.identity }
 
 pub write_register-requires : goal.write_register-requires
 write_register-requires c =

@@ -1,4 +1,5 @@
 use Rattle.std.proofs.Common.{Result, Ok, refl, ap, arith}
+use Rattle.ui_machine.specs.Rules.Build.{is_making, of_items}
 use Rattle.ui_machine.specs.State.References.{in_task}
 use Rattle.std.specs.declared.alloc.AllocError.{AllocError}
 use Rattle.engine_world.proofs.Counts.{done_plain}
@@ -7,6 +8,7 @@ use Rattle.engine_world.specs.declared.task.Task as code
 use Rattle.engine_world.proofs.Floats.{same_self}
 use Rattle.engine_world.proofs.Held.{counted_lives}
 use Rattle.engine_world.proofs.Rooms.{task_counted}
+use Rattle.engine_instructions.proofs.Creating.{making_from}
 use Rattle.engine_instructions.proofs.Whole.{leads_whole}
 use Rattle.engine_pools.proofs.tasks.act.Goals as goal
 
@@ -79,6 +81,14 @@ build-requires-clause-names c = rw c.in-Building.is at c.requires.names
 
 pub build-requires-clause-counted : goal.build-requires-clause-counted
 build-requires-clause-counted c = task_counted c.args.definition.now c.args.engine.now c.args.task c.requires.counted
+
+pub build-requires-clause-identity : goal.build-requires-clause-identity
+build-requires-clause-identity c within =
+    let d = c.args.definition.now in
+    let e = c.args.engine.now in
+    let makes = ap (λ (t : code.Task). of_items is_making (task_in d e t)) c.in-Building.is in
+    let left = making_from d c.types-types.ensures.basic c.in-Building.place.0 c.in-Building.forwards in
+    omega (arith, c.requires.identities, within, makes, left)
 
 pub adopt_from_build-requires : goal.adopt_from_build-requires
 adopt_from_build-requires c = record {

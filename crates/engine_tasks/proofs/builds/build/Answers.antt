@@ -1,5 +1,6 @@
 use Rattle.std.proofs.Common.{◌≡◌, true, List, ◌∷◌, sym, ap, subst, ◌∙◌}
 use Rattle.std.specs.Prelude.{◌<◌, IfSome, length}
+use Rattle.ui_machine.specs.State.Objects.{most_identities}
 use Rattle.ui_machine.specs.State.Peers.{Peer}
 use Rattle.ui_machine.specs.State.Tasks.{Task, Item}
 use Rattle.ui_machine.specs.State.Config.{World, Config}
@@ -76,6 +77,8 @@ make_from_build-requires c = record {
       rw (pushed, c.push_task.ensures.world, c.push_task.ensures.same) (able_as next c.requires.able);
   peer =
       subst (λ (peers : List Peer). IfSome c.own_peer-peer.result (λ number. number < length peers)) (sym (ap (λ (w : World). w.peers) c.push_task.ensures.world)) c.own_peer-peer.ensures.within;
+  identity =
+      subst (λ (w : World). length w.objects < most_identities) (sym c.push_task.ensures.world) (c.requires.identity (c.is_object.ensures.within c.if-not-is_object.false));
   counted = still_counted c.args.definition.now c.args.engine.now c.push_task.new.engine (c.in_ok-push_task.ensures.counted c.args.definition.now) c.requires.counted;
 }
 

@@ -10,7 +10,10 @@ use Rattle.engine_world.proofs.Held.{may_on}
 use Rattle.engine_tasks.proofs.builds.make_from_build.Goals as goal
 
 pub make-requires : goal.make-requires
-make-requires c = record { able = λ held. makes_any c.args.definition.now (world_of c.args.engine.now.world) c.args.place.0 c.args.peer true held (in_uncounted _ _ _ c.requires.able) }
+make-requires c = record {
+  identity = c.requires.identity;
+  able = λ held. makes_any c.args.definition.now (world_of c.args.engine.now.world) c.args.place.0 c.args.peer true held (in_uncounted _ _ _ c.requires.able);
+}
 
 pub begin_construction-requires-clause-may : goal.begin_construction-requires-clause-may
 begin_construction-requires-clause-may c =

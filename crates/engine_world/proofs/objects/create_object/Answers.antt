@@ -9,7 +9,7 @@ use Rattle.engine_world.proofs.objects.create_object.Goals as goal
 
 pub returns-clause-live : goal.returns-clause-live
 returns-clause-live c =
-    newest_lives c.args.engine.now.world.table.objects c.add.new.table.objects c.new-object.result c.in-Ok.id.0 c.in-Ok.ensures.added.identity c.in-Ok.ensures.added.objects
+    newest_lives c.args.engine.now.world.table.objects c.add.new.table.objects c.new-object.result c.in_ok-id.id.0 c.in_ok-id.ensures.added.identity c.in_ok-id.ensures.added.objects
 
 pub returns-clause-counted : goal.returns-clause-counted
 returns-clause-counted c none =
@@ -21,4 +21,4 @@ returns-clause-counted c none =
     let empty : (o : ℕ) → in_object d o (Some x) ≡ 0 = λ o. ap (λ (y : Object). in_object d o (Some y)) c.new-object.ensures ∙ omega (arith, none o) in
     keeps_by d e _ refl (λ g. g) refl (stays d e _ refl refl) (λ taken _ h.
     from_counted d taken c.add.new.table b a
-    (c.in-Ok.ensures.added.counted d (beside_of taken b a) empty (to_counted d taken e.world.table b a h)))
+    (c.in_ok-id.ensures.added.counted d (beside_of taken b a) empty (to_counted d taken e.world.table b a h)))

@@ -1,4 +1,4 @@
-use Rattle.std.proofs.Common.{Err, subst, sym}
+use Rattle.std.proofs.Common.{Err, subst, sym, arith}
 use Rattle.ui_machine.specs.Definition.{Definition}
 use Rattle.ui_machine.specs.Runs.{beginning, of_build}
 use Rattle.ui_machine.specs.State.Config.{Config}
@@ -27,7 +27,7 @@ dispatch-requires-clause-safe g c =
     let w = world_at pool (world_of c.args.beginning.engine.world) in
     let fs = c.args.beginning.forwards in
     let begins = begins_at d (as_peers pool) w fs c.requires.begun.world c.requires.begun.forwards in
-    let safe = builds_safely d e same c.types-types.ensures.denoted pool c.requires.begun.matches c.definition-definition.ensures.accepted in
+    let safe = builds_safely d e same c.types-types.ensures.denoted pool c.requires.begun.matches (omega (arith, c.place_count-places.ensures.count, c.place_count-places.ensures.few)) c.definition-definition.ensures.accepted in
     subst (λ (x : Definition). IsSafe e (beginning w (Building (build_from x 0 fs)))) (sym same) (subst (λ (x : Config). IsSafe e x) (sym begins) safe)
 
 pub invariant_of-result : goal.invariant_of-result
@@ -43,7 +43,7 @@ invariant_of-result g c =
     let begins = begins_at d (as_peers pool) w fs c.requires.begun.world c.requires.begun.forwards in
     let carried = built_as (as_peers pool) w fs c.in-Ok.reply same begins c.in-Ok.ensures.carried in (
       subst (λ (x : Definition). IsAtRest x c.dispatch.new.engine) same c.in-Ok.ensures.rests,
-      built_rests d c.definition-definition.result.now same c.types-types.ensures.denoted pool c.requires.begun.matches may c.in-Ok.reply left new carried c.in-Ok.ensures.knows,
+      built_rests d c.definition-definition.result.now same c.types-types.ensures.denoted pool c.requires.begun.matches (omega (arith, c.place_count-places.ensures.count, c.place_count-places.ensures.few)) may c.in-Ok.reply left new carried c.in-Ok.ensures.knows,
     )
 
 pub returns-in-Ok-clause-built : goal.returns-in-Ok-clause-built

@@ -1,0 +1,5 @@
+pub mod KinProofs
+pub mod StartProofs
+pub mod InstructionProofs
+pub mod TaskProofs
+pub mod RunProofs
