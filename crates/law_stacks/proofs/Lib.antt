@@ -1,0 +1,5 @@
+pub mod ShortProofs
+pub mod StartProofs
+pub mod InstructionProofs
+pub mod TaskProofs
+pub mod StepProofs

@@ -1,0 +1,9 @@
+use Rattle.law_stacks.proofs.ShortProofs.{stacked_are_short}
+use Rattle.law_stacks.proofs.StepProofs.{stacks_last}
+use Rattle.law_stacks.proofs.stacks.Goals as goal
+
+pub returns-clause-last : goal.returns-clause-last
+returns-clause-last c = stacks_last
+
+pub returns-clause-short : goal.returns-clause-short
+returns-clause-short c = stacked_are_short
