@@ -20,7 +20,7 @@ numbers_of all cs = filter_map (number_of all) cs
 abbrev pub IsOnce : List Channel → Type 0
 IsOnce all = (i j : ℕ) (c : Channel) → slice_get all i ≡ Some c → slice_get all j ≡ Some c → i ≡ j
 
--- channels that can be numbered: none is there twice, and they are not too many
+-- channels that can be numbered: none is there twice, and there are no more than 512 places may have
 pub record AreCountable (all : List Channel) : Type 0 where
   pub once : IsOnce all
-  pub few : length all ≤ 4294967295
+  pub few : length all ≤ 33554432

@@ -13,9 +13,6 @@ use std::collections::BTreeMap;
 use std::marker::Model;
 use ui_machine::{Channel, Member};
 
-// No definition has more channels.
-const MOST_CHANNELS: usize = 4294967295;
-
 /// The channels of a definition, numbered in the order of the report. A contract sees the list of them.
 #[derive(Drop)]
 pub struct ChannelNumbers {
@@ -79,14 +76,11 @@ impl ChannelNumbers {
     ///
     /// # Errors
     ///
-    /// `AllocError` where no memory is found. There are never more channels than numbers.
+    /// `AllocError` where no memory is found.
     pub fn new(alloc: Global, lookups: &Lookups<'_>) -> Result<ChannelNumbers, AllocError>
         ensures { IfOk result (λ numbers. numbers ≡ channels lookups.now) }
     {
         let channels = channels(alloc, lookups)?;
-        if channels.len() > MOST_CHANNELS {
-            return Err(AllocError);
-        }
         let numbers = numbers_of(alloc, channels.as_slice())?;
         Ok(ChannelNumbers { channels, numbers })
     }
@@ -94,7 +88,7 @@ impl ChannelNumbers {
     /// How many there are.
     pub fn count(&self) -> usize
         ensures count { result ≡ length self.now }
-        ensures few { result ≤ 4294967295 }
+        ensures few { result ≤ 33554432 }
         ensures countable { AreCountable self.now }
     {
         self.channels.len()

@@ -79,7 +79,8 @@ pub fn paired_places(
     numbers: &ChannelNumbers,
     others: &[Option<u32>],
 ) -> Result<Vec<Vec<u32>>, AllocError>
-    ensures { IfOk result (λ places. map (λ v. v.items) places.items ≡ listed (paired_at lookups.now numbers.now others.now) (length lookups.now.places)) }
+    ensures places { IfOk result (λ places. map (λ v. v.items) places.items ≡ listed (paired_at lookups.now numbers.now others.now) (length lookups.now.places)) }
+    ensures few { IfOk result (λ places. length places.items ≤ 512) }
 {
     let mut places = Vec::new(alloc);
     for place in 0..lookups.definition().place_count() {

@@ -1,6 +1,6 @@
 //! The channels of a definition, in the order of the report.
 
-ghost use Rattle.std.specs.Prelude.{◌≡◌, ◌++◌, map, IfOk, OnOk};
+ghost use Rattle.std.specs.Prelude.{◌≡◌, ◌++◌, ◌+◌, ◌≤◌, length, map, IfOk, OnOk};
 ghost use Rattle.ui_machine.specs.Definition.Lookups.{class_of, spec_of, specs_of};
 ghost use Rattle.ui_machine.specs.Rules.Construction.{constructed_runs};
 ghost use Rattle.law_typing.specs.Graph.Channels.{channels, channels_at, emitted_at, is_filled, programs_of, readable_from};
@@ -32,7 +32,8 @@ pub(crate) fn add_constructed(
     place: Place,
     class: TypeId,
 ) -> Result<(), AllocError>
-    ensures { OnOk result (channels_of channels.new.items ≡ channels_of channels.old.items ++ constructed_if lookups.now place.0 class) }
+    ensures added { OnOk result (channels_of channels.new.items ≡ channels_of channels.old.items ++ constructed_if lookups.now place.0 class) }
+    ensures few { OnOk result (length channels.new.items ≤ length channels.old.items + 1) }
 {
     if !runs_constructed(lookups.definition(), class) {
         return Ok(());
@@ -50,7 +51,8 @@ fn add_property(
     class: TypeId,
     slot: Slot,
 ) -> Result<(), AllocError>
-    ensures { OnOk result (channels_of channels.new.items ≡ channels_of channels.old.items ++ readable_one place.0 slot (spec_of lookups.now class slot)) }
+    ensures added { OnOk result (channels_of channels.new.items ≡ channels_of channels.old.items ++ readable_one place.0 slot (spec_of lookups.now class slot)) }
+    ensures few { OnOk result (length channels.new.items ≤ length channels.old.items + 1) }
 {
     let Some(spec) = lookups.spec(class, slot) else {
         return Ok(());
@@ -70,7 +72,8 @@ fn add_properties(
     place: Place,
     class: TypeId,
 ) -> Result<(), AllocError>
-    ensures { OnOk result (channels_of channels.new.items ≡ channels_of channels.old.items ++ readable_from place.0 0 (specs_of lookups.now class)) }
+    ensures added { OnOk result (channels_of channels.new.items ≡ channels_of channels.old.items ++ readable_from place.0 0 (specs_of lookups.now class)) }
+    ensures few { OnOk result (length channels.new.items ≤ length channels.old.items + 16448) }
 {
     for slot in 0..lookups.definition().slots(class) {
         add_property(channels, lookups, place, class, slot as Slot)?;
@@ -85,7 +88,8 @@ fn add_signals(
     place: Place,
     class: TypeId,
 ) -> Result<(), AllocError>
-    ensures { OnOk result (channels_of channels.new.items ≡ channels_of channels.old.items ++ emitted_at place.0 (class_of lookups.now class).signals) }
+    ensures added { OnOk result (channels_of channels.new.items ≡ channels_of channels.old.items ++ emitted_at place.0 (class_of lookups.now class).signals) }
+    ensures few { OnOk result (length channels.new.items ≤ length channels.old.items + 16384) }
 {
     for number in 1..lookups.definition().signal_count(class) {
         let member = Member::Signal(number as u16);
@@ -100,7 +104,8 @@ fn add_channels_at(
     lookups: &Lookups<'_>,
     place: Place,
 ) -> Result<(), AllocError>
-    ensures { OnOk result (channels_of channels.new.items ≡ channels_of channels.old.items ++ channels_at lookups.now place.0) }
+    ensures added { OnOk result (channels_of channels.new.items ≡ channels_of channels.old.items ++ channels_at lookups.now place.0) }
+    ensures few { OnOk result (length channels.new.items ≤ length channels.old.items + 32833) }
 {
     let Some(class) = lookups.class_at(place) else {
         return Ok(());
@@ -118,7 +123,8 @@ fn add_channels_at(
 ///
 /// `AllocError` where no memory is found.
 pub fn channels(alloc: Global, lookups: &Lookups<'_>) -> Result<Vec<Channel>, AllocError>
-    ensures { IfOk result (λ found. channels_of found.items ≡ channels lookups.now) }
+    ensures channels { IfOk result (λ found. channels_of found.items ≡ channels lookups.now) }
+    ensures few { IfOk result (λ found. length found.items ≤ 33554432) }
 {
     let mut found = Vec::new(alloc);
     for place in 0..lookups.definition().place_count() {

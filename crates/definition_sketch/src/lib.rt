@@ -5,6 +5,7 @@ ghost use Rattle.std.specs.Prelude.{◌≡◌, None, IfOk};
 ghost use Rattle.law_judging.specs.FirstFaults.{first_fault};
 ghost use Rattle.law_typing.specs.Graph.{graph};
 ghost use Rattle.law_typing.specs.Graph.Channels.{channels};
+ghost use Rattle.graph_sketches.specs.Sizes.{IsSmall};
 ghost use Rattle.graph_sketches.specs.Sketches.{IsSketch};
 ghost use Rattle.graph_sketches.specs.View.{sketch_view};
 
@@ -16,7 +17,7 @@ use started_channels::sketched_programs;
 use std::alloc::{AllocError, Global};
 
 /// The graph of a definition by the numbers of its channels. It is right where the definition breaks no rule of instructions, handlers, bindings
-/// and pairs: only the pairs need that.
+/// and pairs: only the pairs need that. It is always small enough for its nodes to be numbered.
 ///
 /// # Errors
 ///
@@ -27,8 +28,11 @@ pub fn sketch(
     numbers: &ChannelNumbers,
 ) -> Result<Sketch, AllocError>
     requires { numbers.now ≡ channels lookups.now }
-    ensures { IfOk result (λ s. first_fault lookups.now ≡ None → IsSketch (graph lookups.now) (sketch_view s)) }
+    ensures sketch { IfOk result (λ s. first_fault lookups.now ≡ None → IsSketch (graph lookups.now) (sketch_view s)) }
+    ensures small { IfOk result (λ s. IsSmall (sketch_view s)) }
 {
+    // For the proof: there are few channels.
+    let _count = numbers.count();
     let paired = paired_numbers(alloc, lookups, numbers)?;
     let places = paired_places(alloc, lookups, numbers, paired.others.as_slice())?;
     let raised = raised_channels(alloc, lookups, numbers, &paired)?;

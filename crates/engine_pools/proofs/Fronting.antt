@@ -16,7 +16,7 @@ use Rattle.native_peers.specs.Seen.{Relations}
 use Rattle.engine_pools.specs.Courses.{fronted_point}
 use Rattle.engine_pools.specs.Following.{Breaks, Follows, Halting, Point, Stands}
 use Rattle.engine_pools.specs.PoolView.{IsLeft, as_shown, one_more}
-use Rattle.engine_pools.specs.Safety.{ComesOfSafe, IsApt, IsSafe}
+use Rattle.engine_pools.specs.Safety.{ComesOfSafe, HasNumbersLeft, IsApt, IsSafe}
 use Rattle.engine_pools.proofs.Named.{tasks_elsewhere}
 
 module _ (d : Definition) (front : List (List ℕ)) where
@@ -99,6 +99,9 @@ module _ (d : Definition) (front : List (List ℕ)) where
     room = n.room;
   }
 
+  numbers_kept : (at : Config) → HasNumbersLeft (fronted_at front at) → HasNumbersLeft at
+  numbers_kept at left = record { identities = left.identities; handlers = left.handlers }
+
   pub safe_kept : (c : Config) → IsSafe d (fronted_at front c) → IsSafe d c
   safe_kept c s = record {
     most = s.most;
@@ -115,7 +118,7 @@ module _ (d : Definition) (front : List (List ℕ)) where
         apt_kept at (question d at)
         (subst (λ (q : Option Question). IfSome q (IsApt d (fronted_at front at))) (question_stays front d at) (s.asks replies fit (fronted_at front at) (behind r)));
     names = λ replies fit at r. names_kept at (s.names replies fit (fronted_at front at) (behind r));
-    identities = λ replies fit at r. s.identities replies fit (fronted_at front at) (behind r);
+    numbers = λ replies fit at r. numbers_kept at (s.numbers replies fit (fronted_at front at) (behind r));
   }
 
   pub comes_of_safe : (p : Point) (c : Config) → Stands (fronted_point front p) c → IsSafe d c → ComesOfSafe d p

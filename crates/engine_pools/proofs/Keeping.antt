@@ -1,14 +1,13 @@
 -- What keeps a session from ever being stuck: each dispatch begins where a law says so, and leaves the world at rest.
-use Rattle.std.proofs.Common.{◌≡◌, ℕ, ◌≤◌, List, [], ◌∷◌, Option, None, Some, false, length, subst, arith}
+use Rattle.std.proofs.Common.{◌≡◌, ℕ, List, [], ◌∷◌, Option, None, Some, false, subst, arith}
 use Rattle.ui_machine.specs.Definition.{Definition}
 use Rattle.ui_machine.specs.Rules.Events.{names_released, refusal}
 use Rattle.ui_machine.specs.Rules.MainLoop.{turned}
-use Rattle.ui_machine.specs.Runs.{Dispatches, Fits, RunsSource, RunsSources, Tally, beginning, of_build, of_request}
+use Rattle.ui_machine.specs.Runs.{Dispatches, Fits, Reaches, RunsSource, RunsSources, Tally, beginning, of_build, of_request}
 use Rattle.ui_machine.specs.State.Config.{Config, World}
-use Rattle.ui_machine.specs.State.Objects.{most_identities}
 use Rattle.ui_machine.specs.State.Peers.{Peer, Reply}
 use Rattle.ui_machine.specs.State.Sources.{Source, is_numbered, source_of}
-use Rattle.ui_machine.specs.State.Tasks.{Due, Event, Request}
+use Rattle.ui_machine.specs.State.Tasks.{Due, Request}
 use Rattle.ui_machine.specs.State.Tasks as config
 use Rattle.law_typing.specs.Good.Bindings.{SourceGood}
 use Rattle.law_typing.specs.Good.Standing.{standing}
@@ -32,12 +31,12 @@ use Rattle.law_sessions.proofs.EntryProofs.{IsPrinted, build_printed, printed_fe
 use Rattle.law_sessions.proofs.KeepsProofs.{keeps}
 use Rattle.law_sessions.proofs.SessionProofs.{not_released, request_keeps, runs_source, source_keeps, turns}
 use Rattle.law_living.proofs.LivingProofs.{throughout}
-use Rattle.law_identities.specs.Identities.{HasIdentities}
-use Rattle.law_identities.specs.Kin.{HasKinMade}
-use Rattle.law_identities.proofs.RunProofs.{builds_have_identities, builds_have_kin_made, identities_last, requests_have_identities, sources_have_identities}
+use Rattle.law_left_numbers.specs.Kin.{HasKinMade}
+use Rattle.law_left_numbers.proofs.HandlerProofs.{builds_have_handler_numbers, handler_numbers_last, requests_have_handler_numbers, sources_have_handler_numbers}
+use Rattle.law_left_numbers.proofs.RunProofs.{builds_have_identities, builds_have_kin_made, identities_last, requests_have_identities, sources_have_identities}
 use Rattle.engine_pools.proofs.KinMade.{kin_made}
-use Rattle.engine_pools.specs.Promises.{BuildKeeps, EventKeeps, Rests, by_request, by_source}
-use Rattle.engine_pools.specs.Safety.{IsSafe}
+use Rattle.engine_pools.specs.Promises.{BuildKeeps, EventKeeps, IsNumberable, IsNumbered, Rests, by_request, by_source}
+use Rattle.engine_pools.specs.Safety.{HasNumbersLeft, IsSafe}
 use Rattle.engine_pools.proofs.Apt.{asks_on}
 
 module _ (d : Definition) where
@@ -67,27 +66,34 @@ module _ (d : Definition) where
           thawed = r.thawed;
           few = r.few;
         },
-        (rests a).1,
+        record { objects = (rests a).1.objects; handlers = (rests a).1.handlers },
       )
 
   pub without_lines_rests : (w : World) → Rests d w → Rests d (record w { transcript = [] })
   without_lines_rests w rests = other_lines_rest w [] rests
 
-  -- a dispatch makes no more objects than there are identities
-  made_by : (c : Config) → HasKinMade c.world → HasIdentities c → (replies : List Reply) (count : ℕ) (new : World) → Dispatches d replies c count new → length new.objects ≤ most_identities
-  made_by c kin left replies count new s =
-      let last = identities_last d replies c s.at s.reached kin left in
-      subst (λ (v : World). length v.objects ≤ most_identities) s.leaves (omega (arith, last))
+  -- a run leaves as many numbers as are needed
+  numbers_last : (c : Config) → HasKinMade c.world → HasNumbersLeft c → (replies : List Reply) (e : Config) → Reaches d replies c e → HasNumbersLeft e
+  numbers_last c kin left replies e reached =
+      record { identities = identities_last d replies c e reached kin left.identities; handlers = handler_numbers_last d replies c e reached left.handlers }
+
+  -- a dispatch makes no more objects than there are identities, and gives no more numbers to handlers than there are
+  numbered_by : (c : Config) → HasKinMade c.world → HasNumbersLeft c → (replies : List Reply) (count : ℕ) (new : World) → Dispatches d replies c count new → IsNumbered new
+  numbered_by c kin left replies count new s =
+      let last = numbers_last c kin left replies s.at s.reached in
+      let identities = last.identities in
+      let handlers = last.handlers in
+      subst IsNumbered s.leaves (record { objects = omega (arith, identities); handlers = omega (arith, handlers) })
 
   -- and leaves the world at rest
-  rests_by : (c : Config) → ((a : Accepted d) → (e : Entry) × Keeps d a e c) → ((a : Accepted d) → HasKinMade c.world × HasIdentities c) → (replies : List Reply) → Each (Fits d) replies
+  rests_by : (c : Config) → ((a : Accepted d) → (e : Entry) × Keeps d a e c) → ((a : Accepted d) → HasKinMade c.world × HasNumbersLeft c) → (replies : List Reply) → Each (Fits d) replies
       → (count : ℕ) (new : World) → Dispatches d replies c count new → Rests d new
   rests_by c keeps left replies fit count new dispatches a =
-      (((keeps a).1.ends replies fit count new dispatches).1, made_by c (left a).0 (left a).1 replies count new dispatches)
+      (((keeps a).1.ends replies fit count new dispatches).1, numbered_by c (left a).0 (left a).1 replies count new dispatches)
 
   module _ (well : WellRead d) where
     -- what begins well is safe
-    safe_by : (a : Accepted d) (e : Entry) (c : Config) → IsPrinted d a e → IsGood d a (bound_of d a e) c → HasIdentities c → IsSafe d c
+    safe_by : (a : Accepted d) (e : Entry) (c : Config) → IsPrinted d a e → IsGood d a (bound_of d a e) c → HasNumbersLeft c → IsSafe d c
     safe_by a e c printed good left =
         let few = printed_few d a well e printed in
         let kept = keeps steps_keep_good d well a e c few printed good in
@@ -96,7 +102,7 @@ module _ (d : Definition) where
           safe = record { unstuck = kept.never_stuck; shallow = kept.shallow };
           asks = asks_on d a (bound_of d a e) steps_keep_good well few c good;
           names = throughout d well a (bound_of d a e) few c good;
-          identities = λ replies fit at reached. identities_last d replies c at reached (kin_made d c.world good.objects) left;
+          numbers = λ replies fit at reached. numbers_last c (kin_made d c.world good.objects) left replies at reached;
         }
 
     -- ** the build
@@ -105,11 +111,15 @@ module _ (d : Definition) where
       pub build_promised : BuildKeeps d peers
       build_promised a = keeps steps_keep_good d well a entries.build (of_build d peers) (printed_few d a well entries.build (build_printed d a)) (build_printed d a) (build_begins d well a peers ready)
 
-      pub build_safe : length d.places ≤ most_identities → Accepted d → IsSafe d (of_build d peers)
-      build_safe few a = safe_by a entries.build (of_build d peers) (build_printed d a) (build_begins d well a peers ready) (builds_have_identities d peers few)
+      -- a build begins with numbers for all that it makes and connects
+      build_numbered : IsNumberable d → HasNumbersLeft (of_build d peers)
+      build_numbered few = record { identities = builds_have_identities d peers few.places; handlers = builds_have_handler_numbers d peers few.signals }
 
-      pub build_rests : length d.places ≤ most_identities → (replies : List Reply) → Each (Fits d) replies → (count : ℕ) (new : World) → Dispatches d replies (of_build d peers) count new → Rests d new
-      build_rests few = rests_by (of_build d peers) (λ a. (_, build_promised a)) (λ a. (builds_have_kin_made d peers, builds_have_identities d peers few))
+      pub build_safe : IsNumberable d → Accepted d → IsSafe d (of_build d peers)
+      build_safe few a = safe_by a entries.build (of_build d peers) (build_printed d a) (build_begins d well a peers ready) (build_numbered few)
+
+      pub build_rests : IsNumberable d → (replies : List Reply) → Each (Fits d) replies → (count : ℕ) (new : World) → Dispatches d replies (of_build d peers) count new → Rests d new
+      build_rests few = rests_by (of_build d peers) (λ a. (_, build_promised a)) (λ a. (builds_have_kin_made d peers, build_numbered few))
 
     -- ** requests
 
@@ -117,11 +127,14 @@ module _ (d : Definition) where
       request_promised : (a : Accepted d) → Keeps d a (entry_of d r) (of_request w r)
       request_promised a = request_keeps steps_keep_good d well a w (rests a).0 r read held
 
+      request_numbered : Accepted d → HasNumbersLeft (of_request w r)
+      request_numbered a = record { identities = requests_have_identities d w r (rests a).1.objects; handlers = requests_have_handler_numbers d w r (rests a).1.handlers }
+
       pub request_safe : Accepted d → IsSafe d (of_request w r)
-      request_safe a = safe_by a (entry_of d r) (of_request w r) (request_printed d a r) (requests_begin d well a w (rests a).0 r read held) (requests_have_identities d w r (rests a).1)
+      request_safe a = safe_by a (entry_of d r) (of_request w r) (request_printed d a r) (requests_begin d well a w (rests a).0 r read held) (request_numbered a)
 
       pub request_rests : (replies : List Reply) → Each (Fits d) replies → (count : ℕ) (new : World) → Dispatches d replies (of_request w r) count new → Rests d new
-      request_rests = rests_by (of_request w r) (λ a. (_, request_promised a)) (λ a. (kin_made d w (rests a).0.objects, requests_have_identities d w r (rests a).1))
+      request_rests = rests_by (of_request w r) (λ a. (_, request_promised a)) (λ a. (kin_made d w (rests a).0.objects, request_numbered a))
 
       request_event_keeps : EventKeeps d w (config.request r)
       request_event_keeps a e c (by_request s) = request_promised a
@@ -135,6 +148,11 @@ module _ (d : Definition) where
     source_known : (a : Accepted d) (w : World) → IsResting d a w → (number : ℕ) (s : Source) → source_of number w.sources ≡ Some s → SourceGood d (standing w.objects) s
     source_known a w rest number s is = each_in (SourceGood d (standing w.objects)) w.sources rest.sources s (find_in (is_numbered number) w.sources s is).0
 
+    -- a source of a world that is numbered begins so
+    source_numbered : (w : World) (number : ℕ) → IsNumbered w → HasNumbersLeft (beginning w (Due number))
+    source_numbered w number numbered =
+        record { identities = sources_have_identities w number numbered.objects; handlers = sources_have_handler_numbers w number numbered.handlers }
+
     module _ (w : World) (rests : Rests d w) (number : ℕ) (s : Source) (stands : source_of number w.sources ≡ Some s) where
       source_promised : (a : Accepted d) → (e : Entry) × Keeps d a e (beginning w (Due number))
       source_promised a = (_, source_keeps steps_keep_good d well a w (rests a).0 number s stands)
@@ -142,31 +160,31 @@ module _ (d : Definition) where
       pub source_safe : Accepted d → IsSafe d (beginning w (Due number))
       source_safe a =
           safe_by a (entries.source s.program) (beginning w (Due number)) (source_printed d a s.program (source_known a w (rests a).0 number s stands).told)
-          (sources_begin d well a w (rests a).0 number s stands) (sources_have_identities w number (rests a).1)
+          (sources_begin d well a w (rests a).0 number s stands) (source_numbered w number (rests a).1)
 
       pub source_rests : (replies : List Reply) → Each (Fits d) replies → (count : ℕ) (new : World) → Dispatches d replies (beginning w (Due number)) count new → Rests d new
-      source_rests = rests_by (beginning w (Due number)) source_promised (λ a. (kin_made d w (rests a).0.objects, sources_have_identities w number (rests a).1))
+      source_rests = rests_by (beginning w (Due number)) source_promised (λ a. (kin_made d w (rests a).0.objects, source_numbered w number (rests a).1))
 
     -- ** turns
 
     pub turn_rests : (w : World) (moment : ℕ) → Rests d w → Rests d (turned d w moment)
-    turn_rests w moment rests a = (turns steps_keep_good d well a w moment (rests a).0, (rests a).1)
+    turn_rests w moment rests a = (turns steps_keep_good d well a w moment (rests a).0, record { objects = (rests a).1.objects; handlers = (rests a).1.handlers })
 
-    -- what a source of a turn makes
-    source_made : (a : Accepted d) (number : ℕ) (s : Option Source) (replies : List Reply) (w : World) (tally : Tally) (new : World) → IsResting d a w → length w.objects ≤ most_identities
-        → RunsSource d number s replies w tally new → length new.objects ≤ most_identities
-    source_made a number None replies w tally new rest made run = subst (λ (v : World). length v.objects ≤ most_identities) run.same made
-    source_made a number (Some s) replies w tally new rest made run =
-        made_by (beginning w (Due number)) (kin_made d w rest.objects) (sources_have_identities w number made) replies run.steps new run.dispatches
+    -- a source of a turn leaves a world that is numbered
+    source_leaves_numbered : (a : Accepted d) (number : ℕ) (s : Option Source) (replies : List Reply) (w : World) (tally : Tally) (new : World) → IsResting d a w → IsNumbered w
+        → RunsSource d number s replies w tally new → IsNumbered new
+    source_leaves_numbered a number None replies w tally new rest numbered run = subst IsNumbered run.same numbered
+    source_leaves_numbered a number (Some s) replies w tally new rest numbered run =
+        numbered_by (beginning w (Due number)) (kin_made d w rest.objects) (source_numbered w number numbered) replies run.steps new run.dispatches
 
     pub runs_rest : (a : Accepted d) (numbers : List ℕ) (replies : List Reply) → Each (Fits d) replies → (w : World) (tally : Tally) (new : World)
-        → IsResting d a w × (length w.objects ≤ most_identities) → RunsSources d numbers replies w tally new → IsResting d a new × (length new.objects ≤ most_identities)
-    runs_rest a [] replies fit w tally new rests run = subst (λ (v : World). IsResting d a v × (length v.objects ≤ most_identities)) run.same rests
+        → IsResting d a w × IsNumbered w → RunsSources d numbers replies w tally new → IsResting d a new × IsNumbered new
+    runs_rest a [] replies fit w tally new rests run = subst (λ (v : World). IsResting d a v × IsNumbered v) run.same rests
     runs_rest a (number ∷ more) replies fit w tally new rests run =
         let parts = both_fit d run.first run.later (subst (Each (Fits d)) run.replied fit) in
         runs_rest a more run.later parts.1 run.mid run.later_tally new (
           runs_source steps_keep_good d well a number run.first parts.0 w run.first_tally run.mid rests.0 run.begins,
-          source_made a number (source_of number w.sources) run.first w run.first_tally run.mid rests.0 rests.1 run.begins,
+          source_leaves_numbered a number (source_of number w.sources) run.first w run.first_tally run.mid rests.0 rests.1 run.begins,
         ) run.goes_on
 
     pub turn_event_keeps : (w : World) → Rests d w → (moment : ℕ) → EventKeeps d w (config.turn moment)

@@ -4,7 +4,7 @@ use Rattle.std.specs.List.{AllByRecursion}
 use Rattle.ui_machine.specs.Definition.{Definition}
 use Rattle.ui_machine.specs.State.Config.{World}
 use Rattle.instance_tables.proofs.Families.{was_made}
-use Rattle.law_identities.specs.Kin.{HasKinMade}
+use Rattle.law_left_numbers.specs.Kin.{HasKinMade}
 use Rattle.law_living.proofs.LivingProofs.{children_living}
 use Rattle.law_typing.specs.Good.Objects.{FamilyGood, ObjectsGood}
 use Rattle.law_typing.specs.Good.Living.{IsLiving}

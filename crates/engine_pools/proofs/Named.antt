@@ -1,17 +1,18 @@
--- The engine's tasks name what lives, where the machine's do, and identities are left.
+-- The engine's tasks name what lives, where the machine's do, and numbers are left.
 use Rattle.std.proofs.Common.{◌≡◌, refl, subst, ℕ, true, List, [], ◌∷◌, map, IfSome, IsSome, arith}
-use Rattle.ui_machine.specs.Rules.Build.{is_making, of_items, to_make}
+use Rattle.ui_machine.specs.Rules.Build.{is_connecting, is_making, of_items}
 use Rattle.ui_machine.specs.Rules.Sets.{lives}
+use Rattle.ui_machine.specs.Seq.{total}
 use Rattle.ui_machine.specs.State.Config.{Config, World}
 use Rattle.ui_machine.specs.State.Objects.{Objects, living}
-use Rattle.ui_machine.specs.State.Tasks.{Answering, Beginning, Building, Calling, Constructing, Due, Emission, Emitting, Handling, Notifying, Running, Setting, Task, Thawing, Transferring, Unsetting}
+use Rattle.ui_machine.specs.State.Tasks.{Answering, Beginning, Building, Calling, Constructing, Due, Emission, Emitting, Handling, Item, Notifying, Running, Setting, Task, Thawing, Transferring, Unsetting}
 use Rattle.machine_laws.specs.GoneLaws.{Gone, pruned}
-use Rattle.law_identities.specs.Identities.{HasIdentities}
 use Rattle.law_peers.specs.Forgetting.{forgotten_at}
 use Rattle.law_typing.specs.Good.Living.{TaskNamesLiving}
 use Rattle.law_typing.specs.Verdict.Accepted.{Each}
 use Rattle.engine_world.specs.Able.{TasksNameLiving}
 use Rattle.engine_world.specs.Standing.{gone_handlers, without_gone}
+use Rattle.engine_pools.specs.Safety.{HasNumbersLeft}
 
 -- the same objects live
 module _ (w v : World) (same : w.objects ≡ v.objects) where
@@ -92,31 +93,35 @@ names_alike y x is names =
     (subst TasksNameLiving is
     (tasks_pruned (gone_handlers (forgotten_at y).world) (forgotten_at y).world y.agenda (tasks_elsewhere y.world (forgotten_at y).world refl y.agenda names)))
 
--- nor is anything to be made by them
-module _ (gone : Gone) where
-  task_makes : (t : Task) → of_items is_making (pruned gone t) ≡ of_items is_making t
-  task_makes (Emitting e turns) = refl
-  task_makes (Setting id slot x) = refl
-  task_makes (Notifying id slot) = refl
-  task_makes (Beginning e) = refl
-  task_makes (Thawing id slots) = refl
-  task_makes (Running f) = refl
-  task_makes (Calling call) = refl
-  task_makes (Constructing id steps held) = refl
-  task_makes (Transferring number back) = refl
-  task_makes (Unsetting number) = refl
-  task_makes (Answering source) = refl
-  task_makes (Building items) = refl
-  task_makes (Handling request) = refl
-  task_makes (Due source) = refl
+-- nor is anything to be made or connected by them
+module _ (gone : Gone) (f : Item → ℕ) where
+  task_has : (t : Task) → of_items f (pruned gone t) ≡ of_items f t
+  task_has (Emitting e turns) = refl
+  task_has (Setting id slot x) = refl
+  task_has (Notifying id slot) = refl
+  task_has (Beginning e) = refl
+  task_has (Thawing id slots) = refl
+  task_has (Running f) = refl
+  task_has (Calling call) = refl
+  task_has (Constructing id steps held) = refl
+  task_has (Transferring number back) = refl
+  task_has (Unsetting number) = refl
+  task_has (Answering source) = refl
+  task_has (Building items) = refl
+  task_has (Handling request) = refl
+  task_has (Due source) = refl
 
-  tasks_make : (ts : List Task) → to_make (map (pruned gone) ts) ≡ to_make ts
-  tasks_make [] = refl
-  tasks_make (t ∷ ts) = omega (arith, task_makes t, tasks_make ts)
+  tasks_have : (ts : List Task) → total (of_items f) (map (pruned gone) ts) ≡ total (of_items f) ts
+  tasks_have [] = refl
+  tasks_have (t ∷ ts) = omega (arith, task_has t, tasks_have ts)
 
--- identities are left for the engine's configuration, where they are for the machine's
-pub identities_alike : (y x : Config) → without_gone (forgotten_at y) ≡ x → HasIdentities y → HasIdentities x
-identities_alike y x is left =
-    let same = tasks_make (gone_handlers (forgotten_at y).world) y.agenda in
-    let there : HasIdentities (without_gone (forgotten_at y)) = omega (arith, left, same) in
-    subst HasIdentities is there
+-- numbers are left for the engine's configuration, where they are for the machine's
+pub numbers_alike : (y x : Config) → without_gone (forgotten_at y) ≡ x → HasNumbersLeft y → HasNumbersLeft x
+numbers_alike y x is left =
+    let gone = gone_handlers (forgotten_at y).world in
+    let made = tasks_have gone is_making y.agenda in
+    let connected = tasks_have gone is_connecting y.agenda in
+    let identities = left.identities in
+    let handlers = left.handlers in
+    let there : HasNumbersLeft (without_gone (forgotten_at y)) = record { identities = omega (arith, identities, made); handlers = omega (arith, handlers, connected) } in
+    subst HasNumbersLeft is there

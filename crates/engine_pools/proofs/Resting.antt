@@ -112,11 +112,11 @@ remembered_rests d a w r = rests_still d (map forgotten w.peers) w.peers (rememb
 pub rests_there : (d : Definition) (pool : List Seen) (w : World) → Knows w pool → Rests d w → Rests d (world_at pool w)
 rests_there d pool w knows rests a = (
   remembered_rests d a (world_at pool w) (subst (λ (l : List Peer). IsResting d a (record w { peers = l })) (sym (forgets_to pool w.peers knows)) (rests a).0),
-  (rests a).1,
+  record { objects = (rests a).1.objects; handlers = (rests a).1.handlers },
 )
 
 pub rests_here : (d : Definition) (pool : List Seen) (w : World) → Knows w pool → Rests d (world_at pool w) → Rests d w
 rests_here d pool w knows rests a = (
   subst (λ (l : List Peer). IsResting d a (record w { peers = l })) (forgets_to pool w.peers knows) (forgotten_rests d a (world_at pool w) (rests a).0),
-  (rests a).1,
+  record { objects = (rests a).1.objects; handlers = (rests a).1.handlers },
 )

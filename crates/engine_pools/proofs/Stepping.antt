@@ -22,10 +22,9 @@ use Rattle.engine_world.specs.EngineView.{IsOfKind}
 use Rattle.ui_machine.specs.Prefix.{IsPrefix}
 use Rattle.engine_world.specs.Standing.{Follows, GoesWithoutGone, gone_handlers, past_turns, with_first, without_gone}
 use Rattle.engine_pools.specs.QuietSteps.{IsSafeView, QuietlyStepped}
-use Rattle.engine_pools.specs.Safety.{NoneUnheld}
+use Rattle.engine_pools.specs.Safety.{HasNumbersLeft, NoneUnheld}
 use Rattle.engine_pools.proofs.Standing.{first_acts, first_follows, first_names, last_acts, last_follows}
-use Rattle.law_identities.specs.Identities.{HasIdentities}
-use Rattle.engine_pools.proofs.Named.{identities_alike}
+use Rattle.engine_pools.proofs.Named.{numbers_alike}
 use Rattle.engine_pools.proofs.Reaching.{reaches_here}
 use Rattle.engine_world.proofs.Floats.{if_ok_at, first_gone}
 use Rattle.engine_pools.proofs.Acts.{Passes, acted}
@@ -107,9 +106,9 @@ module _ (d : Definition) (hs : List Handler) (c e : Config) (none : NoneUnheld 
   pub first_names_so : IsSafeView d c → LeadsToLiving (act d c.world None (past_turns c.world (task_of d hs task) ∷ tasks_of d hs s) c.counted)
   first_names_so safe = subst LeadsToLiving acts (first_names d c none (record { pool = safe.pool; view = c }) refl safe.safe asks)
 
--- identities are left for what is still to be made
-pub view_identities : (d : Definition) (c : Config) → IsSafeView d c → HasIdentities c
-view_identities d c safe = identities_alike safe.safe.at c safe.safe.stands.view (safe.safe.safe.identities [] tt safe.safe.at (reaches_here d safe.safe.at))
+-- numbers are left for what is still to be made and connected
+pub view_numbers : (d : Definition) (c : Config) → IsSafeView d c → HasNumbersLeft c
+view_numbers d c safe = numbers_alike safe.safe.at c safe.safe.stands.view (safe.safe.safe.numbers [] tt safe.safe.at (reaches_here d safe.safe.at))
 
 -- the step that finalises an object
 module _ (d : Definition) (c : Config) (id : ℕ) (unheld : next_unheld (mentions d c) c.world.objects ≡ Some id) where

@@ -1,6 +1,9 @@
 -- What is promised of the dispatches of a session: none is ever stuck, and each keeps within the bound that the report prints for what it
 -- begins with.
 use Rattle.ui_machine.specs.Definition.{Definition}
+use Rattle.ui_machine.specs.Rules.Connections.{greatest_handler}
+use Rattle.ui_machine.specs.Definition.Places.{Place}
+use Rattle.ui_machine.specs.Seq.{total}
 use Rattle.ui_machine.specs.Runs.{beginning, of_build, of_request}
 use Rattle.ui_machine.specs.State.Config.{World, Config}
 use Rattle.ui_machine.specs.State.Objects.{most_identities}
@@ -17,9 +20,19 @@ use Rattle.law_typing.specs.Verdict.Accepted.{Accepted}
 use Rattle.law_sessions.specs.Dispatches.{Keeps}
 use Rattle.law_sessions.specs.Sessions.{Runs}
 
--- a world between two dispatches, however the definition is accepted: no more objects were made than there are identities
+-- no more objects were made than there are identities, and no greater number was given to a handler than there is
+pub record IsNumbered (w : World) : Type 0 where
+  pub objects : length w.objects ≤ most_identities
+  pub handlers : w.last_handler ≤ greatest_handler
+
+-- the build of a definition needs no more numbers than there are
+pub record IsNumberable (d : Definition) : Type 0 where
+  pub places : length d.places ≤ most_identities
+  pub signals : total (λ (p : Place). length p.signals) d.places ≤ greatest_handler
+
+-- a world between two dispatches, however the definition is accepted
 abbrev pub Rests : Definition → World → Type 0
-Rests d w = (a : Accepted d) → IsResting d a w × (length w.objects ≤ most_identities)
+Rests d w = (a : Accepted d) → IsResting d a w × IsNumbered w
 
 -- A dispatch that an event begins in a world, by what it begins with and where. A request begins one; a turn begins one for each of its
 -- sources that is still there at its place, once those before it have run.

@@ -1,11 +1,12 @@
--- Configurations from which nothing is ever stuck, each question is apt, all that is named lives, and identities are left.
+-- Configurations from which nothing is ever stuck, each question is apt, all that is named lives, and numbers are left.
 use Rattle.std.specs.Prelude.{◌≡◌, ℕ, IfSome, IsSomeAnd, None, slice_get}
 use Rattle.ui_machine.specs.Definition.{Definition}
 use Rattle.ui_machine.specs.State.Config.{Config}
 use Rattle.ui_machine.specs.State.Peers.{Question}
 use Rattle.ui_machine.specs.State.References.{mentions, next_unheld}
 use Rattle.ui_machine.specs.Steps.{question}
-use Rattle.law_identities.specs.Identities.{HasIdentities}
+use Rattle.law_left_numbers.specs.Handlers.{HasHandlerNumbers}
+use Rattle.law_left_numbers.specs.Identities.{HasIdentities}
 use Rattle.law_sessions.specs.Dispatches.{Throughout}
 use Rattle.law_sessions.specs.Safe.{Safe}
 use Rattle.law_typing.specs.Good.Living.{AllNamesLiving}
@@ -25,14 +26,19 @@ pub record IsApt (d : Definition) (c : Config) (q : Question) : Type 0 where
 abbrev pub AsksAptly : Definition → Config → Type 0
 AsksAptly d c = IfSome (question d c) (IsApt d c)
 
+-- there are identities for what is still to be made, and numbers for the handlers that are still to be connected
+pub record HasNumbersLeft (c : Config) : Type 0 where
+  pub identities : HasIdentities c
+  pub handlers : HasHandlerNumbers c
+
 -- a configuration from which no run is stuck, or has more than so many frames, each question is apt, all that is named lives, and
--- there are identities for what is still to be made
+-- there are numbers for what is still to be made and connected
 pub record IsSafe (d : Definition) (c : Config) : Type 0 where
   pub most : ℕ
   pub safe : Safe d most c
   pub asks : Throughout d c (AsksAptly d)
   pub names : Throughout d c (AllNamesLiving d)
-  pub identities : Throughout d c HasIdentities
+  pub numbers : Throughout d c HasNumbersLeft
 
 -- the point is that of a safe configuration of the machine
 pub record ComesOfSafe (d : Definition) (p : Point) : Type 0 where

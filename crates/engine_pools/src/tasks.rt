@@ -1,7 +1,8 @@
 //! What each task does, as the machine's.
 
 ghost use Rattle.std.specs.Prelude.{◌+◌, ◌≤◌, ◌∷◌, length, OnOk, OnErr, IfOk};
-ghost use Rattle.ui_machine.specs.Rules.Build.{to_make};
+ghost use Rattle.ui_machine.specs.Rules.Build.{to_connect, to_make};
+ghost use Rattle.ui_machine.specs.Rules.Connections.{greatest_handler};
 ghost use Rattle.ui_machine.specs.State.Objects.{most_identities};
 ghost use Rattle.ui_machine.specs.State.References.{in_task};
 ghost use Rattle.ui_machine.specs.Steps.{act};
@@ -51,6 +52,7 @@ pub(crate) fn act(
         (act definition.now (world_of engine.now.world) None
         (past_turns (world_of engine.now.world) (task_in definition.now engine.now task) ∷ agenda_of definition.now engine.now) engine.now.counted) }
     requires identities { length (world_of engine.now.world).objects + to_make (task_in definition.now engine.now task ∷ agenda_of definition.now engine.now) ≤ most_identities }
+    requires numbers { (world_of engine.now.world).last_handler + to_connect (task_in definition.now engine.now task ∷ agenda_of definition.now engine.now) ≤ greatest_handler }
     requires begun { TakesKnownHandlers engine.now.world.handlers.last task }
     requires counted { Counts definition.now (λ o. in_task o (task_in definition.now engine.now task)) engine.now }
     ensures step { LeadsWithoutGone result

@@ -1,8 +1,10 @@
 //! The bindings of the definition: they are made once all objects are there (GTK manual, GtkBuilder: the attribute `bind-source`).
 
-ghost use Rattle.std.specs.Prelude.{◌≡◌, ◌<◌, ◌||◌, ◌++◌, ℕ, Ok, false, option_map, string_bytes, IfOk, OnOk, OnErr};
+ghost use Rattle.std.specs.Prelude.{◌≡◌, ◌<◌, ◌≤◌, ◌+◌, ◌||◌, ◌++◌, ℕ, Ok, false, option_map, string_bytes, IfOk, OnOk, OnErr};
 ghost use Rattle.ui_machine.specs.Definition as machine;
-ghost use Rattle.ui_machine.specs.Rules.Build.{building, first_transfer, new_binding, with_binding};
+ghost use Rattle.ui_machine.specs.Rules.Build.{building, first_transfer, is_connecting, new_binding, with_binding};
+ghost use Rattle.ui_machine.specs.Rules.Connections.{greatest_handler};
+ghost use Rattle.ui_machine.specs.Seq.{total};
 ghost use Rattle.ui_machine.specs.Rules.Sets.{is_disposed};
 ghost use Rattle.ui_machine.specs.State.Objects.{living};
 ghost use Rattle.ui_machine.specs.Steps.{uncounted};
@@ -12,7 +14,7 @@ ghost use Rattle.engine_world.specs.Counting.{Connects, KeepsCounts};
 ghost use Rattle.engine_world.specs.EngineView.{config_of};
 ghost use Rattle.engine_world.specs.Able.{Able, Leads};
 ghost use Rattle.engine_world.specs.Quiet.{IsQuiet};
-ghost use Rattle.engine_world.specs.TaskView.{agenda_of, binds_from};
+ghost use Rattle.engine_world.specs.TaskView.{agenda_of, binds_from, connects_from};
 ghost use Rattle.engine_world.specs.View.{world_of};
 ghost use Rattle.engine_tasks.specs.BindView.{ends_at, ends_of};
 
@@ -125,6 +127,7 @@ fn bind(
 }
 
 /// The next binding of the definition is made, unless one of its objects is disposed, or the first signal is connected where none is left.
+/// Numbers have to be left for the handlers of all signals.
 ///
 /// # Errors
 ///
@@ -137,6 +140,7 @@ pub fn bind_from_build(
 ) -> Result<(), AllocError>
     requires able { Able (uncounted (agenda_of definition.now engine.now) engine.now.counted (building definition.now (world_of engine.now.world) (binds_from definition.now number))) }
     requires connects { Connects definition.now engine.now }
+    requires numbers { (world_of engine.now.world).last_handler + total is_connecting (connects_from definition.now 0 0) ≤ greatest_handler }
     ensures step { Leads result
         (uncounted (agenda_of definition.now engine.old) engine.old.counted (building definition.now (world_of engine.old.world) (binds_from definition.now number)))
         (config_of definition.now engine.new) }

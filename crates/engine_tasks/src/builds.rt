@@ -1,6 +1,6 @@
 //! The build: how objects are made one after the other, and how their construction goes on and ends.
 
-ghost use Rattle.std.specs.Prelude.{◌≡◌, ◌<◌, List, true, ℕ, Some, [], ◌∷◌, IfSome, OnOk, OnErr, length, IsSome};
+ghost use Rattle.std.specs.Prelude.{◌≡◌, ◌<◌, ◌≤◌, ◌+◌, List, true, ℕ, Some, [], ◌∷◌, IfSome, OnOk, OnErr, length, IsSome};
 ghost use Rattle.ui_machine.specs.Definition.Values as machine_values;
 ghost use Rattle.ui_machine.specs.Rules.Programs.{program_before};
 ghost use Rattle.ui_machine.specs.Definition as definition;
@@ -9,14 +9,16 @@ ghost use Rattle.ui_machine.specs.Rules.Construction.{constructed, thawing_made,
 ghost use Rattle.ui_machine.specs.State.Handlers.{Handler};
 ghost use Rattle.ui_machine.specs.State.Tasks.{Building, Constructing};
 ghost use Rattle.ui_machine.specs.Steps.{uncounted};
-ghost use Rattle.ui_machine.specs.Rules.Build.{building};
+ghost use Rattle.ui_machine.specs.Rules.Build.{building, is_connecting};
+ghost use Rattle.ui_machine.specs.Rules.Connections.{greatest_handler};
+ghost use Rattle.ui_machine.specs.Seq.{total};
 ghost use Rattle.ui_machine.specs.State.Objects.{living, most_identities};
 ghost use Rattle.g_values.specs.View.{value_view};
 ghost use Rattle.definition_format.specs.Meaning.{object_count};
 ghost use Rattle.engine_world.specs.Able.{Able, Leads, LeadsToLiving};
 ghost use Rattle.engine_world.specs.Quiet.{IsQuiet};
 ghost use Rattle.engine_world.specs.View.{world_of};
-ghost use Rattle.engine_world.specs.TaskView.{task_of, agenda_of, build_from, build_behind};
+ghost use Rattle.engine_world.specs.TaskView.{task_of, agenda_of, build_from, build_behind, connects_from};
 ghost use Rattle.engine_world.specs.Counting.{Connects, IsCounted, KeepsCounts};
 ghost use Rattle.engine_world.specs.EngineView.{config_of};
 
@@ -275,6 +277,7 @@ pub fn build(
     requires counted { IsCounted definition.now engine.now }
     requires connects { Connects definition.now engine.now }
     requires identity { place.0 < object_count definition.now → length (world_of engine.now.world).objects < most_identities }
+    requires numbers { (world_of engine.now.world).last_handler + total is_connecting (connects_from definition.now 0 0) ≤ greatest_handler }
     ensures step { Leads result
         (uncounted (agenda_of definition.now engine.old) engine.old.counted (building definition.now (world_of engine.old.world) (build_from definition.now place.0 forwards)))
         (config_of definition.now engine.new) }

@@ -1,14 +1,16 @@
 //! Forward references: objects that are given to properties before they are built. They are set once all objects are made.
 
-ghost use Rattle.std.specs.Prelude.{◌≡◌, ◌≤◌, ◌++◌, map, OnOk, OnErr, IfOk};
+ghost use Rattle.std.specs.Prelude.{◌≡◌, ◌≤◌, ◌+◌, ◌++◌, map, OnOk, OnErr, IfOk};
 ghost use Rattle.std.specs.List.{flat_map};
-ghost use Rattle.ui_machine.specs.Rules.Build.{building, forward_of, forward_items};
+ghost use Rattle.ui_machine.specs.Rules.Build.{building, forward_of, forward_items, is_connecting};
+ghost use Rattle.ui_machine.specs.Rules.Connections.{greatest_handler};
+ghost use Rattle.ui_machine.specs.Seq.{total};
 ghost use Rattle.ui_machine.specs.Steps.{uncounted};
 ghost use Rattle.definition_format.specs.Meaning.{given_property, object_count};
 ghost use Rattle.engine_world.specs.Able.{Able, Leads, LeadsToLiving};
 ghost use Rattle.engine_world.specs.Quiet.{IsQuiet};
 ghost use Rattle.engine_world.specs.View.{world_of};
-ghost use Rattle.engine_world.specs.TaskView.{agenda_of, item_of, items_of, forwards_at, build_end};
+ghost use Rattle.engine_world.specs.TaskView.{agenda_of, connects_from, item_of, items_of, forwards_at, build_end};
 ghost use Rattle.engine_world.specs.Counting.{Connects, IsCounted, KeepsCounts};
 ghost use Rattle.engine_world.specs.EngineView.{config_of};
 
@@ -110,6 +112,7 @@ pub(crate) fn set_forward_reference(
     requires counted { IsCounted definition.now engine.now }
     requires past { object_count definition.now ≤ place.0 }
     requires connects { Connects definition.now engine.now }
+    requires numbers { (world_of engine.now.world).last_handler + total is_connecting (connects_from definition.now 0 0) ≤ greatest_handler }
     ensures step { Leads result
         (uncounted (agenda_of definition.now engine.old) engine.old.counted (building definition.now (world_of engine.old.world) (build_end definition.now forwards)))
         (config_of definition.now engine.new) }

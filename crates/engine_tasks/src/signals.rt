@@ -1,7 +1,9 @@
 //! The signals of the definition's objects: they are connected once all objects are made (GTK manual, GtkBuilder: the element `signal`).
 
-ghost use Rattle.std.specs.Prelude.{◌≡◌, ◌∷◌, [], Ok, suc, ◌<◌, IfOk, IfSome, MatchOption, OnOk, OnErr};
-ghost use Rattle.ui_machine.specs.Rules.Build.{building, held_data};
+ghost use Rattle.std.specs.Prelude.{◌≡◌, ◌∷◌, ◌+◌, ◌≤◌, [], Ok, false, suc, ◌<◌, IfOk, IfSome, MatchOption, OnOk, OnErr};
+ghost use Rattle.ui_machine.specs.Rules.Build.{building, held_data, is_connecting};
+ghost use Rattle.ui_machine.specs.Rules.Connections.{greatest_handler};
+ghost use Rattle.ui_machine.specs.Seq.{total};
 ghost use Rattle.ui_machine.specs.State.Tasks.{connects};
 ghost use Rattle.ui_machine.specs.Steps.{uncounted};
 ghost use Rattle.definition_format.specs.Meaning.{place_number};
@@ -71,7 +73,8 @@ fn attached(
     at: Position,
 ) -> Result<Connection, AllocError>
     requires able { Able (attached_at definition.now (world_of engine.now.world) at.place.0 at.number) }
-    ensures { IfOk result (λ c. attached_at definition.now (world_of engine.now.world) at.place.0 at.number ≡ Ok (connection_of c)) }
+    ensures attached { IfOk result (λ c. attached_at definition.now (world_of engine.now.world) at.place.0 at.number ≡ Ok (connection_of c)) }
+    ensures by_builder { IfOk result (λ c. c.by_code ≡ false) }
 {
     let Some(entry) = entry_at(definition, at.place) else {
         unreachable!()
@@ -98,7 +101,7 @@ fn attached(
     })
 }
 
-/// The next signal of the definition's objects is connected, from one of an object on.
+/// The next signal of the definition's objects is connected, from one of an object on. Numbers have to be left for all of them.
 ///
 /// # Errors
 ///
@@ -111,6 +114,7 @@ pub fn connect_from_build(
 ) -> Result<(), AllocError>
     requires able { Able (uncounted (agenda_of definition.now engine.now) engine.now.counted (building definition.now (world_of engine.now.world) (connects_from definition.now place.0 number))) }
     requires connects { Connects definition.now engine.now }
+    requires numbers { (world_of engine.now.world).last_handler + total is_connecting (connects_from definition.now place.0 number) ≤ greatest_handler }
     ensures step { Leads result
         (uncounted (agenda_of definition.now engine.old) engine.old.counted (building definition.now (world_of engine.old.world) (connects_from definition.now place.0 number)))
         (config_of definition.now engine.new) }

@@ -86,16 +86,6 @@ emission_lives w o e names held = by (same o e.object) refl (total (in_value o) 
     by zero is (suc m) args = values_live w o e.args names.1 (omega (arith, args))
     by zero is zero args = register_lives w.objects o e.value names.2 (omega (arith, held, is, args))
 
--- an object that was just made
-newest : (os : Objects) (o : Object) → living (os ++ Some o ∷ []) (suc (length os)) ≡ Some o
-newest [] o = refl
-newest (x ∷ os) o = newest os o
-
-pub newest_lives : (old new : Objects) (o : Object) (id : ℕ) → id ≡ suc (length old) → new ≡ old ++ Some o ∷ [] → IsSome (living new id)
-newest_lives old new o id is objects =
-    let there : living new id ≡ Some o = ap (λ (os : Objects). living os id) objects ∙ ap (λ i. living (old ++ Some o ∷ []) i) is ∙ newest old o in
-    rw (there) refl
-
 -- ** what is counted lives
 
 module _ (d : Definition) (taken : ℕ → ℕ) (e : Engine) (dead : (o : ℕ) → living e.world.table.objects o ≡ None → count_of e.world.table.counts o ≡ 0) (counts : Counts d taken e) where
@@ -114,10 +104,6 @@ may_less s more less fewer may = record {
       let m = may.at o (omega (arith, held, fewer o)) in
       (m.0, omega (arith, m.1, fewer o));
 }
-
--- what is held not at all
-pub may_none : (s : Store) (more : ℕ → ℕ) → ((o : ℕ) → more o ≡ 0) → MayHold s more
-may_none s more none = record { at = λ o held. absurd (omega (arith, held, none o)) }
 
 -- of two, the second once the first is held
 pub may_after : (s t : Store) (first later : ℕ → ℕ) → OnlyCounts s t → ((o : ℕ) → count_of t.counts o ≡ count_of s.counts o + first o)

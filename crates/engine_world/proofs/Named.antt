@@ -32,10 +32,6 @@ pub each_first : {A : Type 0} (P : A → Type 0) (xs ys : List A) → Each P (xs
 each_first P [] ys each = tt
 each_first P (x ∷ xs) ys each = (each.0, each_first P xs ys each.1)
 
-pub each_later : {A : Type 0} (P : A → Type 0) (xs ys : List A) → Each P (xs ++ ys) → Each P ys
-each_later P [] ys each = each
-each_later P (x ∷ xs) ys each = each_later P xs ys each.1
-
 -- what is written is among the registers
 pub each_written : (P : Option Value → Type 0) (rs : Registers) (to : ℕ) (v : Option Value) → to < length rs → Each P (write None rs to v) → P v
 each_written P [] to v inside each = absurd (omega (arith, inside))

@@ -1,6 +1,6 @@
 //! Handlers that are connected (GObject manual, Signals: `g_signal_connect_data`).
 
-ghost use Rattle.std.specs.Prelude.{◌≡◌, ◌↔◌, false, true, OnOk, OnErr, IfOk, ◌+◌, List, length, nat_lt};
+ghost use Rattle.std.specs.Prelude.{◌≡◌, ◌<◌, ◌↔◌, false, true, OnOk, OnErr, IfOk, ◌+◌, List, length, nat_lt};
 ghost use Rattle.ui_machine.specs.Rules.Build.{to_connect, with_signal, is_connecting, of_items};
 ghost use Rattle.ui_machine.specs.Rules.Connections.{connected, is_disposed_data, is_too_late, with_handler, greatest_handler};
 ghost use Rattle.instance_tables.specs.Store.{id_of};
@@ -97,7 +97,7 @@ fn add_handler(
     }
 }
 
-/// A signal of the definition is connected, unless one of its objects is disposed.
+/// A signal of the definition is connected, unless one of its objects is disposed. A number has to be left for it.
 ///
 /// # Errors
 ///
@@ -107,7 +107,9 @@ pub fn connect_signal(
     definition: &Definition,
     connection: Connection,
 ) -> Result<(), AllocError>
+    requires by_builder { connection.by_code ≡ false }
     requires connects { Connects definition.now engine.now }
+    requires number { (world_of engine.now.world).last_handler < greatest_handler }
     ensures world { OnOk result (world_of engine.new.world ≡ with_signal (world_of engine.old.world) (connection_of connection)) }
     ensures agenda { OnOk result (agenda_of definition.now engine.new ≡ agenda_of definition.now engine.old) }
     ensures quiet { OnErr result (IsQuiet (world_of engine.old.world) (world_of engine.new.world)) }
@@ -117,10 +119,11 @@ pub fn connect_signal(
     if is_too_late(&engine.world.table, &connection) {
         return Ok(());
     }
-    let Ok(()) = add_handler(engine, definition, connection) else {
-        return Err(AllocError);
-    };
-    Ok(())
+    match add_handler(engine, definition, connection) {
+        Ok(()) => return Ok(()),
+        Err(ConnectError::HandlerLimit) => unreachable!(),
+        Err(ConnectError::OutOfMemory) => return Err(AllocError),
+    }
 }
 
 /// A program's handler is connected, unless one of its objects is disposed, or as many are connected as may be.

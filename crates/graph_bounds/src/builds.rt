@@ -1,9 +1,10 @@
 //! The bound of the build, and the frames that makings need.
 
-ghost use Rattle.std.specs.Prelude.{◌≡◌, ◌+◌, ℕ, length, IfOk};
+ghost use Rattle.std.specs.Prelude.{◌≡◌, ◌+◌, ◌≤◌, ℕ, length, IfOk};
 ghost use Rattle.law_typing.specs.Graph.{makings_from};
 ghost use Rattle.law_typing.specs.Graph.Channels as law;
 ghost use Rattle.law_typing.specs.Laws.Capped.{capped};
+ghost use Rattle.node_numbers.specs.Numbers.{AreWithin};
 ghost use Rattle.graph_bounds.specs.ByChannel.{Gives, GivesCapped, build_cost, makings_cost, makings_depth, making_cost_at, making_depth_at};
 
 use crate::by_channel::{capped_sum, greatest_of, total_of, transfers_of};
@@ -83,17 +84,16 @@ fn making_depth(
     values: &[u64],
     place: Place,
 ) -> Result<u64, AllocError>
-    requires { length values.now ≡ length channels.now }
-    ensures { IfOk result (λ depth. (f : law.Channel → ℕ) → Gives channels.now values.now f → depth ≡ making_depth_at lookups.now f place.0) }
+    requires count { length values.now ≡ length channels.now }
+    requires few { AreWithin values.now 2147483648 }
+    ensures few { IfOk result (λ depth. depth ≤ 2147483649) }
+    ensures given { IfOk result (λ depth. (f : law.Channel → ℕ) → Gives channels.now values.now f → depth ≡ making_depth_at lookups.now f place.0) }
 {
     let raised = making(alloc, lookups, place)?;
-    let Some(depth) = greatest_of(channels, values, raised.as_slice()).checked_add(1) else {
-        return Err(AllocError);
-    };
-    Ok(depth)
+    Ok(greatest_of(channels, values, raised.as_slice()) + 1)
 }
 
-/// The most frames that a making needs. The values are the depths of the channels.
+/// The most frames that a making needs. The values are the depths of the channels, each 2^31 at most.
 ///
 /// # Errors
 ///
@@ -104,8 +104,10 @@ pub fn makings_depth(
     channels: &ChannelNumbers,
     values: &[u64],
 ) -> Result<u64, AllocError>
-    requires { length values.now ≡ length channels.now }
-    ensures { IfOk result (λ depth. (f : law.Channel → ℕ) → Gives channels.now values.now f → depth ≡ makings_depth lookups.now f) }
+    requires count { length values.now ≡ length channels.now }
+    requires few { AreWithin values.now 2147483648 }
+    ensures few { IfOk result (λ depth. depth ≤ 2147483649) }
+    ensures given { IfOk result (λ depth. (f : law.Channel → ℕ) → Gives channels.now values.now f → depth ≡ makings_depth lookups.now f) }
 {
     let mut most: u64 = 0;
     for number in 0..lookups.definition().place_count() {

@@ -1,10 +1,11 @@
 //! Numbers by channel: sums and greatest numbers over some channels.
 
-ghost use Rattle.std.specs.Prelude.{◌≡◌, ◌+◌, ◌<◌, ℕ, Some, length, slice_get};
+ghost use Rattle.std.specs.Prelude.{◌≡◌, ◌+◌, ◌<◌, ◌≤◌, ℕ, Some, length, slice_get};
 ghost use Rattle.law_typing.specs.Graph.Channels as law;
 ghost use Rattle.law_typing.specs.Graph.Tables.{greatest};
 ghost use Rattle.law_typing.specs.Laws.Capped.{capped};
 ghost use Rattle.ui_machine.specs.Seq.{total};
+ghost use Rattle.node_numbers.specs.Numbers.{AreWithin};
 ghost use Rattle.definition_graph.specs.ChannelView.{channel_of, channels_of};
 ghost use Rattle.graph_bounds.specs.ByChannel.{Gives, GivesCapped, transfers_cost};
 
@@ -32,7 +33,8 @@ fn channel_at(all: &[Channel], number: usize) -> Channel
 // The number of a channel; a channel that is not there has 0.
 fn value_of(channels: &ChannelNumbers, values: &[u64], channel: &Channel) -> u64
     requires { length values.now ≡ length channels.now }
-    ensures { (f : law.Channel → ℕ) → Gives channels.now values.now f → result ≡ f (channel_of channel.now) }
+    ensures few { (most : ℕ) → AreWithin values.now most → result ≤ most }
+    ensures given { (f : law.Channel → ℕ) → Gives channels.now values.now f → result ≡ f (channel_of channel.now) }
 {
     match channels.number(channel) {
         Some(number) => values[number as usize],
@@ -69,7 +71,8 @@ pub fn transfers_of(channels: &ChannelNumbers, values: &[u64], all: &[Channel]) 
 /// The greatest number of some channels, 0 of none.
 pub fn greatest_of(channels: &ChannelNumbers, values: &[u64], all: &[Channel]) -> u64
     requires { length values.now ≡ length channels.now }
-    ensures { (f : law.Channel → ℕ) → Gives channels.now values.now f → result ≡ greatest f (channels_of all.now) }
+    ensures few { (most : ℕ) → AreWithin values.now most → result ≤ most }
+    ensures given { (f : law.Channel → ℕ) → Gives channels.now values.now f → result ≡ greatest f (channels_of all.now) }
 {
     let mut most: u64 = 0;
     for number in 0..all.len() {

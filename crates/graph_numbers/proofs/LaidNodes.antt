@@ -1,10 +1,10 @@
 -- The nodes of a sketch are where they are said to be, and there are no others.
-use Rattle.std.proofs.Common.{◌≡◌, inl, inr, ◌⊎◌, refl, sym, ap, subst, ◌∙◌, ℕ, zero, suc, ◌+◌, ◌*◌, ◌<◌, ◌≤◌, List, [], ◌∷◌, ◌++◌, length, Option, None, Some, slice_get, slice_index_or, zero-add, length-append, arith}
+use Rattle.std.proofs.Common.{◌≡◌, inl, inr, ◌⊎◌, refl, sym, ap, subst, ◌∙◌, ℕ, ◌+◌, ◌*◌, List, ◌++◌, length, Some, slice_get, slice_index_or, zero-add, length-append, arith}
 use Rattle.graph_sketches.specs.Sketches.{Sketch, SketchedBlock, SketchedChannel, SketchedStart}
 use Rattle.graph_sketches.specs.Numbered.{IsNumbered, IsPart, Node, Part, own, stages, connected, group, program, blocks, place, start, block, passes, next, whole}
 use Rattle.graph_sketches.specs.Numbered.{of_whole, of_own, of_stages, of_connected, of_group, of_program, of_blocks, of_place, of_start, of_block, of_passes, of_next}
 use Rattle.graph_sketches.specs.Numbered.{group_node, place_node, start_node}
-use Rattle.graph_numbers.specs.Counts.{at, at_in, befores_from, block_count, counts_of}
+use Rattle.graph_numbers.specs.Counts.{at, at_in, befores_from, block_count}
 use Rattle.graph_numbers.specs.Laid.{all_of_blocks, all_of_channels, all_of_programs, block_nodes, block_part_node, channel_node, channel_nodes, group_nodes, laid, place_nodes, program_nodes, program_part_node, start_nodes}
 use Rattle.graph_numbers.specs.declared.channel_nodes.ChannelPart.{ChannelPart}
 use Rattle.graph_numbers.specs.declared.channel_nodes.ChannelPart.TheVariants as of_channel
@@ -13,7 +13,7 @@ use Rattle.graph_numbers.specs.declared.program_nodes.ProgramPart.TheVariants as
 use Rattle.graph_numbers.specs.declared.block_nodes.BlockPart.{BlockPart}
 use Rattle.graph_numbers.specs.declared.block_nodes.BlockPart.TheVariants as the_block
 use Rattle.graph_numbers.proofs.Regions.{InRest, IsAmong, among, left, numbered_get, numbered_length, right, splits}
-use Rattle.graph_numbers.proofs.BlockRegions.{IsOfBlock, block_get_from, block_has, block_length, kept, offset}
+use Rattle.graph_numbers.proofs.BlockRegions.{IsOfBlock, block_get_from, block_has, block_length, kept}
 
 module _ (s : Sketch) (handlers : ℕ) where
   -- ** how many there are
@@ -86,6 +86,27 @@ module _ (s : Sketch) (handlers : ℕ) where
       let h = length-append all_blocks (place_nodes s ++ start_nodes s) in
       let i = length-append (place_nodes s) (start_nodes s) in
       omega (arith, a, b, c, d, e, f, g, h, i)
+
+  all_in_blocks : length (all_of_blocks s) ≡ 3 * block_count s.programs
+  all_in_blocks =
+      let a = blocks_length the_block.Block in
+      let b = blocks_length the_block.Passes in
+      let c = blocks_length the_block.Next in
+      let d = length-append bodies (repeats ++ nexts) in
+      let e = length-append repeats nexts in
+      omega (arith, a, b, c, d, e)
+
+  -- how many there are in all
+  pub laid_length :
+      length (laid s handlers)
+      ≡ 4 * length s.channels + (length s.groups + 2 * length s.programs + length s.paired + length s.starts + 3 * block_count s.programs)
+  laid_length =
+      let a = all_channels in
+      let b = all_programs in
+      let c = all_in_blocks in
+      let d = length-append (all_of_channels s handlers) (all_of_programs s ++ all_of_blocks s) in
+      let e = length-append (all_of_programs s) (all_of_blocks s) in
+      omega (arith, a, b, c, d, e)
 
   -- ** each part has its node
 

@@ -1,4 +1,5 @@
 pub mod Lists
+pub mod Small
 pub mod Edges
 pub mod Rows
 pub mod Regions

@@ -1,16 +1,17 @@
 -- What is reckoned of the nodes of a sketch is so of its graph.
-use Rattle.std.proofs.Common.{◌≡◌, inl, inr, ◌⊎◌, refl, sym, ap, subst, ◌∙◌, ℕ, zero, suc, ◌+◌, ◌*◌, ◌<◌, ◌≤◌, true, List, [], ◌∷◌, ◌++◌, length, drop, take, map, Option, None, Some, slice_get, slice_index_or, arith}
-use Rattle.std.proofs.lemmas.Option.{none-some, same_Some}
+use Rattle.std.proofs.Common.{◌≡◌, refl, sym, ap, subst, ◌∙◌, ℕ, zero, suc, ◌+◌, ◌*◌, ◌<◌, ◌≤◌, All, true, List, [], ◌∷◌, length, map, Option, None, Some, slice_get, slice_index_or, arith}
+use Rattle.std.proofs.lemmas.Option.{IfSome_then, none-some, same_Some}
+use Rattle.std.proofs.lemmas.List.Elements.{All-weaker}
 use Rattle.dependency_order.specs.Graphs.{Edge, IsCycle, IsGraph, IsOrder, LeadTo}
-use Rattle.node_numbers.specs.Chains.{AreRanks}
-use Rattle.node_numbers.specs.Numbers.{Solves}
+use Rattle.node_numbers.specs.Numbers.{AreWithin}
 use Rattle.law_typing.specs.Graph.{Graph}
 use Rattle.law_typing.specs.Graph.Channels.{Link, same_channel}
 use Rattle.law_typing.specs.Graph.Ranks.{is_cycle}
 use Rattle.law_typing.specs.Laws.WellRead.{no_two}
 use Rattle.law_typing.specs.Verdict.{most_bound}
 use Rattle.graph_sketches.specs.Sketches.{IsSketch, Sketch, SketchedChannel}
-use Rattle.graph_sketches.specs.Numbered.{IsNumbered, IsPart, Node, Part, counts_in, costs_in, depths_in, edges_in, of_whole, whole, whole_node}
+use Rattle.graph_sketches.specs.Sizes.{IsSmall}
+use Rattle.graph_sketches.specs.Numbered.{IsNumbered, Node, edges_in, of_whole, whole, whole_node}
 use Rattle.law_numbering.specs.Cycles.{HaveNodes, links_of}
 use Rattle.law_numbering.specs.Tables.{value_of}
 use Rattle.law_numbering.proofs.CostNumbers.{costs_are_solved, node_cost_at, not_there}
@@ -23,13 +24,14 @@ use Rattle.law_numbering.proofs.PartEdges.{leads_on, part_at}
 use Rattle.graph_numbers.specs.Columns.{Columns}
 use Rattle.graph_numbers.specs.Counts.{at_in, counts_of}
 use Rattle.graph_numbers.specs.Laid.{laid}
-use Rattle.graph_numbers.specs.Links.{ComesOfCycle, links_view, parts_at}
+use Rattle.graph_numbers.specs.Links.{ComesOfCycle, NamesBelow, links_view, parts_at}
 use Rattle.graph_numbers.specs.Links as links
-use Rattle.graph_numbers.specs.Reckonings.{AreGraphNumbers, AreNodeNumbers, IsCycleOnce, most_depth}
+use Rattle.graph_numbers.specs.Reckonings.{AreGraphNumbers, AreNodeNumbers, HaveFew, IsCycleOnce, most_depth}
 use Rattle.graph_numbers.specs.declared.cycle_links.SketchedLink.{SketchedLink}
 use Rattle.graph_numbers.specs.declared.reckonings.NodeNumbers.{NodeNumbers}
-use Rattle.graph_numbers.proofs.LaidNodes.{laid_is_numbered}
+use Rattle.graph_numbers.proofs.LaidNodes.{laid_is_numbered, laid_length}
 use Rattle.graph_numbers.proofs.Lists.{mapped_length}
+use Rattle.graph_numbers.proofs.Small.{few_blocks}
 use Rattle.graph_numbers.proofs.Rows.{columns_of}
 use Rattle.graph_numbers.proofs.TurnedCycles.{edge_of, turned_cycle}
 
@@ -42,6 +44,39 @@ found : {A : Type 0} → (xs : List A) (i : ℕ) → i < length xs → (x : A) �
 found [] i low = absurd (omega (arith, low))
 found (x ∷ xs) zero low = (x, refl)
 found (x ∷ xs) (suc i) low = found xs i (omega (arith, low))
+
+-- ** how great numbers are
+
+-- there are fewer than 2^28 nodes
+few_nodes : (s : Sketch) (handlers : ℕ) → IsSmall s → length (laid s handlers) < 268_435_456
+few_nodes s handlers small =
+    let l = laid_length s handlers in
+    let a = small.channels in
+    let b = small.groups in
+    let c = small.programs in
+    let d = small.places in
+    let e = small.starts in
+    let f = few_blocks s small in
+    omega (arith, l, a, b, c, d, e, f)
+
+pub few_columns : (s : Sketch) (handlers : ℕ) (c : Columns) → c ≡ columns_of (laid s handlers) → IsSmall s → length c.graph < 268_435_456
+few_columns s handlers c is small =
+    let l = few_nodes s handlers small in
+    let m = mapped_length (λ (y : Node). y.edges) (laid s handlers) in
+    let e = ap (λ (x : Columns). length x.graph) is in
+    omega (arith, l, m, e)
+
+-- the ranks and the depths of so many nodes
+pub have_few : (c : Columns) (n : NodeNumbers) → length c.graph < 268_435_456 → AreNodeNumbers c n → AreWithin n.ranks.items (length c.graph) → HaveFew n
+have_few c n few numbers ranks = record {
+  ranks = λ node. (let r = ranks node in omega (arith, r, few));
+  depths = numbers.depths.within;
+}
+
+-- the programs of a cycle's links
+pub name_few : (programs : ℕ) (links : List SketchedLink) → programs ≤ 256 → All (NamesBelow programs) links → All (NamesBelow 256) links
+name_few programs links few all =
+    All-weaker (NamesBelow programs) (NamesBelow 256) (λ l below. IfSome_then l.by below (λ p low. omega (arith, low, few))) links all
 
 module _ (g : Graph) (s : Sketch) (handlers : ℕ) (sketch : IsSketch g s) where
   abbrev nodes : List Node

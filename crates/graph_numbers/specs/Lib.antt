@@ -1,5 +1,6 @@
 pub mod Counts
 pub mod Columns
 pub mod Laid
+pub mod Ends
 pub mod Links
 pub mod Reckonings

@@ -1,5 +1,5 @@
 -- Links of a cycle by the numbers of channels, and what nodes are for.
-use Rattle.std.specs.Prelude.{◌≡◌, ◌<◌, ◌++◌, ℕ, List, [], ◌∷◌, length, drop, take, map, Option, None, Some, slice_get}
+use Rattle.std.specs.Prelude.{◌≡◌, ◌<◌, ◌++◌, ℕ, IfSome, List, ◌∷◌, length, drop, take, map, Option, None, Some, slice_get}
 use Rattle.law_typing.specs.Graph.{Graph}
 use Rattle.law_typing.specs.Graph.Channels.{Cause, Link}
 use Rattle.law_typing.specs.Graph.Channels as causes
@@ -54,6 +54,16 @@ abbrev pub Describes : NodePart → Part → Type 0
 Describes (parts.Channel i) x = x ≡ whole i
 Describes (parts.Program p) x = x ≡ program p
 Describes parts.Other x = IsOther x
+
+-- a part that is a program has a number below this
+abbrev pub PartBelow : ℕ → NodePart → Type 0
+PartBelow count (parts.Channel i) = Unit {0}
+PartBelow count (parts.Program p) = p < count
+PartBelow count parts.Other = Unit {0}
+
+-- the program that a link names, if any, has a number below this
+abbrev pub NamesBelow : ℕ → SketchedLink → Type 0
+NamesBelow count l = IfSome l.by (λ p. p < count)
 
 -- the links of a cycle of nodes, from one of its channels on
 abbrev pub ComesOfCycle : Counts → List ℕ → List SketchedLink → Type 0

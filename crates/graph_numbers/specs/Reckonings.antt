@@ -1,7 +1,7 @@
 -- Numbers of nodes that are reckoned, or a cycle of channels.
-use Rattle.std.specs.Prelude.{◌≡◌, ◌+◌, ℕ, true, false, List, map}
+use Rattle.std.specs.Prelude.{◌≡◌, ◌+◌, ℕ, All, true, false, List, map}
 use Rattle.node_numbers.specs.Chains.{AreRanks}
-use Rattle.node_numbers.specs.Numbers.{Solves}
+use Rattle.node_numbers.specs.Numbers.{AreWithin, Solves}
 use Rattle.law_typing.specs.Graph.{Graph}
 use Rattle.law_typing.specs.Graph.Channels.{Channel, Link, same_channel}
 use Rattle.law_typing.specs.Graph.Costs.{node_cost}
@@ -16,14 +16,14 @@ use Rattle.law_numbering.specs.Tables.{cost_tables, depth_tables, rank_table, va
 use Rattle.graph_sketches.specs.Sketches.{Names, Sketch}
 use Rattle.graph_numbers.specs.Columns.{Columns}
 use Rattle.graph_numbers.specs.Counts.{at_in}
-use Rattle.graph_numbers.specs.Links.{links_view}
+use Rattle.graph_numbers.specs.Links.{NamesBelow, links_view}
 use Rattle.graph_numbers.specs.declared.reckonings.NodeNumbers.{NodeNumbers}
 use Rattle.graph_numbers.specs.declared.reckonings.Reckoned.{Reckoned}
 use Rattle.graph_numbers.specs.declared.reckonings.Reckoned.TheVariants as reckoned
 
 -- more than any depth
 abbrev pub most_depth : ℕ
-most_depth = 1_099_511_627_776
+most_depth = 2_147_483_648
 
 -- numbers of nodes that were reckoned in an order
 pub record AreNodeNumbers (c : Columns) (n : NodeNumbers) : Type 0 where
@@ -47,6 +47,16 @@ pub record AreGraphNumbers (g : Graph) (s : Sketch) (n : NodeNumbers) : Type 0 w
 pub record IsCycleOnce (g : Graph) (links : List Link) : Type 0 where
   pub cycle : is_cycle g links ≡ true
   pub once : no_two same_channel (map (λ (l : Link). l.from) links) ≡ true
+
+-- ranks and depths that 32 bits hold, with room for one more frame
+pub record HaveFew (n : NodeNumbers) : Type 0 where
+  pub ranks : AreWithin n.ranks.items 4_294_967_294
+  pub depths : AreWithin n.depths.items 2_147_483_648
+
+-- no number that is reckoned is too great for where it is kept: a rank, a depth, or that of a program in a cycle
+abbrev pub AreFewNumbers : Reckoned → Type 0
+AreFewNumbers (reckoned.Numbers n) = HaveFew n
+AreFewNumbers (reckoned.Cycle links) = All (NamesBelow 256) links.items
 
 -- what is reckoned of a graph that is sketched
 abbrev pub Reckons : Graph → Sketch → Reckoned → Type 0

@@ -1,7 +1,9 @@
 //! The nodes of blocks.
 
-ghost use Rattle.std.specs.Prelude.{◌≡◌, ◌<◌, ◌-◌, length, take, drop, map, OnOk};
+ghost use Rattle.std.specs.Prelude.{◌≡◌, ◌<◌, ◌≤◌, ◌-◌, length, take, drop, map, OnOk};
+ghost use Rattle.std.specs.List.{AllByRecursion};
 ghost use Rattle.graph_sketches.specs.Numbered.{block_node, next_node, passes_node};
+ghost use Rattle.graph_sketches.specs.Sizes.{IsSmall};
 ghost use Rattle.graph_sketches.specs.View.{block_view, sketch_view};
 ghost use Rattle.graph_numbers.specs.Columns.{with_node, with_nodes};
 ghost use Rattle.graph_numbers.specs.Counts.{at_in, counts_of};
@@ -54,6 +56,8 @@ fn add_whole(
     block: &SketchedBlock,
 ) -> Result<(), AllocError>
     requires counted { layout.now ≡ counts_of (sketch_view sketch.now) }
+    requires small { IsSmall (sketch_view sketch.now) }
+    requires few { number < 64 }
     ensures { OnOk result (nodes.new ≡ with_node nodes.old (block_node (sketch_view sketch.now) (at_in (sketch_view sketch.now)) program number (block_view block.now))) }
 {
     let last = only_last(block.starts.as_slice());
@@ -74,15 +78,15 @@ fn add_passes(
     block: &SketchedBlock,
 ) -> Result<(), AllocError>
     requires counted { layout.now ≡ counts_of (sketch_view sketch.now) }
+    requires small { IsSmall (sketch_view sketch.now) }
+    requires short { length block.now.starts.items ≤ 512 }
     ensures { OnOk result (nodes.new ≡ with_node nodes.old (passes_node (sketch_view sketch.now) (at_in (sketch_view sketch.now)) program number (block_view block.now))) }
 {
     // For the proof: which node it is does not matter.
     let _ = program;
     let _ = number;
     let starts = before_last(block.starts.as_slice());
-    let Some(more) = u64::from(block.passes).checked_mul(starts.len() as u64) else {
-        return Err(AllocError);
-    };
+    let more = u64::from(block.passes) * starts.len() as u64;
     nodes.add(sum_of(block.passes, more), greatest_of(1, 0), false)?;
     link_starts(nodes, sketch, layout, starts)?;
     Ok(())
@@ -99,6 +103,8 @@ fn add_next(
     block: &SketchedBlock,
 ) -> Result<(), AllocError>
     requires counted { layout.now ≡ counts_of (sketch_view sketch.now) }
+    requires small { IsSmall (sketch_view sketch.now) }
+    requires few { count ≤ 64 }
     requires there { number < count }
     ensures { OnOk result (nodes.new ≡ with_node nodes.old (next_node (at_in (sketch_view sketch.now)) program count number (block_view block.now))) }
 {
@@ -127,6 +133,9 @@ fn add_part(
     block: &SketchedBlock,
 ) -> Result<(), AllocError>
     requires counted { layout.now ≡ counts_of (sketch_view sketch.now) }
+    requires small { IsSmall (sketch_view sketch.now) }
+    requires short { length block.now.starts.items ≤ 512 }
+    requires few { count ≤ 64 }
     requires there { number < count }
     ensures { OnOk result (nodes.new ≡ with_node nodes.old (block_part_node (sketch_view sketch.now) part program count number (block_view block.now))) }
 {
@@ -147,6 +156,9 @@ fn add_parts(
     blocks: &[SketchedBlock],
 ) -> Result<(), AllocError>
     requires counted { layout.now ≡ counts_of (sketch_view sketch.now) }
+    requires small { IsSmall (sketch_view sketch.now) }
+    requires few { length blocks.now ≤ 64 }
+    requires short { AllByRecursion (λ b. length b.starts ≤ 512) (map block_view blocks.now) }
     ensures { OnOk result (nodes.new ≡ with_nodes nodes.old (nodes_in_program (sketch_view sketch.now) part program (map block_view blocks.now))) }
 {
     for number in 0..blocks.len() {
@@ -168,8 +180,7 @@ fn add_parts(
 ///
 /// # Errors
 ///
-/// `AllocError` where no memory is found, no node can have the number of one that an edge leads to, or the passes of
-/// a block take 2^64 instructions or more.
+/// `AllocError` where no memory is found.
 pub fn add_block_parts(
     nodes: &mut Nodes,
     sketch: &Sketch,
@@ -177,6 +188,7 @@ pub fn add_block_parts(
     part: BlockPart,
 ) -> Result<(), AllocError>
     requires counted { layout.now ≡ counts_of (sketch_view sketch.now) }
+    requires small { IsSmall (sketch_view sketch.now) }
     ensures { OnOk result (nodes.new ≡ with_nodes nodes.old (block_nodes (sketch_view sketch.now) part)) }
 {
     let programs = sketch.programs.as_slice();

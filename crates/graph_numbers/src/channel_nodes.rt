@@ -1,11 +1,13 @@
 //! The nodes of channels.
 
-ghost use Rattle.std.specs.Prelude.{◌≡◌, ◌<◌, ◌∷◌, [], cond, length, OnOk};
+ghost use Rattle.std.specs.Prelude.{◌≡◌, ◌<◌, ◌∷◌, [], cond, length, IfSome, OnOk};
+ghost use Rattle.graph_sketches.specs.Sizes.{IsSmall};
 ghost use Rattle.graph_sketches.specs.View.{channel_view, sketch_view};
 ghost use Rattle.law_typing.specs.Graph.{listed_if};
 ghost use Rattle.graph_numbers.specs.Columns.{linked, with_node, with_nodes};
 ghost use Rattle.graph_numbers.specs.Counts.{at_in, counts_of};
 ghost use Rattle.graph_numbers.specs.Laid.{channel_node, channel_nodes};
+ghost use Rattle.graph_numbers.specs.Ends.{EndsAreThere};
 ghost use Rattle.graph_sketches.specs.Numbered.{connected_node, end_of, frames_of, one_if, own, own_node, programs_of, stages_node, transfer_if, whole_node};
 
 use crate::layouts::Layout;
@@ -63,6 +65,8 @@ fn link_other(
     other: Option<u32>,
 ) -> Result<(), AllocError>
     requires counted { layout.now ≡ counts_of (sketch_view sketch.now) }
+    requires small { IsSmall (sketch_view sketch.now) }
+    requires other { IfSome other (λ n. n < layout.now.channels) }
     requires node { 0 < length nodes.old.graph }
     ensures { OnOk result (nodes.new ≡ linked nodes.old (end_of (at_in (sketch_view sketch.now)) other)) }
 {
@@ -83,6 +87,9 @@ fn link_ends(
     other: Option<u32>,
 ) -> Result<(), AllocError>
     requires counted { layout.now ≡ counts_of (sketch_view sketch.now) }
+    requires small { IsSmall (sketch_view sketch.now) }
+    requires there { number < layout.now.channels }
+    requires other { IfSome other (λ n. n < layout.now.channels) }
     requires node { 0 < length nodes.old.graph }
     ensures { OnOk result (nodes.new ≡ linked nodes.old (at_in (sketch_view sketch.now) (own number) ∷ end_of (at_in (sketch_view sketch.now)) other)) }
 {
@@ -101,6 +108,9 @@ fn link_ends_if(
     other: Option<u32>,
 ) -> Result<(), AllocError>
     requires counted { layout.now ≡ counts_of (sketch_view sketch.now) }
+    requires small { IsSmall (sketch_view sketch.now) }
+    requires there { number < layout.now.channels }
+    requires other { IfSome other (λ n. n < layout.now.channels) }
     requires node { 0 < length nodes.old.graph }
     ensures { OnOk result (nodes.new ≡ linked nodes.old (cond is_first (at_in (sketch_view sketch.now) (own number) ∷ end_of (at_in (sketch_view sketch.now)) other) [])) }
 {
@@ -119,6 +129,9 @@ fn add_whole(
     channel: &SketchedChannel,
 ) -> Result<(), AllocError>
     requires counted { layout.now ≡ counts_of (sketch_view sketch.now) }
+    requires small { IsSmall (sketch_view sketch.now) }
+    requires there { number < layout.now.channels }
+    requires other { IfSome channel.now.other (λ n. n < layout.now.channels) }
     ensures { OnOk result (nodes.new ≡ with_node nodes.old (whole_node (at_in (sketch_view sketch.now)) number (channel_view channel.now))) }
 {
     let frames = frames_of(channel.emits, channel.other);
@@ -141,6 +154,8 @@ fn add_own(
     channel: &SketchedChannel,
 ) -> Result<(), AllocError>
     requires counted { layout.now ≡ counts_of (sketch_view sketch.now) }
+    requires small { IsSmall (sketch_view sketch.now) }
+    requires there { number < layout.now.channels }
     ensures { OnOk result (nodes.new ≡ with_node nodes.old (own_node (sketch_view sketch.now) (at_in (sketch_view sketch.now)) number (channel_view channel.now))) }
 {
     let more = one_if(channel.emits) + u64::from(channel.transfers);
@@ -160,6 +175,7 @@ fn link_handler(
     program: Option<ProgramId>,
 ) -> Result<(), AllocError>
     requires counted { layout.now ≡ counts_of (sketch_view sketch.now) }
+    requires small { IsSmall (sketch_view sketch.now) }
     requires node { 0 < length nodes.old.graph }
     ensures { OnOk result (nodes.new ≡ linked nodes.old (programs_of (sketch_view sketch.now) (at_in (sketch_view sketch.now)) (listed_if program))) }
 {
@@ -178,6 +194,7 @@ fn add_stages(
     channel: &SketchedChannel,
 ) -> Result<(), AllocError>
     requires counted { layout.now ≡ counts_of (sketch_view sketch.now) }
+    requires small { IsSmall (sketch_view sketch.now) }
     ensures { OnOk result (nodes.new ≡ with_node nodes.old (stages_node (sketch_view sketch.now) (at_in (sketch_view sketch.now)) number (channel_view channel.now))) }
 {
     // For the proof: which node it is does not matter.
@@ -197,6 +214,7 @@ fn add_connected(
     channel: &SketchedChannel,
 ) -> Result<(), AllocError>
     requires counted { layout.now ≡ counts_of (sketch_view sketch.now) }
+    requires small { IsSmall (sketch_view sketch.now) }
     ensures { OnOk result (nodes.new ≡ with_node nodes.old (connected_node (sketch_view sketch.now) (at_in (sketch_view sketch.now)) handlers number (channel_view channel.now))) }
 {
     // For the proof: which node it is does not matter.
@@ -217,6 +235,9 @@ fn add_part(
     channel: &SketchedChannel,
 ) -> Result<(), AllocError>
     requires counted { layout.now ≡ counts_of (sketch_view sketch.now) }
+    requires small { IsSmall (sketch_view sketch.now) }
+    requires there { number < layout.now.channels }
+    requires other { IfSome channel.now.other (λ n. n < layout.now.channels) }
     ensures { OnOk result (nodes.new ≡ with_node nodes.old (channel_node (sketch_view sketch.now) handlers part number (channel_view channel.now))) }
 {
     match part {
@@ -231,7 +252,7 @@ fn add_part(
 ///
 /// # Errors
 ///
-/// `AllocError` where no memory is found, or no node can have the number of one that an edge leads to.
+/// `AllocError` where no memory is found.
 pub fn add_channel_parts(
     nodes: &mut Nodes,
     sketch: &Sketch,
@@ -240,6 +261,8 @@ pub fn add_channel_parts(
     part: ChannelPart,
 ) -> Result<(), AllocError>
     requires counted { layout.now ≡ counts_of (sketch_view sketch.now) }
+    requires small { IsSmall (sketch_view sketch.now) }
+    requires ends { EndsAreThere (sketch_view sketch.now) }
     ensures { OnOk result (nodes.new ≡ with_nodes nodes.old (channel_nodes (sketch_view sketch.now) handlers part)) }
 {
     let channels = sketch.channels.as_slice();

@@ -1,13 +1,13 @@
 //! Cycles of nodes, as cycles of channels.
 
-ghost use Rattle.std.specs.Prelude.{◌≡◌, ◌++◌, ◌+◌, ◌<◌, ◌≤◌, ◌∷◌, ℕ, List, drop, length, take, slice_index_or, IfOk, IfNone, IfSome};
+ghost use Rattle.std.specs.Prelude.{◌≡◌, ◌++◌, ◌+◌, ◌<◌, ◌≤◌, ◌∷◌, ℕ, List, All, drop, length, take, slice_index_or, IfOk, IfNone, IfSome};
 ghost use Rattle.law_typing.specs.Graph.{Graph};
 ghost use Rattle.law_numbering.specs.Cycles.{links_after, links_of};
 ghost use Rattle.graph_sketches.specs.Numbered.{Part};
 ghost use Rattle.graph_sketches.specs.Sketches.{Sketch};
 ghost use Rattle.graph_numbers.specs.Counts.{counts_of};
 ghost use Rattle.graph_numbers.specs.Laid.{laid};
-ghost use Rattle.graph_numbers.specs.Links.{Describes, link_view, links_view, part_at, parts_at};
+ghost use Rattle.graph_numbers.specs.Links.{Describes, NamesBelow, PartBelow, link_view, links_view, part_at, parts_at};
 
 use crate::layouts::Layout;
 use std::alloc::{AllocError, Global};
@@ -31,7 +31,8 @@ pub enum NodePart {
 
 // What a node is for.
 fn part_of(layout: &Layout, node: usize) -> NodePart
-    ensures { (s : Sketch) (handlers : ℕ) → layout.now ≡ counts_of s → Describes result (part_at (laid s handlers) node) }
+    ensures few { PartBelow layout.now.programs result }
+    ensures described { (s : Sketch) (handlers : ℕ) → layout.now ≡ counts_of s → Describes result (part_at (laid s handlers) node) }
 {
     if node < layout.channel_count() {
         return NodePart::Channel(node);
@@ -51,7 +52,9 @@ fn next_link(
     last: SketchedLink,
     part: NodePart,
 ) -> Result<SketchedLink, AllocError>
-    ensures { IfOk result (λ next. (g : Graph) (x : Part) (more : List Part) → Describes part x
+    ensures few { IfOk result (λ next. (count : ℕ) → All (NamesBelow count) links.old.items → NamesBelow count last → PartBelow count part
+        → All (NamesBelow count) links.new.items × NamesBelow count next) }
+    ensures linked { IfOk result (λ next. (g : Graph) (x : Part) (more : List Part) → Describes part x
         → links_view g links.new.items ++ links_after g (link_view g next) more ≡ links_view g links.old.items ++ links_after g (link_view g last) (x ∷ more)) }
 {
     match part {
@@ -67,7 +70,7 @@ fn next_link(
     }
 }
 
-/// The links of a path of nodes that begins with a channel.
+/// The links of a path of nodes that begins with a channel. Each names a program of the layout, or none.
 ///
 /// # Errors
 ///
@@ -78,7 +81,8 @@ pub fn links_of(
     channel: usize,
     nodes: &[usize],
 ) -> Result<Vec<SketchedLink>, AllocError>
-    ensures { IfOk result (λ links. (g : Graph) (s : Sketch) (handlers : ℕ) → layout.now ≡ counts_of s
+    ensures few { IfOk result (λ links. All (NamesBelow layout.now.programs) links.items) }
+    ensures linked { IfOk result (λ links. (g : Graph) (s : Sketch) (handlers : ℕ) → layout.now ≡ counts_of s
         → links_view g links.items ≡ links_of g channel (parts_at (laid s handlers) nodes.now)) }
 {
     let mut links = Vec::new(alloc);

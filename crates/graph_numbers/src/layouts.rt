@@ -1,7 +1,8 @@
 //! Where the nodes of a sketch are: those of one sort behind those of another.
 
-ghost use Rattle.std.specs.Prelude.{◌≡◌, ◌<◌, ◌^◌, map, IfOk};
+ghost use Rattle.std.specs.Prelude.{◌≡◌, ◌<◌, ◌≤◌, ◌^◌, map, IfOk};
 ghost use Rattle.graph_sketches.specs.Numbered.{whole, own, stages, connected, group, program, blocks, place, start, block, passes, next};
+ghost use Rattle.graph_sketches.specs.Sizes.{IsSmall};
 ghost use Rattle.graph_sketches.specs.View.{block_view, sketch_view};
 ghost use Rattle.graph_numbers.specs.Counts.{at, befores_from, block_count, block_number, counts_of};
 
@@ -41,6 +42,7 @@ impl Model for Layout {
 
 // How many blocks come before those of each program, and at the end how many there are.
 fn befores_of(alloc: Global, programs: &[Vec<SketchedBlock>]) -> Result<Befores, AllocError>
+    requires few { block_count (map (λ v. map block_view v.items) programs.now) ≤ 16384 }
     ensures { IfOk result (λ b. (b.befores.items ≡ befores_from 0 (map (λ v. map block_view v.items) programs.now))
         × (b.blocks ≡ block_count (map (λ v. map block_view v.items) programs.now))) }
 {
@@ -48,10 +50,7 @@ fn befores_of(alloc: Global, programs: &[Vec<SketchedBlock>]) -> Result<Befores,
     let mut blocks: usize = 0;
     for number in 0..programs.len() {
         befores.push(blocks)?;
-        let Some(sum) = blocks.checked_add(programs[number].len()) else {
-            return Err(AllocError);
-        };
-        blocks = sum;
+        blocks += programs[number].len();
     }
     Ok(Befores { befores, blocks })
 }
@@ -68,8 +67,9 @@ impl Layout {
     ///
     /// # Errors
     ///
-    /// `AllocError` where no memory is found, or there are more blocks than a `usize` can count.
+    /// `AllocError` where no memory is found.
     pub fn new(alloc: Global, sketch: &Sketch) -> Result<Layout, AllocError>
+        requires small { IsSmall (sketch_view sketch.now) }
         ensures { IfOk result (λ layout. layout ≡ counts_of (sketch_view sketch.now)) }
     {
         let all = befores_of(alloc, sketch.programs.as_slice())?;

@@ -1,9 +1,10 @@
 //! Edges from the node that was added last, for each entry of a list.
 
-ghost use Rattle.std.specs.Prelude.{◌≡◌, ◌<◌, ◌+◌, ◌-◌, ◌∷◌, [], suc, cond, length, map, slice_get, OnOk};
+ghost use Rattle.std.specs.Prelude.{◌≡◌, ◌<◌, ◌≤◌, ◌+◌, ◌-◌, ◌∷◌, [], true, suc, cond, length, map, slice_get, OnOk};
 ghost use Rattle.ui_machine.specs.Seq.{listed};
 ghost use Rattle.graph_sketches.specs.Numbered.{block, first_of, group, next_blocks, nodes_of, place, programs_of, start};
 ghost use Rattle.graph_sketches.specs.Pointwise.{inside};
+ghost use Rattle.graph_sketches.specs.Sizes.{IsSmall};
 ghost use Rattle.graph_sketches.specs.View.{sketch_view};
 ghost use Rattle.graph_numbers.specs.Columns.{linked};
 ghost use Rattle.graph_numbers.specs.Counts.{at_in, counts_of};
@@ -16,7 +17,8 @@ use ui_machine::ProgramId;
 
 // The first end of the pair of a channel, or the channel itself.
 fn first_of(sketch: &Sketch, channel: u32) -> usize
-    ensures { result ≡ first_of (slice_get (sketch_view sketch.now).channels channel) channel }
+    ensures few { result ≤ 4294967295 }
+    ensures first { result ≡ first_of (slice_get (sketch_view sketch.now).channels channel) channel }
 {
     match sketch.channels.get(channel as usize) {
         Some(found) => found.first as usize,
@@ -28,9 +30,10 @@ fn first_of(sketch: &Sketch, channel: u32) -> usize
 ///
 /// # Errors
 ///
-/// `AllocError` where no memory is found, or no node can have that number.
+/// `AllocError` where no memory is found.
 pub fn link_if(nodes: &mut Nodes, is_there: bool, to: u128) -> Result<(), AllocError>
-    requires { 0 < length nodes.old.graph }
+    requires node { 0 < length nodes.old.graph }
+    requires fits { is_there ≡ true → to ≤ 4294967295 }
     ensures { OnOk result (nodes.new ≡ linked nodes.old (cond is_there (to ∷ []) [])) }
 {
     if is_there {
@@ -43,7 +46,7 @@ pub fn link_if(nodes: &mut Nodes, is_there: bool, to: u128) -> Result<(), AllocE
 ///
 /// # Errors
 ///
-/// `AllocError` where no memory is found, or no node can have the number of one of those.
+/// `AllocError` where no memory is found.
 pub fn link_programs(
     nodes: &mut Nodes,
     sketch: &Sketch,
@@ -51,6 +54,7 @@ pub fn link_programs(
     programs: &[ProgramId],
 ) -> Result<(), AllocError>
     requires counted { layout.now ≡ counts_of (sketch_view sketch.now) }
+    requires small { IsSmall (sketch_view sketch.now) }
     requires node { 0 < length nodes.old.graph }
     ensures { OnOk result (nodes.new ≡ linked nodes.old (programs_of (sketch_view sketch.now) (at_in (sketch_view sketch.now)) programs.now)) }
 {
@@ -68,7 +72,7 @@ pub fn link_programs(
 ///
 /// # Errors
 ///
-/// `AllocError` where no memory is found, or no node can have the number of one of those.
+/// `AllocError` where no memory is found.
 pub fn link_channels(
     nodes: &mut Nodes,
     sketch: &Sketch,
@@ -90,7 +94,7 @@ pub fn link_channels(
 ///
 /// # Errors
 ///
-/// `AllocError` where no memory is found, or no node can have the number of one of those.
+/// `AllocError` where no memory is found.
 pub fn link_groups(
     nodes: &mut Nodes,
     sketch: &Sketch,
@@ -98,6 +102,7 @@ pub fn link_groups(
     groups: &[u32],
 ) -> Result<(), AllocError>
     requires counted { layout.now ≡ counts_of (sketch_view sketch.now) }
+    requires small { IsSmall (sketch_view sketch.now) }
     requires node { 0 < length nodes.old.graph }
     ensures { OnOk result (nodes.new ≡ linked nodes.old (map (λ g. at_in (sketch_view sketch.now) (group g)) (inside (length (sketch_view sketch.now).groups) groups.now))) }
 {
@@ -115,7 +120,7 @@ pub fn link_groups(
 ///
 /// # Errors
 ///
-/// `AllocError` where no memory is found, or no node can have the number of one of those.
+/// `AllocError` where no memory is found.
 pub fn link_places(
     nodes: &mut Nodes,
     sketch: &Sketch,
@@ -123,6 +128,7 @@ pub fn link_places(
     places: &[u32],
 ) -> Result<(), AllocError>
     requires counted { layout.now ≡ counts_of (sketch_view sketch.now) }
+    requires small { IsSmall (sketch_view sketch.now) }
     requires node { 0 < length nodes.old.graph }
     ensures { OnOk result (nodes.new ≡ linked nodes.old (map (λ p. at_in (sketch_view sketch.now) (place p)) (inside (length (sketch_view sketch.now).paired) places.now))) }
 {
@@ -140,7 +146,7 @@ pub fn link_places(
 ///
 /// # Errors
 ///
-/// `AllocError` where no memory is found, or no node can have the number of one of those.
+/// `AllocError` where no memory is found.
 pub fn link_starts(
     nodes: &mut Nodes,
     sketch: &Sketch,
@@ -148,6 +154,7 @@ pub fn link_starts(
     starts: &[u32],
 ) -> Result<(), AllocError>
     requires counted { layout.now ≡ counts_of (sketch_view sketch.now) }
+    requires small { IsSmall (sketch_view sketch.now) }
     requires node { 0 < length nodes.old.graph }
     ensures { OnOk result (nodes.new ≡ linked nodes.old (map (λ s. at_in (sketch_view sketch.now) (start s)) (inside (length (sketch_view sketch.now).starts) starts.now))) }
 {
@@ -165,7 +172,7 @@ pub fn link_starts(
 ///
 /// # Errors
 ///
-/// `AllocError` where no memory is found, or no node can have the number of one of those.
+/// `AllocError` where no memory is found.
 pub fn link_blocks(
     nodes: &mut Nodes,
     sketch: &Sketch,
@@ -174,6 +181,8 @@ pub fn link_blocks(
     count: usize,
 ) -> Result<(), AllocError>
     requires counted { layout.now ≡ counts_of (sketch_view sketch.now) }
+    requires small { IsSmall (sketch_view sketch.now) }
+    requires few { count ≤ 64 }
     requires node { 0 < length nodes.old.graph }
     ensures { OnOk result (nodes.new ≡ linked nodes.old (listed (λ b. at_in (sketch_view sketch.now) (block program b)) count)) }
 {
@@ -198,7 +207,7 @@ fn later(after: usize, to: usize) -> usize
 ///
 /// # Errors
 ///
-/// `AllocError` where no memory is found, or no node can have the number of one of those.
+/// `AllocError` where no memory is found.
 pub fn link_next(
     nodes: &mut Nodes,
     sketch: &Sketch,
@@ -209,6 +218,8 @@ pub fn link_next(
     next: &[usize],
 ) -> Result<(), AllocError>
     requires counted { layout.now ≡ counts_of (sketch_view sketch.now) }
+    requires small { IsSmall (sketch_view sketch.now) }
+    requires few { count ≤ 64 }
     requires node { 0 < length nodes.old.graph }
     requires there { after < count }
     ensures { OnOk result (nodes.new ≡ linked nodes.old (next_blocks (at_in (sketch_view sketch.now)) program count after next.now)) }

@@ -1,6 +1,6 @@
 //! Nodes as they are kept.
 
-ghost use Rattle.std.specs.Prelude.{◌≡◌, ◌<◌, ◌∷◌, [], true, false, length, OnOk};
+ghost use Rattle.std.specs.Prelude.{◌≡◌, ◌<◌, ◌≤◌, ◌∷◌, [], true, false, length, OnOk};
 ghost use Rattle.graph_numbers.specs.Columns.{linked, no_columns, with_row};
 
 use dependency_order::Dependencies;
@@ -79,15 +79,13 @@ impl Nodes {
     ///
     /// # Errors
     ///
-    /// `AllocError` where no memory is found, or no node can have that number.
+    /// `AllocError` where no memory is found.
     pub fn link(&mut self, to: u128) -> Result<(), AllocError>
-        requires { 0 < length self.old.graph }
+        requires node { 0 < length self.old.graph }
+        requires fits { to ≤ 4294967295 }
         ensures { OnOk result (self.new ≡ linked self.old (to ∷ [])) }
     {
-        let Ok(to) = u32::try_from(to) else {
-            return Err(AllocError);
-        };
-        self.dependencies.add_edge(to)?;
+        self.dependencies.add_edge(to as u32)?;
         Ok(())
     }
 }

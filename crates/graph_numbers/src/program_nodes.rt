@@ -1,7 +1,8 @@
 //! The nodes of groups, programs, places and starts.
 
-ghost use Rattle.std.specs.Prelude.{◌≡◌, ◌<◌, length, map, OnOk};
+ghost use Rattle.std.specs.Prelude.{◌≡◌, ◌<◌, ◌≤◌, length, map, OnOk};
 ghost use Rattle.graph_sketches.specs.Numbered.{blocks_node, group_node, place_node, program_node, start_cost, start_depth, start_edges, start_node};
+ghost use Rattle.graph_sketches.specs.Sizes.{IsSmall};
 ghost use Rattle.graph_sketches.specs.View.{block_view, sketch_view, start_view};
 ghost use Rattle.graph_numbers.specs.Columns.{linked, with_node, with_nodes};
 ghost use Rattle.graph_numbers.specs.Counts.{at_in, counts_of};
@@ -33,6 +34,7 @@ fn add_group(
     programs: &[ProgramId],
 ) -> Result<(), AllocError>
     requires counted { layout.now ≡ counts_of (sketch_view sketch.now) }
+    requires small { IsSmall (sketch_view sketch.now) }
     ensures { OnOk result (nodes.new ≡ with_node nodes.old (group_node (sketch_view sketch.now) (at_in (sketch_view sketch.now)) number programs.now)) }
 {
     // For the proof: which node it is does not matter.
@@ -51,6 +53,8 @@ fn add_program(
     blocks: &[SketchedBlock],
 ) -> Result<(), AllocError>
     requires counted { layout.now ≡ counts_of (sketch_view sketch.now) }
+    requires small { IsSmall (sketch_view sketch.now) }
+    requires there { number < layout.now.programs }
     ensures { OnOk result (nodes.new ≡ with_node nodes.old (program_node (at_in (sketch_view sketch.now)) number (map block_view blocks.now))) }
 {
     // For the proof: the layout is that of the sketch.
@@ -70,6 +74,8 @@ fn add_blocks(
     blocks: &[SketchedBlock],
 ) -> Result<(), AllocError>
     requires counted { layout.now ≡ counts_of (sketch_view sketch.now) }
+    requires small { IsSmall (sketch_view sketch.now) }
+    requires few { length blocks.now ≤ 64 }
     ensures { OnOk result (nodes.new ≡ with_node nodes.old (blocks_node (at_in (sketch_view sketch.now)) number (map block_view blocks.now))) }
 {
     nodes.add(greatest_of(0, 0), greatest_of(1, 0), false)?;
@@ -87,6 +93,9 @@ fn add_program_part(
     blocks: &[SketchedBlock],
 ) -> Result<(), AllocError>
     requires counted { layout.now ≡ counts_of (sketch_view sketch.now) }
+    requires small { IsSmall (sketch_view sketch.now) }
+    requires there { number < layout.now.programs }
+    requires few { length blocks.now ≤ 64 }
     ensures { OnOk result (nodes.new ≡ with_node nodes.old (program_part_node (sketch_view sketch.now) part number (map block_view blocks.now))) }
 {
     match part {
@@ -145,6 +154,7 @@ fn link_start(
     start: &SketchedStart,
 ) -> Result<(), AllocError>
     requires counted { layout.now ≡ counts_of (sketch_view sketch.now) }
+    requires small { IsSmall (sketch_view sketch.now) }
     requires node { 0 < length nodes.old.graph }
     ensures { OnOk result (nodes.new ≡ linked nodes.old (start_edges (sketch_view sketch.now) (at_in (sketch_view sketch.now)) (start_view start.now))) }
 {
@@ -170,6 +180,7 @@ fn add_start(
     start: &SketchedStart,
 ) -> Result<(), AllocError>
     requires counted { layout.now ≡ counts_of (sketch_view sketch.now) }
+    requires small { IsSmall (sketch_view sketch.now) }
     ensures { OnOk result (nodes.new ≡ with_node nodes.old (start_node (sketch_view sketch.now) (at_in (sketch_view sketch.now)) number (start_view start.now))) }
 {
     // For the proof: which node it is does not matter.
@@ -183,9 +194,10 @@ fn add_start(
 ///
 /// # Errors
 ///
-/// `AllocError` where no memory is found, or no node can have the number of one that an edge leads to.
+/// `AllocError` where no memory is found.
 pub fn add_groups(nodes: &mut Nodes, sketch: &Sketch, layout: &Layout) -> Result<(), AllocError>
     requires counted { layout.now ≡ counts_of (sketch_view sketch.now) }
+    requires small { IsSmall (sketch_view sketch.now) }
     ensures { OnOk result (nodes.new ≡ with_nodes nodes.old (group_nodes (sketch_view sketch.now))) }
 {
     let groups = sketch.groups.as_slice();
@@ -199,7 +211,7 @@ pub fn add_groups(nodes: &mut Nodes, sketch: &Sketch, layout: &Layout) -> Result
 ///
 /// # Errors
 ///
-/// `AllocError` where no memory is found, or no node can have the number of one that an edge leads to.
+/// `AllocError` where no memory is found.
 pub fn add_programs(
     nodes: &mut Nodes,
     sketch: &Sketch,
@@ -207,6 +219,7 @@ pub fn add_programs(
     part: ProgramPart,
 ) -> Result<(), AllocError>
     requires counted { layout.now ≡ counts_of (sketch_view sketch.now) }
+    requires small { IsSmall (sketch_view sketch.now) }
     ensures { OnOk result (nodes.new ≡ with_nodes nodes.old (program_nodes (sketch_view sketch.now) part)) }
 {
     let programs = sketch.programs.as_slice();
@@ -227,7 +240,7 @@ pub fn add_programs(
 ///
 /// # Errors
 ///
-/// `AllocError` where no memory is found, or no node can have the number of one that an edge leads to.
+/// `AllocError` where no memory is found.
 pub fn add_places(nodes: &mut Nodes, sketch: &Sketch, layout: &Layout) -> Result<(), AllocError>
     requires counted { layout.now ≡ counts_of (sketch_view sketch.now) }
     ensures { OnOk result (nodes.new ≡ with_nodes nodes.old (place_nodes (sketch_view sketch.now))) }
@@ -243,9 +256,10 @@ pub fn add_places(nodes: &mut Nodes, sketch: &Sketch, layout: &Layout) -> Result
 ///
 /// # Errors
 ///
-/// `AllocError` where no memory is found, or no node can have the number of one that an edge leads to.
+/// `AllocError` where no memory is found.
 pub fn add_starts(nodes: &mut Nodes, sketch: &Sketch, layout: &Layout) -> Result<(), AllocError>
     requires counted { layout.now ≡ counts_of (sketch_view sketch.now) }
+    requires small { IsSmall (sketch_view sketch.now) }
     ensures { OnOk result (nodes.new ≡ with_nodes nodes.old (start_nodes (sketch_view sketch.now))) }
 {
     let starts = sketch.starts.as_slice();

@@ -1,14 +1,17 @@
 //! Ranks, costs and depths, reckoned node by node.
 
-ghost use Rattle.std.specs.Prelude.{◌≡◌, ◌<◌, ◌*◌, ℕ, length, slice_index_or, IfOk, OnOk};
+ghost use Rattle.std.specs.Prelude.{◌≡◌, ◌<◌, ℕ, All, length, slice_index_or, IfOk, OnOk};
 ghost use Rattle.dependency_order.specs.Graphs.{IsOrder};
 ghost use Rattle.law_typing.specs.Graph.{Graph};
 ghost use Rattle.graph_sketches.specs.Sketches.{IsSketch};
-ghost use Rattle.graph_numbers.specs.Reckonings.{AreNodeNumbers, Reckons, most_depth};
-ghost use Rattle.graph_numbers.specs.Links.{ComesOfCycle};
+ghost use Rattle.graph_numbers.specs.Reckonings.{AreFewNumbers, AreNodeNumbers, Reckons};
+ghost use Rattle.graph_numbers.specs.Links.{ComesOfCycle, NamesBelow};
+ghost use Rattle.graph_sketches.specs.Sizes.{IsSmall};
 ghost use Rattle.graph_sketches.specs.View.{sketch_view};
 ghost use Rattle.graph_numbers.specs.Columns.{no_columns, with_nodes};
 ghost use Rattle.graph_numbers.specs.Counts.{counts_of};
+ghost use Rattle.graph_numbers.specs.Ends.{EndsAreThere};
+ghost use Rattle.node_numbers.specs.Numbers.{AreWithin};
 ghost use Rattle.graph_numbers.specs.Laid.{all_of_blocks, all_of_channels, all_of_programs, laid};
 
 use crate::block_nodes::{BlockPart, add_block_parts};
@@ -29,6 +32,8 @@ fn add_channels(
     handlers: u32,
 ) -> Result<(), AllocError>
     requires counted { layout.now ≡ counts_of (sketch_view sketch.now) }
+    requires small { IsSmall (sketch_view sketch.now) }
+    requires ends { EndsAreThere (sketch_view sketch.now) }
     ensures { OnOk result (nodes.new ≡ with_nodes nodes.old (all_of_channels (sketch_view sketch.now) handlers)) }
 {
     add_channel_parts(nodes, sketch, layout, handlers, ChannelPart::Whole)?;
@@ -41,6 +46,7 @@ fn add_channels(
 // Adds the nodes of groups, programs, places and starts.
 fn add_others(nodes: &mut Nodes, sketch: &Sketch, layout: &Layout) -> Result<(), AllocError>
     requires counted { layout.now ≡ counts_of (sketch_view sketch.now) }
+    requires small { IsSmall (sketch_view sketch.now) }
     ensures { OnOk result (nodes.new ≡ with_nodes nodes.old (all_of_programs (sketch_view sketch.now))) }
 {
     add_groups(nodes, sketch, layout)?;
@@ -54,6 +60,7 @@ fn add_others(nodes: &mut Nodes, sketch: &Sketch, layout: &Layout) -> Result<(),
 // Adds the nodes of blocks.
 fn add_blocks(nodes: &mut Nodes, sketch: &Sketch, layout: &Layout) -> Result<(), AllocError>
     requires counted { layout.now ≡ counts_of (sketch_view sketch.now) }
+    requires small { IsSmall (sketch_view sketch.now) }
     ensures { OnOk result (nodes.new ≡ with_nodes nodes.old (all_of_blocks (sketch_view sketch.now))) }
 {
     add_block_parts(nodes, sketch, layout, BlockPart::Block)?;
@@ -70,6 +77,8 @@ fn nodes_of(
     handlers: u32,
 ) -> Result<Nodes, AllocError>
     requires counted { layout.now ≡ counts_of (sketch_view sketch.now) }
+    requires small { IsSmall (sketch_view sketch.now) }
+    requires ends { EndsAreThere (sketch_view sketch.now) }
     ensures { IfOk result (λ nodes. nodes ≡ with_nodes no_columns (laid (sketch_view sketch.now) handlers)) }
 {
     let mut nodes = Nodes::new(alloc);
@@ -83,10 +92,7 @@ fn nodes_of(
 const MOST_COST: u64 = 1_000_000_000_001;
 
 // More than any depth.
-const MOST_DEPTH: u64 = 1_099_511_627_776;
-
-// More nodes than there can be.
-const MOST_NODES: usize = 1 << 36;
+const MOST_DEPTH: u64 = 2_147_483_648;
 
 /// The numbers of the nodes of a graph without a cycle.
 #[derive(Debug, Drop)]
@@ -99,13 +105,14 @@ pub struct NodeNumbers {
     pub ranks: Vec<u64>,
 }
 
-// The costs, depths and ranks of nodes, reckoned in this order.
+// The costs, depths and ranks of nodes, reckoned in this order. No rank is above the number of nodes.
 fn numbers_of(alloc: Global, nodes: &Nodes, order: &[usize]) -> Result<NodeNumbers, AllocError>
     requires costs { length nodes.now.costs ≡ length nodes.now.graph }
     requires depths { length nodes.now.depths ≡ length nodes.now.graph }
     requires counts { length nodes.now.counts ≡ length nodes.now.graph }
     requires order { IsOrder nodes.now.graph order.now }
-    ensures { IfOk result (λ numbers. AreNodeNumbers nodes.now numbers) }
+    ensures reckoned { IfOk result (λ numbers. AreNodeNumbers nodes.now numbers) }
+    ensures few { IfOk result (λ numbers. AreWithin numbers.ranks.items (length nodes.now.graph)) }
 {
     let costs = node_numbers::numbers(
         alloc,
@@ -137,20 +144,6 @@ pub enum Reckoned {
     Cycle(Vec<SketchedLink>),
 }
 
-// The numbers of a graph without a cycle; an error where it has `MOST_NODES` nodes or more.
-fn reckon_order(alloc: Global, nodes: &Nodes, order: &[usize]) -> Result<NodeNumbers, AllocError>
-    requires costs { length nodes.now.costs ≡ length nodes.now.graph }
-    requires depths { length nodes.now.depths ≡ length nodes.now.graph }
-    requires counts { length nodes.now.counts ≡ length nodes.now.graph }
-    requires order { IsOrder nodes.now.graph order.now }
-    ensures { IfOk result (λ numbers. AreNodeNumbers nodes.now numbers × (2 * length nodes.now.graph < most_depth)) }
-{
-    if nodes.dependencies.node_count() >= MOST_NODES {
-        return Err(AllocError);
-    }
-    numbers_of(alloc, nodes, order)
-}
-
 // The links of a cycle of nodes, from the first node of a channel on.
 fn reckon_cycle(
     alloc: Global,
@@ -158,7 +151,8 @@ fn reckon_cycle(
     cycle: &[usize],
 ) -> Result<Vec<SketchedLink>, AllocError>
     requires channel { (i : ℕ) × (i < length cycle.now) × (slice_index_or cycle.now i 0 < layout.now.channels) }
-    ensures { IfOk result (λ links. ComesOfCycle layout.now cycle.now links.items) }
+    ensures comes { IfOk result (λ links. ComesOfCycle layout.now cycle.now links.items) }
+    ensures few { IfOk result (λ links. All (NamesBelow layout.now.programs) links.items) }
 {
     let Some(first) = first_channel(layout, cycle) else {
         unreachable!();
@@ -168,11 +162,12 @@ fn reckon_cycle(
     Ok(links)
 }
 
-/// The numbers of the nodes of a sketch, where bytecode may connect `handlers` handlers; or a cycle of its channels.
+/// The numbers of the nodes of a sketch, where bytecode may connect `handlers` handlers; or a cycle of its channels. The sketch is small, so that
+/// there are fewer than 2^28 nodes.
 ///
 /// # Errors
 ///
-/// `AllocError` where no memory is found, or there are 2^32 nodes or more.
+/// `AllocError` where no memory is found.
 pub fn reckon(
     alloc: Global,
     sketch: &Sketch,
@@ -180,14 +175,16 @@ pub fn reckon(
     handlers: u32,
 ) -> Result<Reckoned, AllocError>
     requires counted { layout.now ≡ counts_of (sketch_view sketch.now) }
+    requires small { IsSmall (sketch_view sketch.now) }
     requires sketched { (g : Graph) × IsSketch g (sketch_view sketch.now) }
-    ensures { IfOk result (λ reckoned. (g : Graph) → IsSketch g (sketch_view sketch.now) → g.most_handlers ≡ handlers
+    ensures few { IfOk result AreFewNumbers }
+    ensures reckoned { IfOk result (λ reckoned. (g : Graph) → IsSketch g (sketch_view sketch.now) → g.most_handlers ≡ handlers
         → Reckons g (sketch_view sketch.now) reckoned) }
 {
     let nodes = nodes_of(alloc, sketch, layout, handlers)?;
     match sort(alloc, &nodes.dependencies)? {
         Sorted::Order(order) => {
-            let numbers = reckon_order(alloc, &nodes, order.as_slice())?;
+            let numbers = numbers_of(alloc, &nodes, order.as_slice())?;
             Ok(Reckoned::Numbers(numbers))
         }
         Sorted::Cycle(cycle) => {

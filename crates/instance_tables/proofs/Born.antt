@@ -18,13 +18,17 @@ read_behind (o ∷ os) = read_behind os
 pub made_unheld : (os : Objects) (counts : List ℕ) → ((o : ℕ) → living os o ≡ None → count_of counts o ≡ 0) → count_of (counts ++ 0 ∷ []) (suc (length os)) ≡ 0
 made_unheld os counts dead = read_front counts (length os) ∙ dead (suc (length os)) (read_behind os)
 
+-- the newest object is there
+newest : (os : Objects) (o : Object) → living (os ++ Some o ∷ []) (suc (length os)) ≡ Some o
+newest [] o = refl
+newest (x ∷ os) o = newest os o
+
+pub newest_lives : (old new : Objects) (o : Object) (id : ℕ) → id ≡ suc (length old) → new ≡ old ++ Some o ∷ [] → IsSome (living new id)
+newest_lives old new o id is objects = rw (objects, is, newest old o) refl
+
 -- a new object is there
 pub born_there : (s n : Store) (id : ℕ) (o : Object) → (id ≡ suc (length s.objects)) × (n ≡ with_object o s) → living n.objects id ≡ Some o
-born_there s n id o created = rw (created.1, created.0) (by s.objects)
-  where
-    by : (os : Objects) → read None (os ++ Some o ∷ []) (length os) ≡ Some o
-    by [] = refl
-    by (x ∷ os) = by os
+born_there s n id o created = rw (created.1, created.0) (newest s.objects o)
 
 -- so it lives
 pub born_lives : (s n : Store) (id : ℕ) (o : Object) → (id ≡ suc (length s.objects)) × (n ≡ with_object o s) → IsSome (living n.objects id)

@@ -233,20 +233,4 @@ impl Table {
         self.hold(id);
         Ok(id)
     }
-
-    /// An object begins floating, and is held so once more. An error leaves all as it was.
-    ///
-    /// # Errors
-    ///
-    /// `AllocError` if memory is refused. Nothing has changed then.
-    pub fn float(&mut self, id: ObjectId) -> Result<(), AllocError>
-        requires live { IsSome (living self.old.objects id.0) }
-        requires room { count_of self.old.counts id.0 < 2 ^ 128 - 1 }
-        ensures ok { OnOk result (self.new ≡ with_count (record self.old { floating = self.old.floating ++ id.0 ∷ [] }) id.0 (count_of self.old.counts id.0 + 1)) }
-        ensures err { OnErr result (self.new ≡ self.old) }
-    {
-        self.floating.push(id)?;
-        self.hold(id);
-        Ok(())
-    }
 }

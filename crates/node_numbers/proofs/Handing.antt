@@ -1,12 +1,15 @@
 -- What a pass from the end of an order keeps: each node hands its number on to those that it depends on.
 use Rattle.std.proofs.Common.{◌≡◌, inl, inr, ◌⊎◌, refl, sym, ap, ◌∙◌, subst, ℕ, zero, suc, ◌+◌, ◌<◌, ◌≤◌, max, Bool, true, false, List, [], ◌∷◌, length, drop, replicate, Option, None, Some, slice_get, slice_set, slice_index_or, arith}
-use Rattle.std.specs.Prelude.{eqb, ◌≢◌}
+use Rattle.std.specs.Prelude.{eqb, ◌≢◌, ◌||◌}
+use Rattle.std.specs.List.{AllByRecursion, IsDistinct, list_any}
+use Rattle.std.proofs.lemmas.Bool.{false≢true}
 use Rattle.std.proofs.lemmas.Bool.Decides.{eqb_tells}
+use Rattle.std.proofs.lemmas.Map.Steps.{length-le_from_distinct_below}
 use Rattle.std.proofs.lemmas.List.{get_or-set_same, get_or-set_other}
 use Rattle.std.proofs.lemmas.Option.{none-some, same_Some, slice_get_within}
-use Rattle.dependency_order.specs.Graphs.{Edge, Graph, LeadTo, IsOrder}
+use Rattle.dependency_order.specs.Graphs.{Edge, Graph, LeadTo, IsOnce, IsOrder}
 use Rattle.node_numbers.specs.Chains.{AreRanks, handed_on, one_if, step}
-use Rattle.node_numbers.specs.Numbers.{LeadInside, of_node}
+use Rattle.node_numbers.specs.Numbers.{AreWithin, LeadInside, of_node}
 use Rattle.node_numbers.proofs.Sums.{from_item, none_left}
 
 -- ** one node's number, handed on
@@ -254,6 +257,45 @@ hands counts g order ranks behind place node nodes sorted is at here there = rec
               r.4,
               (e ∙ (r.5 ∙ ap (λ x. x + step counts r.1) (sym (stays r.0 r.1 (omega (arith, late, at)) r.3)))),
             )
+
+-- ** how many there are
+
+apart : (x : ℕ) (xs : List ℕ) → ((k : ℕ) → slice_get xs k ≡ Some x → ⊥) → AllByRecursion (λ y. eqb x y ≡ false) xs
+apart x [] none = tt
+apart x (y ∷ ys) none = (by (eqb_tells x y), apart x ys (λ k e. none (suc k) e))
+  where
+    by : ((eqb x y ≡ true) × (x ≡ y)) ⊎ ((eqb x y ≡ false) × (x ≢ y)) → eqb x y ≡ false
+    by (inl e) = absurd (none 0 (ap Some (sym e.1)))
+    by (inr e) = e.0
+
+distinct : (xs : List ℕ) → IsOnce xs → IsDistinct eqb xs
+unfolding IsDistinct
+distinct [] once = tt
+distinct (x ∷ xs) once =
+    (apart x xs (λ k e. absurd (omega (arith, once 0 (suc k) x refl e))), distinct xs (λ j k node a b. omega (arith, once (suc j) (suc k) node a b)))
+
+listed_at : (q : ℕ) (xs : List ℕ) → list_any (eqb q) xs ≡ true → (k : ℕ) × (slice_get xs k ≡ Some q)
+listed_at q [] is = absurd (false≢true is)
+listed_at q (x ∷ xs) is = by (eqb_tells q x) (listed_at q xs)
+  where
+    by : ((eqb q x ≡ true) × (q ≡ x)) ⊎ ((eqb q x ≡ false) × (q ≢ x)) → (list_any (eqb q) xs ≡ true → (k : ℕ) × (slice_get xs k ≡ Some q)) →
+        (k : ℕ) × (slice_get (x ∷ xs) k ≡ Some q)
+    by (inl e) later = (0, ap Some (sym e.1))
+    by (inr e) later = let found = later (ap (λ b. b || list_any (eqb q) xs) (sym e.0) ∙ is) in (suc found.0, found.1)
+
+-- an order has no more entries than there are nodes
+few_ordered : (g : Graph) (order : List ℕ) → IsOrder g order → length order ≤ length g
+few_ordered g order sorted =
+    length-le_from_distinct_below order (length g) (distinct order sorted.once)
+    (λ q is. let at = listed_at q order is in sorted.inside at.0 q at.1)
+
+-- no number is above that of the nodes
+pub few_handed : (counts : List Bool) (g : Graph) (order ranks : List ℕ) (behind : ℕ) → IsOrder g order → Handed counts g order ranks behind →
+    behind ≤ length order → AreWithin ranks (length g)
+few_handed counts g order ranks behind sorted is within node =
+    let few = is.few node in
+    let all = few_ordered g order sorted in
+    omega (arith, few, all, within)
 
 -- at the end all have
 pub all_handed : (counts : List Bool) (g : Graph) (order ranks : List ℕ) (behind : ℕ) → IsOrder g order → Handed counts g order ranks behind →

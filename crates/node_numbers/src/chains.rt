@@ -3,7 +3,7 @@
 ghost use Rattle.std.specs.Prelude.{◌≡◌, ◌<◌, ◌≤◌, ℕ, length, replicate, slice_index_or, false, IfOk};
 ghost use Rattle.dependency_order.specs.Graphs.{IsOrder};
 ghost use Rattle.node_numbers.specs.Chains.{AreRanks, handed_on, one_if};
-ghost use Rattle.node_numbers.specs.Numbers.{LeadInside};
+ghost use Rattle.node_numbers.specs.Numbers.{AreWithin, LeadInside};
 
 use dependency_order::Dependencies;
 use std::alloc::{AllocError, Global};
@@ -35,7 +35,7 @@ fn one_if(counts: &[bool], node: usize) -> u64
 }
 
 /// Of each node, how many nodes that count come before it on the longest chain that ends in it, where each node of a chain depends on the next
-/// one.
+/// one. No number is above that of the nodes.
 ///
 /// # Errors
 ///
@@ -48,7 +48,8 @@ pub fn ranks(
 ) -> Result<Vec<u64>, AllocError>
     requires count { length counts.now ≡ length dependencies.now }
     requires order { IsOrder dependencies.now order.now }
-    ensures { IfOk result (λ ranks. AreRanks counts.now dependencies.now ranks.items) }
+    ensures ranked { IfOk result (λ ranks. AreRanks counts.now dependencies.now ranks.items) }
+    ensures few { IfOk result (λ ranks. AreWithin ranks.items (length dependencies.now)) }
 {
     let mut ranks = zeros(alloc, counts.len())?;
     let count = order.len();

@@ -1,11 +1,11 @@
 -- Bindings that lead from channels one way, one after the other.
-use Rattle.std.proofs.Common.{◌≡◌, ◌∙◌, refl, sym, ap, subst, ℕ, zero, suc, Bool, true, false, cond, List, [], ◌∷◌, ◌++◌, map, Vec, Option, Some, slice_get, slice_set, append-nil}
+use Rattle.std.proofs.Common.{◌≡◌, ◌∙◌, refl, sym, ap, subst, ℕ, zero, suc, ◌≤◌, Bool, true, false, cond, List, [], ◌∷◌, ◌++◌, length, map, Vec, Option, Some, slice_get, slice_set, append-nil, arith}
 use Rattle.std.specs.Prelude.{not, ◌&&◌, nat_eq}
 use Rattle.std.specs.Global.{Global}
 use Rattle.std.specs.List.{filter, filter_map, cons_option}
 use Rattle.std.proofs.lemmas.Bool.{eqb-true, eq-eqb}
 use Rattle.std.proofs.lemmas.List.Elements.{filter-append}
-use Rattle.std.proofs.lemmas.List.{map-append}
+use Rattle.std.proofs.lemmas.List.{length-map, map-append}
 use Rattle.std.proofs.lemmas.Option.{none-some, same_Some}
 use Rattle.ui_machine.specs.Seq.{read}
 use Rattle.ui_machine.specs.Definition.Places.{Bind}
@@ -121,3 +121,21 @@ adds_one all once old new bs b s way source puts are n c at =
 pub known_targets : (all : List Channel) (cs : List Channel) → filter_map (λ (o : Option ℕ). o) (map (number_of all) cs) ≡ numbers_of all cs
 known_targets all [] = refl
 known_targets all (c ∷ cs) = ap (cons_option (number_of all c)) (known_targets all cs)
+
+-- ** how many there are
+
+few_kept : {A : Type 0} → (test : A → Bool) (xs : List A) → length (filter test xs) ≤ length xs
+few_kept test [] = omega arith
+few_kept {A} test (x ∷ xs) = by (test x) (few_kept test xs)
+  where
+    by : (b : Bool) → length (filter test xs) ≤ length xs → length (cond b (x ∷ filter test xs) (filter test xs)) ≤ suc (length xs)
+    by true few = omega (arith, few)
+    by false few = omega (arith, few)
+
+-- no more targets than bindings
+pub few_targets : (all : List Channel) (c : Channel) (bs : List Bind) → length (target_numbers all c bs) ≤ length bs
+few_targets all c bs =
+    let kept = few_kept (λ b. not (is_pair b) && same_channel (source_of b) c) bs in
+    let targets = length-map (filter (λ b. not (is_pair b) && same_channel (source_of b) c) bs) target_of in
+    let numbers = length-map (targets_in c bs) (number_of all) in
+    omega (arith, kept, targets, numbers)

@@ -1,6 +1,6 @@
 //! What runs at each channel of a definition.
 
-ghost use Rattle.std.specs.Prelude.{◌≡◌, ◌<◌, length, map, IfOk};
+ghost use Rattle.std.specs.Prelude.{◌≡◌, ◌<◌, ◌≤◌, length, map, IfOk};
 ghost use Rattle.law_typing.specs.Graph.{handlers_for};
 ghost use Rattle.graph_sketches.specs.Sketches.{emits_at};
 ghost use Rattle.graph_sketches.specs.View.{channel_view};
@@ -9,6 +9,7 @@ ghost use Rattle.raised_channels.specs.Attached.{AreAttached};
 ghost use Rattle.raised_channels.specs.Connected.{AreConnected, groups_for, programs_of};
 ghost use Rattle.raised_channels.specs.ConnectedCode.{connections_if};
 ghost use Rattle.raised_channels.specs.Raised.{AreParts, AreRaised, AreSketched, IsRaised};
+ghost use Rattle.raised_channels.specs.Transfers.{AreTargets};
 
 use crate::attached_handlers::{AttachedHandler, attached_for, attached_handlers};
 use crate::class_handlers::{class_handler, constructed_at, stages};
@@ -19,9 +20,6 @@ use graph_sketches::SketchedChannel;
 use operand_types::Lookups;
 use std::alloc::{AllocError, Global};
 use ui_machine::{Channel, Member, ProgramId};
-
-// No channel has more bindings.
-const MOST_TRANSFERS: usize = 4294967295;
 
 /// What runs at the channels of a definition, and the groups of programs that bytecode may connect alike.
 #[derive(Debug, Drop)]
@@ -94,13 +92,14 @@ fn raised_channel(
     requires firsts { length paired.now.firsts.items ≡ length numbers.now }
     requires others { length paired.now.others.items ≡ length numbers.now }
     requires attached { AreAttached lookups.now parts.now.attached.items }
+    requires transfers { AreTargets numbers.now parts.now.transfers.items lookups.now.bindings }
     ensures { IfOk result (λ k. IsRaised lookups.now numbers.now paired.now parts.now number (channel_view k)) }
 {
+    // For the proof: a definition has few bindings.
+    law_lengths::lengths();
+    let _types = lookups.definition().types();
     let channel = numbers.channel(number);
     let targets = parts.transfers[number].as_slice();
-    if targets.len() > MOST_TRANSFERS {
-        return Err(AllocError);
-    }
     Ok(SketchedChannel {
         emits: emits(&channel),
         class_handler: class_handler(lookups, &channel),
@@ -120,7 +119,8 @@ fn parts_of(
     lookups: &Lookups<'_>,
     numbers: &ChannelNumbers,
 ) -> Result<ChannelParts, AllocError>
-    ensures { IfOk result (λ parts. AreParts lookups.now numbers.now parts) }
+    ensures parts { IfOk result (λ parts. AreParts lookups.now numbers.now parts) }
+    ensures few { IfOk result (λ parts. length parts.connects.groups.items ≤ 131072) }
 {
     Ok(ChannelParts {
         attached: attached_handlers(alloc, lookups)?,
@@ -131,7 +131,8 @@ fn parts_of(
 
 // The connections of a definition whose programs may connect handlers; else none.
 fn connections_if(alloc: Global, lookups: &Lookups<'_>) -> Result<Connects, AllocError>
-    ensures { IfOk result (λ x. AreConnected lookups.now x (connections_if lookups.now)) }
+    ensures connected { IfOk result (λ x. AreConnected lookups.now x (connections_if lookups.now)) }
+    ensures few { IfOk result (λ x. length x.groups.items ≤ 131072) }
 {
     if lookups.definition().limits().handlers == 0 {
         return Connects::new(alloc, lookups);
@@ -173,7 +174,8 @@ pub fn raised_channels(
 ) -> Result<RaisedChannels, AllocError>
     requires firsts { length paired.now.firsts.items ≡ length numbers.now }
     requires others { length paired.now.others.items ≡ length numbers.now }
-    ensures { IfOk result (λ s. AreSketched lookups.now numbers.now paired.now (programs_of s.groups.items) (map channel_view s.channels.items)) }
+    ensures sketched { IfOk result (λ s. AreSketched lookups.now numbers.now paired.now (programs_of s.groups.items) (map channel_view s.channels.items)) }
+    ensures few { IfOk result (λ s. length s.groups.items ≤ 131072) }
 {
     let parts = parts_of(alloc, lookups, numbers)?;
     let channels = all_channels(alloc, lookups, numbers, paired, &parts)?;

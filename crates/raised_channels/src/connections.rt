@@ -1,6 +1,7 @@
 //! The programs that bytecode may connect: those that may be connected alike are one group.
 
-ghost use Rattle.std.specs.Prelude.{◌≡◌, ◌++◌, ◌∷◌, ◌<◌, ◌≤◌, [], Some, ℕ, cond, length, map, nat_eq, option_map, slice_get, string_bytes, IfOk, OnOk};
+ghost use Rattle.std.specs.Prelude.{◌≡◌, ◌++◌, ◌∷◌, ◌+◌, ◌<◌, ◌≤◌, [], Some, ℕ, cond, length, map, nat_eq, option_map, slice_get, string_bytes, IfOk, OnOk};
+ghost use Rattle.bytecode.specs.Shape.{instructions_in};
 ghost use Rattle.bytecode.specs.View.{block_view, instruction_view, program_view, register_kind_view, signal_instruction_view};
 ghost use Rattle.law_typing.specs.Graph.{connection_of, connections, listed_if};
 ghost use Rattle.law_typing.specs.Rules.Sites.{sites};
@@ -22,9 +23,6 @@ use started_channels::{covering, go_after, is_covered};
 use std::alloc::{AllocError, Global};
 use std::collections::BTreeMap;
 use ui_machine::{Channel, Place, ProgramId};
-
-// No definition has more groups.
-const MOST_GROUPS: usize = 4294967295;
 
 /// A group at a place, and what it is for.
 #[derive(Clone, Copy, Debug, Drop)]
@@ -48,7 +46,8 @@ impl Connects {
     ///
     /// `AllocError` if memory is refused.
     pub fn new(alloc: Global, lookups: &Lookups<'_>) -> Result<Connects, AllocError>
-        ensures { IfOk result (λ x. AreConnected lookups.now x []) }
+        ensures connected { IfOk result (λ x. AreConnected lookups.now x []) }
+        ensures none { IfOk result (λ x. length x.groups.items ≡ 0) }
     {
         let mut at = Vec::new(alloc);
         for _place in 0..lookups.definition().place_count() {
@@ -107,15 +106,13 @@ impl Connects {
         connection: &Connection,
         program: ProgramId,
     ) -> Result<u32, AllocError>
-        requires { length self.old.at.items ≡ length lookups.now.places }
-        ensures { IfOk result (λ g. AddsGroup lookups.now self.old self.new (register_kind_view kind.now)
+        requires places { length self.old.at.items ≡ length lookups.now.places }
+        requires few { length self.old.groups.items < 131072 }
+        ensures adds { IfOk result (λ g. AddsGroup lookups.now self.old self.new (register_kind_view kind.now)
             (string_bytes connection.now.signal) (option_map string_bytes connection.now.detail) program g) }
+        ensures few { IfOk result (λ g. length self.new.groups.items ≤ length self.old.groups.items + 1) }
     {
-        let number = self.groups.len();
-        if number > MOST_GROUPS {
-            return Err(AllocError);
-        }
-        let group = number as u32;
+        let group = self.groups.len() as u32;
         let mut programs = Vec::new(alloc);
         programs.push(program)?;
         self.groups.push(programs)?;
@@ -152,8 +149,10 @@ impl Connects {
         key: Key,
     ) -> Result<(), AllocError>
         requires places { length self.old.at.items ≡ length lookups.now.places }
+        requires few { length self.old.groups.items < 131072 }
         requires key { connection_key lookups.now (register_kind_view kind.now) (string_bytes connection.now.signal) (option_map string_bytes connection.now.detail) ≡ Some key }
         ensures places { OnOk result (length self.new.at.items ≡ length lookups.now.places) }
+        ensures few { OnOk result (length self.new.groups.items ≤ length self.old.groups.items + 1) }
         ensures more { OnOk result (ConnectsMore lookups.now self.old self.new
             (connection_over lookups.now (register_kind_view kind.now) (string_bytes connection.now.signal) (option_map string_bytes connection.now.detail) (Some program) ∷ [])) }
     {
@@ -177,8 +176,10 @@ impl Connects {
         kind: &RegisterKind,
         connection: &Connection,
     ) -> Result<(), AllocError>
-        requires { length self.old.at.items ≡ length lookups.now.places }
+        requires places { length self.old.at.items ≡ length lookups.now.places }
+        requires few { length self.old.groups.items < 131072 }
         ensures places { OnOk result (length self.new.at.items ≡ length lookups.now.places) }
+        ensures few { OnOk result (length self.new.groups.items ≤ length self.old.groups.items + 1) }
         ensures more { OnOk result (ConnectsMore lookups.now self.old self.new
             (connection_over lookups.now (register_kind_view kind.now) (string_bytes connection.now.signal) (option_map string_bytes connection.now.detail)
             (program_of lookups.now (string_bytes connection.now.program)) ∷ [])) }
@@ -211,8 +212,10 @@ impl Connects {
         kinds: &[RegisterKind],
         instruction: &SignalInstruction,
     ) -> Result<(), AllocError>
-        requires { length self.old.at.items ≡ length lookups.now.places }
+        requires places { length self.old.at.items ≡ length lookups.now.places }
+        requires few { length self.old.groups.items < 131072 }
         ensures places { OnOk result (length self.new.at.items ≡ length lookups.now.places) }
+        ensures few { OnOk result (length self.new.groups.items ≤ length self.old.groups.items + 1) }
         ensures more { OnOk result (ConnectsMore lookups.now self.old self.new (listed_if (connection_of lookups.now (kinds_of kinds.now) (signal_instruction_view instruction.now)))) }
     {
         match instruction {
@@ -240,8 +243,10 @@ impl Connects {
         kinds: &[RegisterKind],
         instruction: &Instruction,
     ) -> Result<(), AllocError>
-        requires { length self.old.at.items ≡ length lookups.now.places }
+        requires places { length self.old.at.items ≡ length lookups.now.places }
+        requires few { length self.old.groups.items < 131072 }
         ensures places { OnOk result (length self.new.at.items ≡ length lookups.now.places) }
+        ensures few { OnOk result (length self.new.groups.items ≤ length self.old.groups.items + 1) }
         ensures more { OnOk result (ConnectsMore lookups.now self.old self.new (listed_if (connection_of lookups.now (kinds_of kinds.now) (instruction_view instruction.now)))) }
     {
         match instruction {
@@ -266,8 +271,10 @@ impl Connects {
         program: &Program,
         block: &Block,
     ) -> Result<(), AllocError>
-        requires { length self.old.at.items ≡ length lookups.now.places }
+        requires places { length self.old.at.items ≡ length lookups.now.places }
+        requires few { length self.old.groups.items + length block.now.code.items ≤ 131072 }
         ensures places { OnOk result (length self.new.at.items ≡ length lookups.now.places) }
+        ensures few { OnOk result (length self.new.groups.items ≤ length self.old.groups.items + length block.now.code.items) }
         ensures more { OnOk result (ConnectsMore lookups.now self.old self.new
             (code_connections lookups.now (program_view program.now) (block_view block.now).entry (block_view block.now).code)) }
     {
@@ -287,8 +294,10 @@ impl Connects {
         lookups: &Lookups<'_>,
         program: &Program,
     ) -> Result<(), AllocError>
-        requires { length self.old.at.items ≡ length lookups.now.places }
+        requires places { length self.old.at.items ≡ length lookups.now.places }
+        requires few { length self.old.groups.items + instructions_in (program_view program.now).blocks ≤ 131072 }
         ensures places { OnOk result (length self.new.at.items ≡ length lookups.now.places) }
+        ensures few { OnOk result (length self.new.groups.items ≤ length self.old.groups.items + instructions_in (program_view program.now).blocks) }
         ensures more { OnOk result (ConnectsMore lookups.now self.old self.new (blocks_connections lookups.now (program_view program.now) (program_view program.now).blocks)) }
     {
         for number in 0..program.blocks.len() {
@@ -304,8 +313,11 @@ impl Connects {
 ///
 /// `AllocError` where no memory is found.
 pub fn connections(alloc: Global, lookups: &Lookups<'_>) -> Result<Connects, AllocError>
-    ensures { IfOk result (λ x. AreConnected lookups.now x (connections lookups.now (sites lookups.now))) }
+    ensures connected { IfOk result (λ x. AreConnected lookups.now x (connections lookups.now (sites lookups.now))) }
+    ensures few { IfOk result (λ x. length x.groups.items ≤ 131072) }
 {
+    // For the proof: there are few programs, and each of them is short.
+    let _types = lookups.definition().types();
     let mut connects = Connects::new(alloc, lookups)?;
     for number in 0..lookups.most_programs() {
         let Some(program) = lookups.program(number) else {

@@ -5,4 +5,5 @@ pub mod NextBlocks
 pub mod Over
 pub mod Pointwise
 pub mod SameKeys
+pub mod Sizes
 pub mod StartTables

@@ -1,4 +1,5 @@
 pub mod Covering
+pub mod Sizes
 pub mod SketchedCode
 pub mod Tables
 pub mod Triggers

@@ -1,10 +1,12 @@
 //! The programs of a definition: what each instruction may start, how often each block is passed, and which come next.
 
-ghost use Rattle.std.specs.Prelude.{◌≡◌, ◌++◌, map, IfOk, OnOk};
+ghost use Rattle.std.specs.Prelude.{◌≡◌, ◌++◌, ◌+◌, ◌≤◌, length, map, IfOk, OnOk};
 ghost use Rattle.std.specs.List.{flat_map};
+ghost use Rattle.bytecode.specs.Shape.{instructions_in};
 ghost use Rattle.bytecode.specs.View.{block_view, control_view, instruction_view, program_view};
 ghost use Rattle.law_typing.specs.Graph.{next_of};
 ghost use Rattle.graph_sketches.specs.View.{block_view as sketched_view, start_view};
+ghost use Rattle.started_channels.specs.Sizes.{AreSmall};
 ghost use Rattle.started_channels.specs.SketchedCode.{AreBlocks, AreNumbersOf, ArePrograms, IsBlock, sketched_code};
 ghost use Rattle.started_channels.specs.Tables.{AreOfSome, GoesOn, IsTable, starts_in};
 
@@ -88,8 +90,10 @@ fn block_starts(
     program: &Program,
     block: &Block,
 ) -> Result<Vec<u32>, AllocError>
-    requires { IsTable lookups.now numbers.now starts.old }
+    requires table { IsTable lookups.now numbers.now starts.old }
+    requires few { length starts.old.starts.items + length block.now.code.items ≤ 131073 }
     ensures goes_on { IfOk result (λ s. GoesOn lookups.now numbers.now starts.old starts.new) }
+    ensures few { IfOk result (λ s. length starts.new.starts.items ≤ length starts.old.starts.items + length block.now.code.items) }
     ensures starts { IfOk result (λ s. AreNumbersOf (starts_in starts.new) s.items
         (sketched_code lookups.now numbers.now (program_view program.now) (block_view block.now).entry (block_view block.now).code)) }
 {
@@ -114,8 +118,10 @@ fn sketched_block(
     program: &Program,
     block: &Block,
 ) -> Result<SketchedBlock, AllocError>
-    requires { IsTable lookups.now numbers.now starts.old }
+    requires table { IsTable lookups.now numbers.now starts.old }
+    requires few { length starts.old.starts.items + length block.now.code.items ≤ 131073 }
     ensures goes_on { IfOk result (λ s. GoesOn lookups.now numbers.now starts.old starts.new) }
+    ensures few { IfOk result (λ s. length starts.new.starts.items ≤ length starts.old.starts.items + length block.now.code.items) }
     ensures block { IfOk result (λ s. IsBlock lookups.now numbers.now (starts_in starts.new) (program_view program.now) (sketched_view s) (block_view block.now)) }
 {
     let found = block_starts(alloc, lookups, numbers, starts, program, block)?;
@@ -135,8 +141,10 @@ fn sketched_blocks(
     starts: &mut SketchedStarts,
     program: &Program,
 ) -> Result<Vec<SketchedBlock>, AllocError>
-    requires { IsTable lookups.now numbers.now starts.old }
+    requires table { IsTable lookups.now numbers.now starts.old }
+    requires few { length starts.old.starts.items + instructions_in (program_view program.now).blocks ≤ 131073 }
     ensures goes_on { IfOk result (λ s. GoesOn lookups.now numbers.now starts.old starts.new) }
+    ensures few { IfOk result (λ s. length starts.new.starts.items ≤ length starts.old.starts.items + instructions_in (program_view program.now).blocks) }
     ensures sketched { IfOk result (λ s. AreBlocks lookups.now numbers.now (starts_in starts.new) (map sketched_view s.items) (program_view program.now)) }
 {
     let mut blocks = Vec::new(alloc);
@@ -161,10 +169,14 @@ fn all_programs(
     numbers: &ChannelNumbers,
     starts: &mut SketchedStarts,
 ) -> Result<Vec<Vec<SketchedBlock>>, AllocError>
-    requires { IsTable lookups.now numbers.now starts.old }
+    requires table { IsTable lookups.now numbers.now starts.old }
+    requires first { length starts.old.starts.items ≡ 1 }
     ensures programs { IfOk result (λ s. ArePrograms lookups.now numbers.now (starts_in starts.new) (map (λ v. map sketched_view v.items) s.items) lookups.now.programs) }
     ensures each { IfOk result (λ s. AreOfSome lookups.now numbers.now (starts_in starts.new)) }
+    ensures few { IfOk result (λ s. AreSmall (starts_in starts.new) (map (λ v. map sketched_view v.items) s.items)) }
 {
+    // For the proof: there are few programs, and each of them is short.
+    let _types = lookups.definition().types();
     let mut programs = Vec::new(alloc);
     for number in 0..lookups.most_programs() {
         let Some(program) = lookups.program(number) else {
@@ -188,6 +200,7 @@ pub fn sketched_programs(
 ) -> Result<SketchedPrograms, AllocError>
     ensures programs { IfOk result (λ s. ArePrograms lookups.now numbers.now (map start_view s.starts.items) (map (λ v. map sketched_view v.items) s.programs.items) lookups.now.programs) }
     ensures each { IfOk result (λ s. AreOfSome lookups.now numbers.now (map start_view s.starts.items)) }
+    ensures few { IfOk result (λ s. AreSmall (map start_view s.starts.items) (map (λ v. map sketched_view v.items) s.programs.items)) }
 {
     let mut starts = SketchedStarts::new(alloc, lookups, numbers)?;
     let programs = all_programs(alloc, lookups, numbers, &mut starts)?;

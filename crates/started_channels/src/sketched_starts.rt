@@ -1,6 +1,6 @@
 //! What triggers may start, kept once for those with the same key.
 
-ghost use Rattle.std.specs.Prelude.{◌≡◌, Some, slice_get, IfOk};
+ghost use Rattle.std.specs.Prelude.{◌≡◌, ◌+◌, ◌≤◌, Some, length, slice_get, IfOk};
 ghost use Rattle.started_channels.specs.Tables.{GoesOn, IsTable, starts_in};
 ghost use Rattle.started_channels.specs.Triggers.{key_for, start_for, trigger_view};
 
@@ -12,9 +12,6 @@ use graph_sketches::SketchedStart;
 use operand_types::Lookups;
 use std::alloc::{AllocError, Global};
 use std::collections::BTreeMap;
-
-// No definition has more starts.
-const MOST_STARTS: usize = 4294967295;
 
 /// Starts, and the number of the start of each key that was met.
 #[derive(Drop)]
@@ -34,7 +31,8 @@ impl SketchedStarts {
         lookups: &Lookups<'_>,
         numbers: &ChannelNumbers,
     ) -> Result<SketchedStarts, AllocError>
-        ensures { IfOk result (λ s. IsTable lookups.now numbers.now s) }
+        ensures table { IfOk result (λ s. IsTable lookups.now numbers.now s) }
+        ensures count { IfOk result (λ s. length s.starts.items ≡ 1) }
     {
         let mut starts = Vec::new(alloc);
         starts.push(SketchedStart::Nothing)?;
@@ -52,16 +50,15 @@ impl SketchedStarts {
         numbers: &ChannelNumbers,
         trigger: &Trigger<'_>,
     ) -> Result<u32, AllocError>
-        requires { IsTable lookups.now numbers.now self.old }
+        requires table { IsTable lookups.now numbers.now self.old }
+        requires few { length self.old.starts.items ≤ 131072 }
         ensures goes_on { IfOk result (λ n. GoesOn lookups.now numbers.now self.old self.new) }
+        ensures few { IfOk result (λ n. length self.new.starts.items ≤ length self.old.starts.items + 1) }
         ensures start { IfOk result (λ n. slice_get (starts_in self.new) n ≡ Some (start_for lookups.now numbers.now (trigger_view trigger.now))) }
         ensures numbers { IfOk result (λ n. self.new.numbers ≡ self.old.numbers) }
     {
         let start = start_for(alloc, lookups, numbers, trigger)?;
         let number = self.starts.len();
-        if number > MOST_STARTS {
-            return Err(AllocError);
-        }
         self.starts.push(start)?;
         Ok(number as u32)
     }
@@ -76,8 +73,10 @@ impl SketchedStarts {
         key: Key,
     ) -> Result<u32, AllocError>
         requires table { IsTable lookups.now numbers.now self.old }
+        requires few { length self.old.starts.items ≤ 131072 }
         requires key { key_for lookups.now (trigger_view trigger.now) ≡ Some key }
         ensures goes_on { IfOk result (λ n. GoesOn lookups.now numbers.now self.old self.new) }
+        ensures few { IfOk result (λ n. length self.new.starts.items ≤ length self.old.starts.items + 1) }
         ensures start { IfOk result (λ n. slice_get (starts_in self.new) n ≡ Some (start_for lookups.now numbers.now (trigger_view trigger.now))) }
     {
         if let Some(number) = self.numbers.get(&key) {
@@ -100,8 +99,10 @@ impl SketchedStarts {
         numbers: &ChannelNumbers,
         trigger: &Trigger<'_>,
     ) -> Result<u32, AllocError>
-        requires { IsTable lookups.now numbers.now self.old }
+        requires table { IsTable lookups.now numbers.now self.old }
+        requires few { length self.old.starts.items ≤ 131072 }
         ensures goes_on { IfOk result (λ n. GoesOn lookups.now numbers.now self.old self.new) }
+        ensures few { IfOk result (λ n. length self.new.starts.items ≤ length self.old.starts.items + 1) }
         ensures start { IfOk result (λ n. slice_get (starts_in self.new) n ≡ Some (start_for lookups.now numbers.now (trigger_view trigger.now))) }
     {
         if matches!(*trigger, Trigger::Idle) {

@@ -5,7 +5,6 @@ use Rattle.ui_machine.specs.Rules.Events.{refusal}
 use Rattle.ui_machine.specs.Rules.MainLoop.{turned}
 use Rattle.ui_machine.specs.Runs.{of_build}
 use Rattle.ui_machine.specs.State.Config.{World}
-use Rattle.ui_machine.specs.State.Objects.{most_identities}
 use Rattle.ui_machine.specs.State.Tasks.{Event, Request}
 use Rattle.ui_machine.specs.State.Tasks as config
 use Rattle.definition_format.specs.Origin.{IsDenoted}
@@ -21,8 +20,9 @@ use Rattle.engine_pools.specs.declared.dispatches.Reply.{Reply}
 use Rattle.engine_pools.specs.Courses.{MayBegin}
 use Rattle.engine_pools.specs.Dispatched.{Carried}
 use Rattle.engine_pools.specs.PoolView.{Knows, world_at}
-use Rattle.engine_pools.specs.Promises.{BuildKeeps, EventKeeps, Rests}
+use Rattle.engine_pools.specs.Promises.{BuildKeeps, EventKeeps, IsNumberable, Rests}
 use Rattle.engine_pools.specs.Safety.{IsSafe}
+use Rattle.law_lengths.proofs.LengthProofs.{denoted_are_short}
 use Rattle.engine_pools.proofs.Keeping.{build_promised, build_rests, build_safe, serve_keeps, turn_event_keeps, turn_rests}
 use Rattle.engine_pools.proofs.Points.{fitting}
 use Rattle.engine_pools.proofs.Resting.{rests_here, rests_there}
@@ -40,17 +40,17 @@ module _ (d e : Definition) (same : e ≡ d) (from : IsDenoted e) where
 
   module _ (pool : List Seen) (matches : mismatch d (as_peers pool) ≡ None) where
     -- where it has few places
-    few_places : length e.places ≤ 512 → length d.places ≤ most_identities
-    few_places few = let one = ap (λ (x : Definition). length x.places) same in omega (arith, few, one)
+    numberable : length e.places ≤ 512 → IsNumberable d
+    numberable few = subst IsNumberable same (record { places = omega (arith, few); signals = (let signals = (denoted_are_short e from).signals in omega (arith, signals)) })
 
     pub builds_safely : length e.places ≤ 512 → Accepted d → IsSafe e (of_build d (as_peers pool))
     builds_safely few a =
-        subst (λ (x : Definition). IsSafe x (of_build d (as_peers pool))) (sym same) (build_safe d well (as_peers pool) (matched_is_ready d (as_peers pool) matches (all_free pool)) (few_places few) a)
+        subst (λ (x : Definition). IsSafe x (of_build d (as_peers pool))) (sym same) (build_safe d well (as_peers pool) (matched_is_ready d (as_peers pool) matches (all_free pool)) (numberable few) a)
 
     pub built_rests : length e.places ≤ 512 → (may : Relations) (reply : Reply) (left : List Seen) (new : World) → Carried (Ok reply) d may (of_build d (as_peers pool)) (world_at left new) → Knows new left → Rests d new
     built_rests few may reply left new carried knows =
         rests_here d left new knows
-        (build_rests d well (as_peers pool) (matched_is_ready d (as_peers pool) matches (all_free pool)) (few_places few) carried.0.replies (fitting d may carried.0.replies carried.0.given) reply.steps (world_at left new) carried.0.so)
+        (build_rests d well (as_peers pool) (matched_is_ready d (as_peers pool) matches (all_free pool)) (numberable few) carried.0.replies (fitting d may carried.0.replies carried.0.given) reply.steps (world_at left new) carried.0.so)
 
     pub build_keeps : BuildKeeps d (as_peers pool)
     build_keeps = build_promised d well (as_peers pool) (matched_is_ready d (as_peers pool) matches (all_free pool))

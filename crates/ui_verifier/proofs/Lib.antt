@@ -1,3 +1,4 @@
+pub mod FewNumbers
 pub mod CycleProofs
 pub mod JudgeProofs
 pub mod LargeProofs

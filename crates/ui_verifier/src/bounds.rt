@@ -8,12 +8,12 @@ ghost use Rattle.graph_bounds.specs.ByChannel.{Gives, makings_depth};
 ghost use Rattle.law_typing.specs.Graph.Tables.{greatest};
 ghost use Rattle.law_typing.specs.Laws.Capped.{capped};
 ghost use Rattle.law_numbering.specs.Tables.{cost_tables, depth_tables, rank_table};
-ghost use Rattle.node_numbers.specs.Numbers.{of_node};
+ghost use Rattle.node_numbers.specs.Numbers.{AreWithin, of_node};
 ghost use Rattle.graph_sketches.specs.Numbered as part;
 ghost use Rattle.graph_sketches.specs.Sketches.{IsSketch};
 ghost use Rattle.graph_sketches.specs.View.{sketch_view};
 ghost use Rattle.graph_numbers.specs.Counts.{at, at_in, counts_of};
-ghost use Rattle.graph_numbers.specs.Reckonings.{AreGraphNumbers};
+ghost use Rattle.graph_numbers.specs.Reckonings.{AreGraphNumbers, HaveFew};
 ghost use Rattle.verified.specs.Told.{source_view};
 ghost use Rattle.ui_verifier.specs.Bounds.{AreCapped, with_objects};
 
@@ -39,14 +39,12 @@ fn bounds_of(alloc: Global, costs: &[u64], objects: u32) -> Result<Vec<u64>, All
 
 // Ranks as shorter numbers; there are fewer than 2^32 channels.
 fn ranks_of(alloc: Global, values: &[u64]) -> Result<Vec<u32>, AllocError>
+    requires { AreWithin values.now 4294967294 }
     ensures { IfOk result (λ ranks. ranks.items ≡ values.now) }
 {
     let mut ranks = Vec::new(alloc);
     for value in values {
-        let Ok(rank) = u32::try_from(*value) else {
-            return Err(AllocError);
-        };
-        ranks.push(rank)?;
+        ranks.push(*value as u32)?;
     }
     Ok(ranks)
 }
@@ -118,23 +116,22 @@ fn depth_of(
     values: &[u64],
     programs: &[u64],
 ) -> Result<u32, AllocError>
-    requires { length values.now ≡ length channels.now }
+    requires count { length values.now ≡ length channels.now }
+    requires few { AreWithin values.now 2147483648 }
+    requires programs { AreWithin programs.now 2147483648 }
     ensures { IfOk result (λ depth. (f : law.Channel → ℕ) → Gives channels.now values.now f
         → depth ≡ max (greatest (λ (n : ℕ). n) values.now) (max (greatest (λ (n : ℕ). n) programs.now) (makings_depth lookups.now f))) }
 {
     let makings = makings_depth(alloc, lookups, channels, values)?;
     let most = greatest(values).max(greatest(programs).max(makings));
-    let Ok(depth) = u32::try_from(most) else {
-        return Err(AllocError);
-    };
-    Ok(depth)
+    Ok(most as u32)
 }
 
 /// The numbers that are reported of a definition, each bound one above the greatest at most.
 ///
 /// # Errors
 ///
-/// `AllocError` where no memory is found, or a number is 2^32 or more.
+/// `AllocError` where no memory is found.
 pub(crate) fn told_numbers(
     alloc: Global,
     lookups: &Lookups<'_>,
@@ -147,6 +144,7 @@ pub(crate) fn told_numbers(
     requires counted { layout.now ≡ counts_of (sketch_view sketch.now) }
     requires sketched { IsSketch (graph lookups.now) (sketch_view sketch.now) }
     requires reckoned { AreGraphNumbers (graph lookups.now) (sketch_view sketch.now) nodes.now }
+    requires few { HaveFew nodes.now }
     ensures { IfOk result (λ numbers. AreCapped lookups.now numbers
         (rank_table (graph lookups.now) (sketch_view sketch.now) (at_in (sketch_view sketch.now)) nodes.now.ranks.items)
         (cost_tables (graph lookups.now) (at_in (sketch_view sketch.now)) nodes.now.costs.items)

@@ -1,9 +1,9 @@
 //! Cycles of channels, each from its first channel in the report.
 
-ghost use Rattle.std.specs.Prelude.{◌≡◌, ◌≤◌, ◌++◌, ℕ, Some, drop, length, map, slice_get, take, IfOk};
+ghost use Rattle.std.specs.Prelude.{◌≡◌, ◌<◌, ◌≤◌, ◌++◌, ℕ, All, Some, drop, length, map, slice_get, take, IfOk, IfSome};
 ghost use Rattle.law_typing.specs.Graph.{Graph};
 ghost use Rattle.graph_sketches.specs.Sketches.{channels_in};
-ghost use Rattle.graph_numbers.specs.Links.{links_view};
+ghost use Rattle.graph_numbers.specs.Links.{NamesBelow, links_view};
 ghost use Rattle.graph_numbers.specs.Reckonings.{IsCycleOnce};
 ghost use Rattle.law_numbering.specs.Cycles.{channel_numbered};
 ghost use Rattle.law_typing.specs.Verdict.Judges.{IsToldCycle};
@@ -18,17 +18,15 @@ use graph_numbers::SketchedLink;
 use std::alloc::{AllocError, Global};
 use ui_machine::{Channel, Member, Place, ProgramId};
 
-// The program of a link by its shorter number; there are fewer than 2^16 programs.
-fn program_of(by: Option<usize>) -> Result<Option<ProgramId>, AllocError>
-    ensures { IfOk result (λ program. program ≡ by) }
+// The program of a link by its shorter number; there are 256 programs at most.
+fn program_of(by: Option<usize>) -> Option<ProgramId>
+    requires { IfSome by (λ program. program < 256) }
+    ensures { result ≡ by }
 {
-    let Some(by) = by else {
-        return Ok(None);
-    };
-    let Ok(program) = u16::try_from(by) else {
-        return Err(AllocError);
-    };
-    Ok(Some(program))
+    match by {
+        Some(program) => Some(program as ProgramId),
+        None => None,
+    }
 }
 
 // The channel of a number, the first construction where there is none.
@@ -45,12 +43,13 @@ fn channel_at(channels: &ChannelNumbers, number: usize) -> Channel
 }
 
 // A link of a cycle with its channel.
-fn cycle_link(channels: &ChannelNumbers, link: SketchedLink) -> Result<CycleLink, AllocError>
-    ensures { IfOk result (λ l. (g : Graph) → channels.now ≡ channels_in g → link_view l ≡ sketched.link_view g link) }
+fn cycle_link(channels: &ChannelNumbers, link: SketchedLink) -> CycleLink
+    requires { NamesBelow 256 link }
+    ensures { (g : Graph) → channels.now ≡ channels_in g → link_view result ≡ sketched.link_view g link }
 {
-    let by = program_of(link.by)?;
+    let by = program_of(link.by);
     let from = channel_at(channels, link.from);
-    Ok(CycleLink { from, by })
+    CycleLink { from, by }
 }
 
 // The links of a cycle with their channels.
@@ -59,11 +58,12 @@ fn cycle_links(
     channels: &ChannelNumbers,
     links: &[SketchedLink],
 ) -> Result<Vec<CycleLink>, AllocError>
+    requires { All (NamesBelow 256) links.now }
     ensures { IfOk result (λ all. (g : Graph) → channels.now ≡ channels_in g → map link_view all.items ≡ links_view g links.now) }
 {
     let mut all = Vec::new(alloc);
     for link in links {
-        all.push(cycle_link(channels, *link)?)?;
+        all.push(cycle_link(channels, *link))?;
     }
     Ok(all)
 }
@@ -121,12 +121,13 @@ fn turned(alloc: Global, links: &[CycleLink], first: usize) -> Result<Vec<CycleL
 ///
 /// # Errors
 ///
-/// `AllocError` where no memory is found, or a program's number is 2^16 or more.
+/// `AllocError` where no memory is found.
 pub(crate) fn cycle_from_first(
     alloc: Global,
     channels: &ChannelNumbers,
     links: &[SketchedLink],
 ) -> Result<Vec<CycleLink>, AllocError>
+    requires { All (NamesBelow 256) links.now }
     ensures { IfOk result (λ all. (g : Graph) → channels.now ≡ channels_in g → IsCycleOnce g (links_view g links.now)
         → IsToldCycle g (map link_view all.items)) }
 {

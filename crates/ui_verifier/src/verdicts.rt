@@ -1,6 +1,6 @@
 //! Verification.
 
-ghost use Rattle.std.specs.Prelude.{◌≡◌, None, Some, IfOk};
+ghost use Rattle.std.specs.Prelude.{◌≡◌, All, None, Some, IfOk};
 ghost use Rattle.ui_machine.specs.Definition as machine;
 ghost use Rattle.law_judging.specs.FirstFaults.{first_fault};
 ghost use Rattle.law_typing.specs.Graph.{graph};
@@ -9,8 +9,9 @@ ghost use Rattle.law_typing.specs.Rules.Faults.{bound_too_large, cycle};
 ghost use Rattle.law_typing.specs.Verdict.Judges.{IsToldCycle, Judges};
 ghost use Rattle.definition_format.specs.Origin.{IsDenoted};
 ghost use Rattle.graph_numbers.specs.Counts.{counts_of};
-ghost use Rattle.graph_numbers.specs.Reckonings.{AreGraphNumbers, IsCycleOnce};
-ghost use Rattle.graph_numbers.specs.Links.{links_view};
+ghost use Rattle.graph_numbers.specs.Reckonings.{AreGraphNumbers, HaveFew, IsCycleOnce};
+ghost use Rattle.graph_numbers.specs.Links.{NamesBelow, links_view};
+ghost use Rattle.graph_sketches.specs.Sizes.{IsSmall};
 ghost use Rattle.graph_sketches.specs.Sketches.{IsSketch};
 ghost use Rattle.graph_sketches.specs.View.{sketch_view};
 ghost use Rattle.rule_faults.specs.Faults as rules;
@@ -65,6 +66,7 @@ fn cycle_refusal(
 ) -> Result<Refusal, AllocError>
     requires known { channels.now ≡ law.channels definition.now }
     requires lawful { first_fault definition.now ≡ None }
+    requires few { All (NamesBelow 256) links.now }
     requires cycle { IsCycleOnce (graph definition.now) (links_view (graph definition.now) links.now) }
     ensures { IfOk result (λ r. IsRefusal definition.now r) }
 {
@@ -107,6 +109,7 @@ fn judge_numbers(
     requires counted { layout.now ≡ counts_of (sketch_view sketch.now) }
     requires sketched { IsSketch (graph lookups.now) (sketch_view sketch.now) }
     requires reckoned { AreGraphNumbers (graph lookups.now) (sketch_view sketch.now) nodes.now }
+    requires few { HaveFew nodes.now }
     ensures { IfOk result (λ j. IsJudged lookups.now j) }
 {
     let numbers = told_numbers(alloc, lookups, channels, sketch, layout, nodes)?;
@@ -129,6 +132,7 @@ fn judge_sketch(
     requires known { channels.now ≡ law.channels lookups.now }
     requires read { IsDenoted lookups.now }
     requires lawful { first_fault lookups.now ≡ None }
+    requires small { IsSmall (sketch_view sketch.now) }
     requires sketched { IsSketch (graph lookups.now) (sketch_view sketch.now) }
     ensures { IfOk result (λ j. IsJudged lookups.now j) }
 {

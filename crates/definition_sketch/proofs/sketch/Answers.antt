@@ -1,4 +1,6 @@
-use Rattle.std.proofs.Common.{◌∙◌, ap, subst, List, Option, ℕ, length, map}
+use Rattle.std.proofs.Common.{◌∙◌, ap, subst, List, Option, Vec, ℕ, length, map, arith}
+use Rattle.std.specs.Global.{Global}
+use Rattle.std.proofs.lemmas.List.{length-map}
 use Rattle.ui_machine.specs.Seq.{listed}
 use Rattle.law_typing.specs.Graph.{pairs_of}
 use Rattle.law_typing.specs.Graph.Channels.{Channel, channels}
@@ -13,8 +15,23 @@ use Rattle.definition_sketch.proofs.NoFaults.{no_pair_faults}
 use Rattle.definition_sketch.proofs.Sketched.{sketch_right}
 use Rattle.definition_sketch.proofs.sketch.Goals as goal
 
-pub returns : goal.returns
-returns c none =
+pub returns-clause-small : goal.returns-clause-small
+returns-clause-small c =
+    let raised = c.in_ok-raised.raised in
+    let places = c.in_ok-places.places.items in
+    let few = c.in_ok-sketched.ensures.few in
+    record {
+      channels = omega (arith, c.in_ok-raised.ensures.sketched.count, c.count-count.ensures.few, c.count-count.ensures.count);
+      groups = (let e = length-map raised.groups.items (λ (v : Vec ℕ Global). v.items) in omega (arith, e, c.in_ok-raised.ensures.few));
+      programs = few.programs;
+      blocks = few.blocks;
+      instructions = few.instructions;
+      starts = few.starts;
+      places = (let e = length-map places (λ (v : Vec ℕ Global). v.items) in omega (arith, e, c.in_ok-places.ensures.few));
+    }
+
+pub returns-clause-sketch : goal.returns-clause-sketch
+returns-clause-sketch c none =
     let d = c.args.lookups.now in
     let no = no_pair_faults d none in
     let paired = c.in_ok-paired.paired in
@@ -28,9 +45,9 @@ returns c none =
     let s : Sketch = record { channels = ks; groups = groups; programs = programs; starts = starts; paired = places } in
     sketch_right d s paired no.bindings no.pairs
     (subst (λ (cs : List Channel). ArePaired cs (pairs_of d.bindings) paired.firsts.items paired.others.items) c.requires c.in_ok-paired.ensures)
-    (subst (λ (cs : List Channel). AreSketched d cs paired groups ks) c.requires c.in_ok-raised.ensures)
+    (subst (λ (cs : List Channel). AreSketched d cs paired groups ks) c.requires c.in_ok-raised.ensures.sketched)
     (subst (λ (cs : List Channel). ArePrograms d cs starts programs d.programs) c.requires c.in_ok-sketched.ensures.programs)
     (subst (λ (cs : List Channel). AreOfSome d cs starts) c.requires c.in_ok-sketched.ensures.each)
-    (c.in_ok-places.ensures
+    (c.in_ok-places.ensures.places
     ∙ (ap (λ (cs : List Channel). listed (paired_at d cs c.as_slice.result.now) (length d.places)) c.requires
     ∙ ap (λ (os : List (Option ℕ)). listed (paired_at d (channels d) os) (length d.places)) c.as_slice.ensures.value))

@@ -30,5 +30,5 @@ returns c =
     ∙ (ap (λ (e : Definition). slice_get e.places c.from.result) c.definition.ensures ∙ ap (slice_get d.places) c.from.ensures) in
     let built = present d (set_from place (map given_property given) 0 (specs_of d o.class)) in
     c.in_ok-add_all_built.ensures
-    ∙ (ap (λ xs. xs ++ built) (c.in_ok-add_constructed.ensures ∙ ap (λ xs. channels_of xs ++ constructed_if d place o.class) c.new-channels.ensures.items)
+    ∙ (ap (λ xs. xs ++ built) (c.in_ok-add_constructed.ensures.added ∙ ap (λ xs. channels_of xs ++ constructed_if d place o.class) c.new-channels.ensures.items)
     ∙ (made d place o.class (class_is d place p some) given ∙ making_is d place p some))

@@ -14,6 +14,10 @@ loop-slot-preserved c =
     let so_far = channels_of c.loop-slot.channels.items in
     let count = ap (λ (d : Definition). length (specs_of d c.args.class)) c.definition.ensures in
     let within : slot < length specs = omega (arith, c.loop-slot-test.true, c.slots-slot-end.ensures.slots, count) in
-    adds (channels_of c.args.channels.now.items) so_far (channels_of c.add_property.new.channels.items) (readable_one place slot (slice_get specs slot))
-    (readable_from place (slot + 1) (drop (slot + 1) specs)) (readable_from place 0 specs) c.in_ok-add_property.ensures
-    (ap (λ xs. so_far ++ xs) (sym (next_property place slot specs within)) ∙ c.loop-slot.invariant)
+    record {
+      added =
+          adds (channels_of c.args.channels.now.items) so_far (channels_of c.add_property.new.channels.items) (readable_one place slot (slice_get specs slot))
+          (readable_from place (slot + 1) (drop (slot + 1) specs)) (readable_from place 0 specs) c.in_ok-add_property.ensures.added
+          (ap (λ xs. so_far ++ xs) (sym (next_property place slot specs within)) ∙ c.loop-slot.invariant.added);
+      few = omega (arith, c.in_ok-add_property.ensures.few, c.loop-slot.invariant.few);
+    }

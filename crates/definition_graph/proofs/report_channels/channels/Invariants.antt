@@ -1,4 +1,4 @@
-use Rattle.std.proofs.Common.{◌≡◌, ◌++◌, drop}
+use Rattle.std.proofs.Common.{◌≡◌, ◌≤◌, ◌*◌, ◌++◌, drop, length}
 use Rattle.std.specs.List.{flat_map}
 use Rattle.law_typing.specs.Rules.RegisterKinds.{place_numbers}
 use Rattle.law_typing.specs.Graph.Channels.{channels, channels_at}
@@ -6,5 +6,7 @@ use Rattle.definition_graph.specs.ChannelView.{channels_of}
 use Rattle.definition_graph.proofs.report_channels.channels.Given as goal
 
 abbrev pub invariant-loop-place : goal.invariant-loop-place
-invariant-loop-place l =
-    channels_of l.found.items ++ flat_map (channels_at l.lookups) (drop l.place (place_numbers l.lookups)) ≡ channels l.lookups
+invariant-loop-place l = record {
+  channels : channels_of l.found.items ++ flat_map (channels_at l.lookups) (drop l.place (place_numbers l.lookups)) ≡ channels l.lookups;
+  few : length l.found.items ≤ 32833 * l.place;
+}

@@ -1,5 +1,6 @@
 use Rattle.std.proofs.Common.{Ok, ◌∙◌, ◌+◌, ◌≤◌, ap, length, sym, subst, arith}
-use Rattle.ui_machine.specs.Rules.Build.{to_make}
+use Rattle.ui_machine.specs.Rules.Build.{to_connect, to_make}
+use Rattle.ui_machine.specs.Rules.Connections.{greatest_handler}
 use Rattle.ui_machine.specs.State.Objects.{most_identities}
 use Rattle.ui_machine.specs.State.Config.{Config, World}
 use Rattle.engine_world.specs.Counting.{in_subject}
@@ -16,7 +17,7 @@ use Rattle.engine_world.specs.EngineView.{config_of}
 use Rattle.engine_world.proofs.Counts.{config_same, taken_off, given_back, same_tasks}
 use Rattle.engine_world.specs.View.{world_of}
 use Rattle.engine_pools.proofs.Standing.{first_none}
-use Rattle.engine_pools.proofs.Stepping.{first_can, first_names_so, first_stepped, first_grows, view_identities}
+use Rattle.engine_pools.proofs.Stepping.{first_can, first_names_so, first_stepped, first_grows, view_numbers}
 use Rattle.engine_pools.proofs.quiet_steps.first_task.Goals as goal
 
 pub sink_first_floating-requires-clause-none : goal.sink_first_floating-requires-clause-none
@@ -62,7 +63,11 @@ act-requires c = record {
   identities =
       let d = c.args.definition.now in
       let e = c.args.engine.now in
-      subst (λ (ts : List Task). length (world_of e.world).objects + to_make ts ≤ most_identities) (c.in-Some.ensures.tasks d e.world.handlers.handlers) (view_identities d (config_of d e) c.requires.safe);
+      subst (λ (ts : List Task). length (world_of e.world).objects + to_make ts ≤ most_identities) (c.in-Some.ensures.tasks d e.world.handlers.handlers) (view_numbers d (config_of d e) c.requires.safe).identities;
+  numbers =
+      let d = c.args.definition.now in
+      let e = c.args.engine.now in
+      subst (λ (ts : List Task). (world_of e.world).last_handler + to_connect ts ≤ greatest_handler) (c.in-Some.ensures.tasks d e.world.handlers.handlers) (view_numbers d (config_of d e) c.requires.safe).handlers;
   begun = c.in-Some.ensures.first c.args.engine.now.world.handlers.last c.requires.counted.connects.begun;
   counted =
       let d = c.args.definition.now in

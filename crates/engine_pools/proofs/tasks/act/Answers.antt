@@ -1,5 +1,5 @@
 use Rattle.std.proofs.Common.{Result, Ok, refl, ap, arith}
-use Rattle.ui_machine.specs.Rules.Build.{is_making, of_items}
+use Rattle.ui_machine.specs.Rules.Build.{is_connecting, is_making, of_items}
 use Rattle.ui_machine.specs.State.References.{in_task}
 use Rattle.std.specs.declared.alloc.AllocError.{AllocError}
 use Rattle.engine_world.proofs.Counts.{done_plain}
@@ -10,6 +10,7 @@ use Rattle.engine_world.proofs.Held.{counted_lives}
 use Rattle.engine_world.proofs.Rooms.{task_counted}
 use Rattle.engine_instructions.proofs.Creating.{making_from}
 use Rattle.engine_instructions.proofs.Whole.{leads_whole}
+use Rattle.engine_world.proofs.Signals.{bind_count, build_count}
 use Rattle.engine_pools.proofs.tasks.act.Goals as goal
 
 -- what was done
@@ -101,6 +102,29 @@ bind_from_build-requires-clause-able c = rw c.in-Binding.is at c.requires.able
 
 pub connect_from_build-requires-clause-able : goal.connect_from_build-requires-clause-able
 connect_from_build-requires-clause-able c = rw c.in-Connecting.is at c.requires.able
+
+pub build-requires-clause-numbers : goal.build-requires-clause-numbers
+build-requires-clause-numbers c =
+    let d = c.args.definition.now in
+    let e = c.args.engine.now in
+    let connects = ap (λ (t : code.Task). of_items is_connecting (task_in d e t)) c.in-Building.is in
+    let all = build_count d c.in-Building.place.0 c.in-Building.forwards in
+    omega (arith, c.requires.numbers, connects, all)
+
+pub bind_from_build-requires-clause-numbers : goal.bind_from_build-requires-clause-numbers
+bind_from_build-requires-clause-numbers c =
+    let d = c.args.definition.now in
+    let e = c.args.engine.now in
+    let connects = ap (λ (t : code.Task). of_items is_connecting (task_in d e t)) c.in-Binding.is in
+    let all = bind_count d c.in-Binding.number in
+    omega (arith, c.requires.numbers, connects, all)
+
+pub connect_from_build-requires-clause-numbers : goal.connect_from_build-requires-clause-numbers
+connect_from_build-requires-clause-numbers c =
+    let d = c.args.definition.now in
+    let e = c.args.engine.now in
+    let connects = ap (λ (t : code.Task). of_items is_connecting (task_in d e t)) c.in-Connecting.is in
+    omega (arith, c.requires.numbers, connects)
 
 pub pass_over-requires-clause-able : goal.pass_over-requires-clause-able
 pass_over-requires-clause-able c = rw c.in-Calling.is at c.requires.able

@@ -1,9 +1,10 @@
-use Rattle.std.proofs.Common.{◌≡◌, suc, ◌+◌, [], ◌∷◌, refl, ap, ◌∙◌, arith}
+use Rattle.std.proofs.Common.{◌≡◌, ◌≤◌, ◌<◌, suc, ◌+◌, List, [], ◌∷◌, refl, ap, ◌∙◌, arith}
 use Rattle.ui_machine.specs.Outcome.{Answer, ◌>>=◌}
-use Rattle.ui_machine.specs.Rules.Build.{building, with_signal}
+use Rattle.ui_machine.specs.Rules.Build.{building, is_connecting, with_signal}
 use Rattle.ui_machine.specs.Rules.Connections.{Connection}
 use Rattle.ui_machine.specs.State.Config.{Started, World, starts}
-use Rattle.ui_machine.specs.State.Tasks.{Building}
+use Rattle.ui_machine.specs.Seq.{total}
+use Rattle.ui_machine.specs.State.Tasks.{Building, Item}
 use Rattle.ui_machine.specs.Steps.{uncounted}
 use Rattle.signal_core.specs.Connected.{connection_of}
 use Rattle.engine_world.specs.TaskView.{agenda_of, connects_from}
@@ -36,7 +37,7 @@ returns-clause-step c =
     let start : Connection → Answer Started = λ (x : Connection). starts (with_signal w x) (Building items ∷ []) in
     let is : building d w (connects_from d c.args.place.0 c.args.number) ≡ starts (with_signal w meant) (Building items ∷ []) =
     ap (building d w) c.in-Some.ensures.next ∙ connects_attached d w at.place.0 at.number items
-    ∙ ap (λ (a : Answer Connection). a >>= start) c.in_ok-connection.ensures in
+    ∙ ap (λ (a : Answer Connection). a >>= start) c.in_ok-connection.ensures.attached in
     let pushed = c.in_ok-push_task.ensures.agenda d ∙ ap (λ k. Building (connects_from d at.place.0 k) ∷ rest) (let e : at.number + 1 ≡ suc at.number = omega arith in e) in
     let world = c.in_ok-connect_signal.ensures.world ∙ ap (λ (v : World). with_signal v meant) c.push_task.ensures.world in
     let agenda = c.in_ok-connect_signal.ensures.agenda ∙ pushed in
@@ -44,7 +45,14 @@ returns-clause-step c =
     ap (uncounted rest n) is ∙ rw (world, agenda, count) refl
 
 pub connect_signal-requires : goal.connect_signal-requires
-connect_signal-requires c = record { connects = c.in_ok-push_task.ensures.connects c.args.definition.now c.requires.connects }
+connect_signal-requires c = record {
+  by_builder = c.in_ok-connection.ensures.by_builder;
+  connects = c.in_ok-push_task.ensures.connects c.args.definition.now c.requires.connects;
+  number =
+      let last = ap (λ (w : World). w.last_handler) c.push_task.ensures.world in
+      let one = ap (λ (items : List Item). total is_connecting items) c.in-Some.ensures.next in
+      omega (arith, c.requires.numbers, last, one);
+}
 
 pub returns-clause-counted : goal.returns-clause-counted
 returns-clause-counted c =

@@ -4,7 +4,7 @@ use Rattle.ui_machine.specs.State.References.{in_object}
 use Rattle.engine_world.specs.View.{held_of}
 use Rattle.engine_world.specs.TaskView.{agenda_of}
 use Rattle.engine_world.proofs.Counts.{keeps_by, beside_of, to_counted, from_counted, stays}
-use Rattle.engine_world.proofs.Held.{newest_lives}
+use Rattle.instance_tables.proofs.Born.{newest_lives}
 use Rattle.engine_world.proofs.objects.create_object.Goals as goal
 
 pub returns-clause-live : goal.returns-clause-live

@@ -16,7 +16,7 @@ loop-number-preserved c =
       within = ap capped c.capped_sum-sum.ensures ∙ (capped_twice (c.loop-number.sum + c.value_of-cost.result) ∙ sym c.capped_sum-sum.ensures);
       so_far = λ f gives.
           sum_goes_on c.loop-number.sum (c.value_of-cost.result) c.capped_sum-sum.result (total f (drop (n + 1) (channels_of c.args.all.now))) (f (channel_of x)) (capped (total f (channels_of c.args.all.now)))
-          c.capped_sum-sum.ensures (c.value_of-cost.ensures (λ y. capped (f y)) gives)
+          c.capped_sum-sum.ensures (c.value_of-cost.ensures.given (λ y. capped (f y)) gives)
           (ap (λ cs. capped (c.loop-number.sum + total f cs)) (sym parts) ∙ c.loop-number.invariant.so_far f gives);
     }
 

@@ -16,7 +16,7 @@ loop-number-preserved c =
       within = ap capped c.capped_sum-sum.ensures ∙ (capped_twice (c.loop-number.sum + c.capped_sum.result) ∙ sym c.capped_sum-sum.ensures);
       so_far = λ f gives.
           sum_goes_on c.loop-number.sum (c.capped_sum.result) c.capped_sum-sum.result (transfers_cost f (drop (n + 1) (channels_of c.args.all.now))) (1 + f (channel_of x)) (capped (transfers_cost f (channels_of c.args.all.now)))
-          c.capped_sum-sum.ensures (c.capped_sum.ensures ∙ (ap (λ m. capped (1 + m)) (c.value_of-cost.ensures (λ y. capped (f y)) gives) ∙ capped_one (f (channel_of x))))
+          c.capped_sum-sum.ensures (c.capped_sum.ensures ∙ (ap (λ m. capped (1 + m)) (c.value_of-cost.ensures.given (λ y. capped (f y)) gives) ∙ capped_one (f (channel_of x))))
           (ap (λ cs. capped (c.loop-number.sum + transfers_cost f cs)) (sym parts) ∙ c.loop-number.invariant.so_far f gives);
     }
 

@@ -4,9 +4,9 @@ use Rattle.graph_bounds.proofs.Sums.{value_at}
 use Rattle.definition_graph.specs.ChannelView.{channel_of}
 use Rattle.graph_bounds.proofs.by_channel.value_of.Goals as goal
 
-pub returns-in-Some : goal.returns-in-Some
-returns-in-Some c = λ f gives.
+pub returns-in-Some-clause-given : goal.returns-in-Some-clause-given
+returns-in-Some-clause-given c = λ f gives.
     value_at f c.args.channels.now c.args.values.now c.in-Some.number (channel_of c.args.channel.now) gives.same c.in-Some.ensures.found
 
-pub returns-in-None : goal.returns-in-None
-returns-in-None c = λ f gives. sym (gives.none (channel_of c.args.channel.now) c.in-None.ensures.none)
+pub returns-in-None-clause-given : goal.returns-in-None-clause-given
+returns-in-None-clause-given c = λ f gives. sym (gives.none (channel_of c.args.channel.now) c.in-None.ensures.none)

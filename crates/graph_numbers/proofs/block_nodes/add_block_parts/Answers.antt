@@ -1,10 +1,35 @@
-use Rattle.std.proofs.Common.{◌≡◌, ◌<◌, ◌+◌, ◌∙◌, ap, sym, drop, map, length, [], arith}
+use Rattle.std.proofs.Common.{◌<◌, ◌+◌, ◌∙◌, ap, sym, drop, map, length, ◌≤◌, subst, List, arith}
 use Rattle.graph_sketches.specs.View.{block_view, sketch_view}
 use Rattle.graph_numbers.specs.Columns.{with_nodes}
 use Rattle.graph_numbers.specs.Laid.{block_nodes_from, nodes_in_program}
-use Rattle.graph_numbers.proofs.Lists.{from_end, from_entry}
+use Rattle.graph_numbers.proofs.Lists.{from_end, from_entry, mapped_length}
 use Rattle.graph_numbers.proofs.Rows.{lays_program}
+use Rattle.std.specs.List.{AllByRecursion}
+use Rattle.graph_sketches.specs.Sketches.{SketchedBlock}
+use Rattle.graph_numbers.proofs.Small.{at_entry}
 use Rattle.graph_numbers.proofs.block_nodes.add_block_parts.Goals as goal
+
+pub add_parts-requires-clause-few : goal.add_parts-requires-clause-few
+add_parts-requires-clause-few c =
+    let x = c.index-programs-number.result in
+    let raw = c.as_slice-programs.result.now in
+    let all = subst (λ ps. AllByRecursion (λ (bs : List SketchedBlock). length bs ≤ 64) (map (λ v. map block_view v.items) ps)) (sym c.as_slice-programs.ensures.value)
+    c.requires.small.blocks in
+    let few = at_entry (λ (bs : List SketchedBlock). length bs ≤ 64) (λ v. map block_view v.items) raw c.loop-number.number x all
+    (omega (arith, c.loop-number-test.true)) c.index-programs-number.is in
+    let m = mapped_length block_view x.items in
+    let e = ap (λ xs. length xs) c.as_slice.ensures.value in
+    omega (arith, few, m, e)
+
+pub add_parts-requires-clause-short : goal.add_parts-requires-clause-short
+add_parts-requires-clause-short c =
+    let x = c.index-programs-number.result in
+    let raw = c.as_slice-programs.result.now in
+    let all = subst (λ ps. AllByRecursion (λ (bs : List SketchedBlock). AllByRecursion (λ (b : SketchedBlock). length b.starts ≤ 512) bs) (map (λ v. map block_view v.items) ps))
+    (sym c.as_slice-programs.ensures.value) c.requires.small.instructions in
+    subst (λ xs. AllByRecursion (λ (b : SketchedBlock). length b.starts ≤ 512) (map block_view xs)) (sym c.as_slice.ensures.value)
+    (at_entry (λ (bs : List SketchedBlock). AllByRecursion (λ (b : SketchedBlock). length b.starts ≤ 512) bs) (λ v. map block_view v.items) raw c.loop-number.number x all
+    (omega (arith, c.loop-number-test.true)) c.index-programs-number.is)
 
 pub loop-number-preserved : goal.loop-number-preserved
 loop-number-preserved c =

@@ -1,11 +1,18 @@
-use Rattle.std.proofs.Common.{◌≡◌, ◌<◌, ◌+◌, ◌∙◌, sym, ap, drop, map, length, arith}
-use Rattle.graph_sketches.specs.View.{block_view, channel_view, sketch_view, start_view}
+use Rattle.std.proofs.Common.{◌<◌, ◌+◌, ◌∙◌, sym, ap, drop, map, length, ◌≤◌, arith}
+use Rattle.graph_sketches.specs.View.{block_view, sketch_view}
 use Rattle.graph_numbers.specs.Columns.{with_node, with_nodes}
 use Rattle.graph_numbers.specs.Laid.{numbered}
 use Rattle.graph_numbers.proofs.Lists.{from_end, from_entry, mapped_length}
 use Rattle.graph_numbers.proofs.Rows.{all_laid, lays}
 use Rattle.graph_numbers.specs.Laid.{block_part_node}
+use Rattle.graph_sketches.specs.Sketches.{SketchedBlock}
+use Rattle.graph_numbers.proofs.Small.{at_entry}
 use Rattle.graph_numbers.proofs.block_nodes.add_parts.Goals as goal
+
+pub add_part-requires-clause-short : goal.add_part-requires-clause-short
+add_part-requires-clause-short c =
+    at_entry (λ (b : SketchedBlock). length b.starts ≤ 512) block_view c.args.blocks.now c.loop-number.number c.index-blocks-number.result c.requires.short
+    (omega (arith, c.loop-number-test.true)) c.index-blocks-number.is
 
 pub loop-number-preserved : goal.loop-number-preserved
 loop-number-preserved c =

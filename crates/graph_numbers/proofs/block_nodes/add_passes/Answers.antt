@@ -1,9 +1,8 @@
-use Rattle.std.proofs.Common.{◌≡◌, ◌∙◌, sym, refl, ap, ◌+◌, ◌*◌, ◌-◌, ◌<◌, ◌∷◌, [], ◌++◌, true, false, cond, not, map, length, take, drop, suc, None, Some, slice_index_or, arith}
-use Rattle.graph_sketches.specs.Numbered.{passes_node, start, starts_of, sum_of}
-use Rattle.graph_sketches.specs.View.{block_view, channel_view, sketch_view, start_view}
-use Rattle.graph_numbers.specs.Columns.{linked}
-use Rattle.graph_numbers.specs.Counts.{Counts, at, at_in}
-use Rattle.graph_numbers.proofs.Edges.{added_there, built, built_alone, linked_none, then_linked, there_is}
+use Rattle.std.proofs.Common.{◌≡◌, ◌∙◌, ap, ◌*◌, ◌-◌, length, take}
+use Rattle.graph_sketches.specs.Numbered.{passes_node, starts_of, sum_of}
+use Rattle.graph_sketches.specs.View.{block_view, sketch_view}
+use Rattle.graph_numbers.specs.Counts.{at_in}
+use Rattle.graph_numbers.proofs.Edges.{built}
 use Rattle.law_typing.specs.Graph.Costs.{before_last}
 use Rattle.graph_numbers.proofs.Lists.{before_is}
 use Rattle.graph_numbers.proofs.block_nodes.add_passes.Goals as goal
@@ -17,6 +16,6 @@ returns c =
     let are : starts ≡ before_last b.starts = c.before_last-starts.ensures ∙ (ap (λ xs. take (length xs - 1) xs) c.as_slice.ensures.value ∙ before_is b.starts) in
     built c.args.nodes.now c.add.new.self c.link_starts.new.nodes y c.sum_of.result c.greatest_of.result (starts_of s (at_in s) starts)
     c.in_ok-add.ensures
-    (c.sum_of.ensures ∙ (ap (sum_of b.passes) (c.in-Some.ensures.1 ∙ ap (λ m. m * length starts) c.from.ensures)
+    (c.sum_of.ensures ∙ (ap (sum_of b.passes) (ap (λ m. m * length starts) c.from.ensures)
     ∙ ap (λ xs. sum_of b.passes (b.passes * length xs)) are))
     c.greatest_of.ensures c.in_ok-link_starts.ensures (ap (starts_of s (at_in s)) are)

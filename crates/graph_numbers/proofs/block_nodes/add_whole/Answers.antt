@@ -1,17 +1,27 @@
-use Rattle.std.proofs.Common.{◌≡◌, ◌∙◌, sym, refl, ap, ◌+◌, ◌*◌, ◌-◌, ◌<◌, ◌∷◌, [], ◌++◌, true, false, cond, not, map, length, take, drop, suc, None, Some, slice_index_or, arith}
-use Rattle.graph_sketches.specs.Numbered.{block_node, next, passes, start, starts_of, sum_of}
-use Rattle.graph_sketches.specs.View.{block_view, channel_view, sketch_view, start_view}
-use Rattle.graph_numbers.specs.Columns.{linked}
+use Rattle.std.proofs.Common.{◌≡◌, ◌∙◌, sym, ap, ◌-◌, ◌∷◌, [], false, length, drop, subst, ◌≤◌, arith}
+use Rattle.graph_sketches.specs.Numbered.{block_node, next, passes, starts_of, sum_of}
+use Rattle.graph_sketches.specs.View.{block_view, sketch_view}
 use Rattle.graph_numbers.specs.Counts.{Counts, at, at_in}
-use Rattle.graph_numbers.proofs.Edges.{added_there, built, built_alone, linked_none, then_linked, there_is}
+use Rattle.graph_numbers.proofs.Edges.{added_there, built, then_linked, there_is}
 use Rattle.law_typing.specs.Graph.Costs.{only_last}
 use Rattle.graph_numbers.proofs.Lists.{last_is}
+use Rattle.graph_numbers.proofs.Small.{few, next_fits, passes_fits}
 use Rattle.graph_numbers.proofs.block_nodes.add_whole.Goals as goal
 
-pub link-requires-2 : goal.link-requires-2
-link-requires-2 c =
+pub link-requires-clause-fits : goal.link-requires-clause-fits
+link-requires-clause-fits c =
+    subst (λ n. n ≤ 4_294_967_295) (sym c.passes.ensures)
+    (passes_fits c.args.layout.now (few c.args.layout.now (sketch_view c.args.sketch.now) c.requires.counted c.requires.small) c.args.program c.args.number (omega (arith, c.requires.few)))
+
+pub link-requires-2-clause-node : goal.link-requires-2-clause-node
+link-requires-2-clause-node c =
     there_is c.add.new.self c.link.new.self (c.passes.result ∷ []) c.in_ok-link.ensures
     (added_there c.args.nodes.now c.add.new.self c.sum_of.result c.greatest_of.result false c.in_ok-add.ensures)
+
+pub link-requires-2-clause-fits : goal.link-requires-2-clause-fits
+link-requires-2-clause-fits c =
+    subst (λ n. n ≤ 4_294_967_295) (sym c.next.ensures)
+    (next_fits c.args.layout.now (few c.args.layout.now (sketch_view c.args.sketch.now) c.requires.counted c.requires.small) c.args.program c.args.number (omega (arith, c.requires.few)))
 
 pub link_starts-requires-clause-node : goal.link_starts-requires-clause-node
 link_starts-requires-clause-node c =

@@ -1,11 +1,23 @@
-use Rattle.std.proofs.Common.{◌≡◌, ◌<◌, ◌+◌, ◌∙◌, ap, drop, map, length, arith}
-use Rattle.graph_sketches.specs.View.{block_view, channel_view, sketch_view, start_view}
-use Rattle.graph_numbers.specs.Columns.{with_node, with_nodes}
+use Rattle.std.proofs.Common.{◌≡◌, ◌<◌, ◌+◌, ◌∙◌, ap, drop, map, length, subst, Some, slice_get, arith}
+use Rattle.graph_sketches.specs.View.{channel_view, sketch_view}
+use Rattle.graph_numbers.specs.Columns.{with_nodes}
 use Rattle.graph_numbers.specs.Laid.{numbered}
 use Rattle.graph_numbers.proofs.Lists.{from_end, from_entry}
 use Rattle.graph_numbers.proofs.Rows.{all_laid, lays}
 use Rattle.graph_numbers.specs.Laid.{channel_node}
+use Rattle.graph_numbers.specs.Counts.{Counts}
+use Rattle.graph_numbers.proofs.Small.{other_end_low, seen_at}
 use Rattle.graph_numbers.proofs.channel_nodes.add_channel_parts.Goals as goal
+
+pub add_part-requires-clause-other : goal.add_part-requires-clause-other
+add_part-requires-clause-other c =
+    let n = c.loop-number.number in
+    let x = c.index-channels-number.result in
+    let s = sketch_view c.args.sketch.now in
+    let here = seen_at channel_view c.as_slice-channels.result.now n x (omega (arith, c.loop-number-test.true)) c.index-channels-number.is in
+    other_end_low s n c.args.layout.now.channels (channel_view x) c.requires.ends
+    (subst (λ xs. slice_get (map channel_view xs) n ≡ Some (channel_view x)) c.as_slice-channels.ensures.value here)
+    (ap (λ (k : Counts). k.channels) c.requires.counted)
 
 pub loop-number-preserved : goal.loop-number-preserved
 loop-number-preserved c =

@@ -1,10 +1,15 @@
-use Rattle.std.proofs.Common.{◌≡◌, ◌∙◌, sym, refl, ap, ◌+◌, ◌∷◌, [], ◌++◌, cond, map, length, suc}
+use Rattle.std.proofs.Common.{◌∙◌, sym, ap, ◌∷◌, [], subst, ◌≤◌}
 use Rattle.graph_sketches.specs.Numbered.{end_of, own}
-use Rattle.graph_sketches.specs.View.{block_view, channel_view, sketch_view, start_view}
+use Rattle.graph_sketches.specs.View.{sketch_view}
 use Rattle.graph_numbers.specs.Columns.{linked}
 use Rattle.graph_numbers.specs.Counts.{Counts, at, at_in}
-use Rattle.graph_numbers.proofs.Edges.{added_there, built, built_alone, linked_none, then_linked, there_is}
+use Rattle.graph_numbers.proofs.Edges.{then_linked, there_is}
+use Rattle.graph_numbers.proofs.Small.{few, own_fits}
 use Rattle.graph_numbers.proofs.channel_nodes.link_ends.Goals as goal
+
+pub link-requires-clause-fits : goal.link-requires-clause-fits
+link-requires-clause-fits c =
+    subst (λ n. n ≤ 4_294_967_295) (sym c.own.ensures) (own_fits c.args.layout.now (few c.args.layout.now (sketch_view c.args.sketch.now) c.requires.counted c.requires.small) c.args.number c.requires.there)
 
 pub link_other-requires-clause-node : goal.link_other-requires-clause-node
 link_other-requires-clause-node c = there_is c.args.nodes.now c.link.new.self (c.own.result ∷ []) c.in_ok-link.ensures c.requires.node

@@ -1,10 +1,16 @@
-use Rattle.std.proofs.Common.{◌≡◌, ◌∙◌, sym, refl, ap, ◌+◌, ◌*◌, ◌-◌, ◌<◌, ◌∷◌, [], ◌++◌, true, false, cond, not, map, length, take, drop, suc, None, Some, slice_index_or, arith}
+use Rattle.std.proofs.Common.{◌∙◌, sym, ap, ◌<◌, subst, ◌≤◌, IfSome}
 use Rattle.graph_sketches.specs.Numbered.{end_of}
-use Rattle.graph_sketches.specs.View.{block_view, channel_view, sketch_view, start_view}
+use Rattle.graph_sketches.specs.View.{sketch_view}
 use Rattle.graph_numbers.specs.Columns.{linked}
-use Rattle.graph_numbers.specs.Counts.{Counts, at, at_in}
-use Rattle.graph_numbers.proofs.Edges.{added_there, built, built_alone, linked_none, then_linked, there_is}
+use Rattle.graph_numbers.specs.Counts.{at_in}
+use Rattle.graph_numbers.proofs.Edges.{linked_none}
+use Rattle.graph_numbers.proofs.Small.{few, own_fits}
 use Rattle.graph_numbers.proofs.channel_nodes.link_other.Goals as goal
+
+pub link-requires-clause-fits : goal.link-requires-clause-fits
+link-requires-clause-fits c =
+    let low = subst (λ o. IfSome o (λ n. n < c.args.layout.now.channels)) c.in-Some.is c.requires.other in
+    subst (λ n. n ≤ 4_294_967_295) (sym c.own.ensures) (own_fits c.args.layout.now (few c.args.layout.now (sketch_view c.args.sketch.now) c.requires.counted c.requires.small) c.in-Some.number low)
 
 pub returns-in-None : goal.returns-in-None
 returns-in-None c =

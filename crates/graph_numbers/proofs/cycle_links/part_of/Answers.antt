@@ -1,17 +1,17 @@
-use Rattle.std.proofs.Common.{◌≡◌, inl, inr, ◌⊎◌, ◌∙◌, sym, ap, ◌<◌, ◌≤◌, ◌+◌, ◌*◌, ◌-◌, length, arith}
+use Rattle.std.proofs.Common.{◌≡◌, inl, inr, ◌∙◌, ap, ◌+◌, ◌*◌, ◌-◌, length, arith}
 use Rattle.graph_sketches.specs.Numbered.{program}
 use Rattle.graph_numbers.specs.Counts.{Counts}
 use Rattle.graph_numbers.proofs.CycleParts.{sorted_at}
 use Rattle.graph_numbers.proofs.cycle_links.part_of.Goals as goal
 use Rattle.graph_numbers.proofs.cycle_links.part_of.Goals.{else-node-begin-via-then-node-begin+else-node-begin-2, else-node-begin-via-else-node-begin}
 
-pub returns-then-node-channel_count : goal.returns-then-node-channel_count
-returns-then-node-channel_count c = λ s handlers counted.
+pub returns-then-node-channel_count-clause-described : goal.returns-then-node-channel_count-clause-described
+returns-then-node-channel_count-clause-described c = λ s handlers counted.
     let n = ap (λ (x : Counts). x.channels) counted in
     (sorted_at s handlers c.args.node).channel (omega (arith, n, c.channel_count.ensures, c.if-node-channel_count.true))
 
-pub returns-then-node-begin-2 : goal.returns-then-node-begin-2
-returns-then-node-begin-2 c = λ s handlers counted.
+pub returns-then-node-begin-2-clause-described : goal.returns-then-node-begin-2-clause-described
+returns-then-node-begin-2-clause-described c = λ s handlers counted.
     let n = ap (λ (x : Counts). x.channels) counted in
     let m = ap (λ (x : Counts). x.groups) counted in
     let p = ap (λ (x : Counts). x.programs) counted in
@@ -20,8 +20,8 @@ returns-then-node-begin-2 c = λ s handlers counted.
     (omega (arith, begin, p, c.program_count.ensures, c.if-node-begin.true, c.if-node-begin-2.true))
     ∙ ap (λ k. program (c.args.node - k)) begin
 
-pub returns : goal.returns
-returns c = λ s handlers counted.
+pub returns-clause-described : goal.returns-clause-described
+returns-clause-described c = λ s handlers counted.
     let n = ap (λ (x : Counts). x.channels) counted in
     let m = ap (λ (x : Counts). x.groups) counted in
     let p = ap (λ (x : Counts). x.programs) counted in

@@ -1,13 +1,20 @@
-use Rattle.std.proofs.Common.{◌≡◌, ◌<◌, ◌+◌, ◌-◌, ap, ◌∙◌, ◌∷◌, [], arith}
+use Rattle.std.proofs.Common.{◌≡◌, ◌<◌, ◌+◌, ◌-◌, ap, ◌∙◌, ◌∷◌, [], sym, subst, ◌≤◌, arith}
 use Rattle.ui_machine.specs.Seq.{listed}
 use Rattle.graph_sketches.specs.Numbered.{block}
 use Rattle.graph_numbers.specs.Columns.{linked}
 use Rattle.graph_numbers.specs.Counts.{Counts, at}
 use Rattle.graph_numbers.proofs.Edges.{all_linked, goes_on, listed_all, next_listed, none_listed, there_is}
+use Rattle.graph_sketches.specs.View.{sketch_view}
+use Rattle.graph_numbers.proofs.Small.{block_fits, few}
 use Rattle.graph_numbers.proofs.links.link_blocks.Goals as goal
 
-pub link-requires : goal.link-requires
-link-requires c = c.loop-number.invariant.there
+pub link-requires-clause-node : goal.link-requires-clause-node
+link-requires-clause-node c = c.loop-number.invariant.there
+
+pub link-requires-clause-fits : goal.link-requires-clause-fits
+link-requires-clause-fits c =
+    subst (λ n. n ≤ 4_294_967_295) (sym c.block.ensures)
+    (block_fits c.args.layout.now (few c.args.layout.now (sketch_view c.args.sketch.now) c.requires.counted c.requires.small) c.args.program c.loop-number.number (omega (arith, c.requires.few, c.loop-number-test.true)))
 
 pub loop-number-preserved : goal.loop-number-preserved
 loop-number-preserved c =

@@ -7,8 +7,8 @@ use Rattle.graph_numbers.proofs.Edges.{all_linked, goes_on, next_mapped, there_i
 use Rattle.graph_numbers.proofs.Lists.{past_end}
 use Rattle.graph_numbers.proofs.links.link_channels.Goals as goal
 
-pub link-requires : goal.link-requires
-link-requires c = c.loop-number.invariant.there
+pub link-requires-clause-node : goal.link-requires-clause-node
+link-requires-clause-node c = c.loop-number.invariant.there
 
 pub loop-number-preserved : goal.loop-number-preserved
 loop-number-preserved c =
@@ -20,7 +20,7 @@ loop-number-preserved c =
     let here = first_of (slice_get s.channels x) x ∷ [] in
     let is : c.link.new.self ≡ linked c.loop-number.nodes here =
     c.in_ok-link.ensures
-    ∙ (ap (λ y. linked c.loop-number.nodes (y ∷ [])) c.whole.ensures ∙ ap (λ y. linked c.loop-number.nodes (y ∷ [])) c.first_of-first.ensures) in
+    ∙ (ap (λ y. linked c.loop-number.nodes (y ∷ [])) c.whole.ensures ∙ ap (λ y. linked c.loop-number.nodes (y ∷ [])) c.first_of-first.ensures.first) in
     record {
       there = there_is c.loop-number.nodes c.link.new.self here is c.loop-number.invariant.there;
       so_far = goes_on c.loop-number.nodes c.link.new.self here (nodes_of s (at_in s) (drop (n + 1) xs)) (nodes_of s (at_in s) (drop n xs))

@@ -1,17 +1,25 @@
-use Rattle.std.proofs.Common.{◌≡◌, ◌<◌, ◌+◌, ◌-◌, ap, ◌∙◌, cond, nat_lt, suc, drop, length, map, slice_index_or, ◌∷◌, [], arith}
+use Rattle.std.proofs.Common.{◌≡◌, ◌<◌, ◌+◌, ◌-◌, ap, ◌∙◌, cond, nat_lt, suc, drop, length, slice_index_or, ◌∷◌, [], sym, subst, ◌≤◌, arith}
 use Rattle.graph_sketches.specs.Numbered.{block, next_blocks}
-use Rattle.graph_sketches.specs.Pointwise.{inside}
 use Rattle.graph_numbers.specs.Columns.{linked}
 use Rattle.graph_numbers.specs.Counts.{Counts, at}
 use Rattle.graph_numbers.proofs.Edges.{all_linked, goes_on, next_seen, there_is}
 use Rattle.graph_numbers.proofs.Lists.{past_end}
+use Rattle.std.proofs.lemmas.Bool.{ltb-true}
+use Rattle.graph_sketches.specs.View.{sketch_view}
+use Rattle.graph_numbers.proofs.Small.{block_fits, few}
 use Rattle.graph_numbers.proofs.links.link_next.Goals as goal
 
 pub later-to-requires : goal.later-to-requires
 later-to-requires c = omega (arith, c.requires.there, c.ranges.count)
 
-pub link_if-requires : goal.link_if-requires
-link_if-requires c = c.loop-number.invariant.there
+pub link_if-requires-clause-node : goal.link_if-requires-clause-node
+link_if-requires-clause-node c = c.loop-number.invariant.there
+
+pub link_if-requires-clause-fits : goal.link_if-requires-clause-fits
+link_if-requires-clause-fits c = λ there.
+    let low = ltb-true c.later-to.result c.args.count there in
+    subst (λ n. n ≤ 4_294_967_295) (sym c.block.ensures)
+    (block_fits c.args.layout.now (few c.args.layout.now (sketch_view c.args.sketch.now) c.requires.counted c.requires.small) c.args.program c.later-to.result (omega (arith, c.requires.few, low)))
 
 pub loop-number-preserved : goal.loop-number-preserved
 loop-number-preserved c =

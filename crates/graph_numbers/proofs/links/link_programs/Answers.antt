@@ -1,14 +1,25 @@
-use Rattle.std.proofs.Common.{◌≡◌, ◌<◌, ◌+◌, ap, ◌∙◌, cond, nat_lt, drop, length, map, slice_index_or, ◌∷◌, [], arith}
+use Rattle.std.proofs.Common.{◌≡◌, ◌<◌, ◌+◌, ap, ◌∙◌, cond, nat_lt, drop, length, map, slice_index_or, ◌∷◌, [], sym, subst, ◌≤◌, arith}
 use Rattle.graph_sketches.specs.Numbered.{program}
 use Rattle.graph_sketches.specs.Pointwise.{inside}
 use Rattle.graph_numbers.specs.Columns.{linked}
 use Rattle.graph_numbers.specs.Counts.{Counts, at}
 use Rattle.graph_numbers.proofs.Edges.{all_linked, goes_on, next_inside, there_is}
 use Rattle.graph_numbers.proofs.Lists.{past_end}
+use Rattle.std.proofs.lemmas.Bool.{ltb-true}
+use Rattle.graph_sketches.specs.View.{sketch_view}
+use Rattle.graph_numbers.proofs.Small.{few, program_fits}
 use Rattle.graph_numbers.proofs.links.link_programs.Goals as goal
 
-pub link_if-requires : goal.link_if-requires
-link_if-requires c = c.loop-number.invariant.there
+pub link_if-requires-clause-node : goal.link_if-requires-clause-node
+link_if-requires-clause-node c = c.loop-number.invariant.there
+
+pub link_if-requires-clause-fits : goal.link_if-requires-clause-fits
+link_if-requires-clause-fits c = λ there.
+    let l = c.args.layout.now in
+    let x = slice_index_or c.args.programs.now c.loop-number.number 0 in
+    let low = ltb-true x c.program_count.result there in
+    subst (λ n. n ≤ 4_294_967_295) (sym c.program.ensures)
+    (program_fits l (few c.args.layout.now (sketch_view c.args.sketch.now) c.requires.counted c.requires.small) x (omega (arith, low, c.program_count.ensures)))
 
 pub loop-number-preserved : goal.loop-number-preserved
 loop-number-preserved c =

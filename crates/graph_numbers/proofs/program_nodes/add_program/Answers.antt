@@ -1,17 +1,25 @@
-use Rattle.std.proofs.Common.{◌≡◌, ◌∙◌, sym, refl, ap, ◌+◌, ◌*◌, ◌-◌, ◌<◌, ◌∷◌, [], ◌++◌, true, false, cond, not, map, length, take, drop, suc, None, Some, slice_index_or, arith}
+use Rattle.std.proofs.Common.{◌∙◌, sym, ap, ◌∷◌, [], ◌++◌, false, cond, not, map, length, subst, ◌≤◌, arith}
 use Rattle.graph_sketches.specs.Numbered.{block, blocks, first_block, program_node}
-use Rattle.graph_sketches.specs.View.{block_view, channel_view, sketch_view, start_view}
-use Rattle.graph_numbers.specs.Columns.{linked}
+use Rattle.graph_sketches.specs.View.{block_view, sketch_view}
 use Rattle.graph_numbers.specs.Counts.{Counts, at, at_in}
-use Rattle.graph_numbers.proofs.Edges.{added_there, built, built_alone, linked_none, then_linked, there_is}
+use Rattle.graph_numbers.proofs.Edges.{added_there, built, then_linked, there_is}
 use Rattle.std.specs.Bool.{◌==◌}
 use Rattle.graph_numbers.proofs.Lists.{first_is}
+use Rattle.graph_numbers.proofs.Small.{block_fits, blocks_fits, few}
 use Rattle.graph_numbers.proofs.program_nodes.add_program.Goals as goal
 
-pub link-requires : goal.link-requires
-link-requires c =
+pub link_if-requires-clause-fits : goal.link_if-requires-clause-fits
+link_if-requires-clause-fits c = λ there.
+    subst (λ n. n ≤ 4_294_967_295) (sym c.block.ensures) (block_fits c.args.layout.now (few c.args.layout.now (sketch_view c.args.sketch.now) c.requires.counted c.requires.small) c.args.number 0 (omega arith))
+
+pub link-requires-clause-node : goal.link-requires-clause-node
+link-requires-clause-node c =
     there_is c.add.new.self c.link_if.new.nodes (cond (not c.is_empty.result) (c.block.result ∷ []) []) c.in_ok-link_if.ensures
     (added_there c.args.nodes.now c.add.new.self c.sum_of.result c.greatest_of.result false c.in_ok-add.ensures)
+
+pub link-requires-clause-fits : goal.link-requires-clause-fits
+link-requires-clause-fits c =
+    subst (λ n. n ≤ 4_294_967_295) (sym c.blocks-2.ensures) (blocks_fits c.args.layout.now (few c.args.layout.now (sketch_view c.args.sketch.now) c.requires.counted c.requires.small) c.args.number c.requires.there)
 
 pub returns : goal.returns
 returns c =

@@ -1,11 +1,26 @@
-use Rattle.std.proofs.Common.{◌≡◌, ◌<◌, ◌+◌, ◌∙◌, ap, drop, map, length, arith}
-use Rattle.graph_sketches.specs.View.{block_view, channel_view, sketch_view, start_view}
+use Rattle.std.proofs.Common.{◌<◌, ◌+◌, ◌∙◌, ap, drop, map, length, ◌≤◌, sym, subst, List, arith}
+use Rattle.graph_sketches.specs.View.{block_view, sketch_view}
 use Rattle.graph_numbers.specs.Columns.{with_node, with_nodes}
 use Rattle.graph_numbers.specs.Laid.{numbered}
-use Rattle.graph_numbers.proofs.Lists.{from_end, from_entry}
+use Rattle.graph_numbers.proofs.Lists.{from_end, from_entry, mapped_length}
 use Rattle.graph_numbers.proofs.Rows.{all_laid, lays}
 use Rattle.graph_numbers.specs.Laid.{program_part_node}
+use Rattle.std.specs.List.{AllByRecursion}
+use Rattle.graph_sketches.specs.Sketches.{SketchedBlock}
+use Rattle.graph_numbers.proofs.Small.{at_entry}
 use Rattle.graph_numbers.proofs.program_nodes.add_programs.Goals as goal
+
+pub add_program_part-requires-clause-few : goal.add_program_part-requires-clause-few
+add_program_part-requires-clause-few c =
+    let x = c.index-programs-number.result in
+    let raw = c.as_slice-programs.result.now in
+    let all = subst (λ ps. AllByRecursion (λ (bs : List SketchedBlock). length bs ≤ 64) (map (λ v. map block_view v.items) ps)) (sym c.as_slice-programs.ensures.value)
+    c.requires.small.blocks in
+    let few = at_entry (λ (bs : List SketchedBlock). length bs ≤ 64) (λ v. map block_view v.items) raw c.loop-number.number x all
+    (omega (arith, c.loop-number-test.true)) c.index-programs-number.is in
+    let m = mapped_length block_view x.items in
+    let e = ap (λ xs. length xs) c.as_slice.ensures.value in
+    omega (arith, few, m, e)
 
 pub loop-number-preserved : goal.loop-number-preserved
 loop-number-preserved c =

@@ -1,12 +1,12 @@
-use Rattle.std.proofs.Common.{◌≡◌, ◌∙◌, sym, ap, subst, ◌<◌, ◌+◌, ◌++◌, ◌∷◌, drop, take, length, slice_index_or, arith}
+use Rattle.std.proofs.Common.{◌∙◌, ap, ◌+◌, ◌++◌, drop, take, slice_index_or}
 use Rattle.graph_numbers.specs.Laid.{laid}
-use Rattle.graph_numbers.specs.Links.{links_view, parts_at}
+use Rattle.graph_numbers.specs.Links.{parts_at}
 use Rattle.law_numbering.specs.Cycles.{links_of}
 use Rattle.graph_numbers.proofs.Lists.{from_number}
 use Rattle.graph_numbers.proofs.reckonings.reckon_cycle.Goals as goal
 
-pub returns : goal.returns
-returns c =
+pub returns-clause-comes : goal.returns-clause-comes
+returns-clause-comes c =
     let cycle = c.args.cycle.now in
     let first = c.in-Some.first in
     let rest = drop (first + 1) cycle ++ take first cycle in
@@ -19,6 +19,6 @@ returns c =
       ap (λ xs. xs ++ take first cycle) (from_number cycle first there.0),
       there.1,
       λ g s handlers counted.
-          c.in_ok-links.ensures g s handlers counted
+          c.in_ok-links.ensures.linked g s handlers counted
           ∙ ap (λ xs. links_of g (slice_index_or cycle first 0) (parts_at (laid s handlers) xs)) same,
     )

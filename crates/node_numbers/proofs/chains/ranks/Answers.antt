@@ -2,7 +2,7 @@ use Rattle.std.proofs.Common.{◌≡◌, ◌∙◌, sym, ap, subst, ◌+◌, ◌
 use Rattle.std.proofs.lemmas.Option.{slice_get-get_or}
 use Rattle.node_numbers.specs.Chains.{handed_on, step}
 use Rattle.node_numbers.specs.Numbers.{of_node}
-use Rattle.node_numbers.proofs.Handing.{Handed, all_handed, at_first, hands, leads_inside, one_at_most, read_there}
+use Rattle.node_numbers.proofs.Handing.{Handed, all_handed, at_first, few_handed, hands, leads_inside, one_at_most, read_there}
 use Rattle.node_numbers.proofs.chains.ranks.Goals as goal
 
 pub loop-behind-init : goal.loop-behind-init
@@ -69,7 +69,12 @@ loop-behind-preserved c =
     (hands counts c.args.dependencies.now order ranks c.loop-behind.behind place node c.edges.result.now c.requires.order c.loop-behind.invariant at
     (slice_get-get_or order place 0 within) c.edges.ensures)
 
-pub returns : goal.returns
-returns c =
+pub returns-clause-ranked : goal.returns-clause-ranked
+returns-clause-ranked c =
     all_handed c.args.counts.now c.args.dependencies.now c.args.order.now c.loop-behind.ranks.items c.loop-behind.behind c.requires.order
     c.loop-behind.invariant c.loop-behind-test.false
+
+pub returns-clause-few : goal.returns-clause-few
+returns-clause-few c =
+    few_handed c.args.counts.now c.args.dependencies.now c.args.order.now c.loop-behind.ranks.items c.loop-behind.behind c.requires.order
+    c.loop-behind.invariant c.loop-behind.auto.behind-end

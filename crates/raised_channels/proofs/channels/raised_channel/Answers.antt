@@ -2,6 +2,7 @@ use Rattle.std.proofs.Common.{◌≡◌, ◌∙◌, sym, ap, subst, ℕ, ◌<◌
 use Rattle.std.specs.Global.{Global}
 use Rattle.std.specs.List.{filter_map}
 use Rattle.std.proofs.lemmas.Option.{same_Some}
+use Rattle.definition_format.specs.Origin.{IsDenoted}
 use Rattle.law_typing.specs.Graph.{class_handler_for}
 use Rattle.law_typing.specs.Graph.Channels.{Channel, of_class}
 use Rattle.law_typing.specs.Rules.RegisterKinds.{class_at}
@@ -13,7 +14,22 @@ use Rattle.raised_channels.specs.Raised.{RunsAt}
 use Rattle.raised_channels.specs.Transfers.{list_at}
 use Rattle.raised_channels.specs.declared.connections.PlacedGroup.{PlacedGroup}
 use Rattle.raised_channels.proofs.MeantLists.{got, place_is, read_mapped}
+use Rattle.raised_channels.proofs.TransferLists.{few_targets}
 use Rattle.raised_channels.proofs.channels.raised_channel.Goals as goal
+
+pub overflow_cast-result : goal.overflow_cast-result
+overflow_cast-result c =
+    let d = c.args.lookups.now in
+    let n = c.args.number in
+    let all = c.args.numbers.now in
+    let lists = c.args.parts.now.transfers.items in
+    let channel = channel_of c.channel-channel.result in
+    let within : n < length lists = omega (arith, c.requires.within, c.requires.targets) in
+    let targets = c.as_slice-targets.ensures.value ∙ sym (read_mapped (λ (v : Vec (Option ℕ) Global). v.items) lists n c.index.result.now (got lists n c.index.result.now within c.index.ensures)) in
+    let are = ap length (targets ∙ c.requires.transfers n channel c.channel-channel.ensures) in
+    let denoted = subst IsDenoted c.definition.ensures c.types-types.ensures.denoted in
+    let short = c.lengths.ensures d denoted in
+    omega (arith, are, few_targets all channel d.bindings, short.bindings)
 
 pub returns : goal.returns
 returns c e at =

@@ -1,4 +1,4 @@
-use Rattle.std.proofs.Common.{map, take}
+use Rattle.std.proofs.Common.{◌+◌, ◌*◌, ◌≤◌, length, map, take}
 use Rattle.graph_sketches.specs.View.{block_view as sketched_view}
 use Rattle.started_channels.specs.SketchedCode.{ArePrograms}
 use Rattle.started_channels.specs.Tables.{IsTable, starts_in}
@@ -7,5 +7,7 @@ use Rattle.started_channels.proofs.programs.all_programs.Given as goal
 abbrev pub invariant-loop-number : goal.invariant-loop-number
 invariant-loop-number l = record {
   table : IsTable l.lookups l.numbers l.starts;
+  few : length l.starts.starts.items ≤ 1 + 512 * l.number;
+  within : l.number ≤ 256;
   programs : ArePrograms l.lookups l.numbers (starts_in l.starts) (map (λ v. map sketched_view v.items) l.programs.items) (take l.number l.lookups.programs);
 }

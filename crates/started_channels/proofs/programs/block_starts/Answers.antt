@@ -21,7 +21,8 @@ loop-at-init c =
     let whole = sketched_code d all p (kinds_of entry) code in
     let e : c.in_ok-kinds.kinds.items ≡ entry = c.in_ok-kinds.ensures ∙ c.as_slice.ensures.value in
     record {
-      goes_on = goes_on_not d all c.args.starts.now c.requires;
+      goes_on = goes_on_not d all c.args.starts.now c.requires.table;
+      few = omega arith;
       so_far =
           subst (λ (ns : List ℕ). SoFar d all p starts ns (kinds_of c.in_ok-kinds.kinds.items) code whole) (sym c.new-found.ensures.items)
           (subst (λ (ks : List RegisterKind). SoFar d all p starts [] (kinds_of ks) code whole) (sym e) (none_so_far d all p starts (kinds_of entry) code));
@@ -41,6 +42,7 @@ loop-at-preserved c =
     record {
       goes_on =
           goes_on_both d all c.args.starts.now c.loop-at.starts c.number.new.self c.loop-at.invariant.goes_on c.in_ok-number.ensures.goes_on;
+      few = omega (arith, c.in_ok-number.ensures.few);
       so_far =
           one_so_far d all p (starts_in c.loop-at.starts) (starts_in c.number.new.self) c.loop-at.found.items c.push.new.self.items c.in_ok-number.number ks
           (kinds_of c.go_after.new.kinds.items) (drop at (map instruction_view code)) (drop (at + 1) (map instruction_view code)) (instruction_view i)
@@ -58,6 +60,7 @@ returns c =
     let at = c.loop-at.at in
     record {
       goes_on = c.loop-at.invariant.goes_on;
+      few = omega (arith, c.len-at-end.ensures, c.args.block.now.code.ok.0);
       starts =
           all_so_far d all p (starts_in c.loop-at.starts) c.loop-at.found.items (kinds_of c.loop-at.kinds.items) (drop at (map instruction_view code))
           (sketched_code d all p (block_view c.args.block.now).entry (block_view c.args.block.now).code) c.loop-at.invariant.so_far

@@ -1,4 +1,4 @@
-use Rattle.std.proofs.Common.{drop, map}
+use Rattle.std.proofs.Common.{◌+◌, ◌≤◌, drop, length, map}
 use Rattle.bytecode.specs.View.{block_view, instruction_view, program_view}
 use Rattle.operand_types.specs.Views.{kinds_of}
 use Rattle.started_channels.specs.SketchedCode.{sketched_code}
@@ -9,6 +9,7 @@ use Rattle.started_channels.proofs.programs.block_starts.Given as goal
 abbrev pub invariant-loop-at : goal.invariant-loop-at
 invariant-loop-at l = record {
   goes_on : GoesOn l.lookups l.numbers l.initial.starts l.starts;
+  few : length l.starts.starts.items ≤ length l.initial.starts.starts.items + l.at;
   so_far :
       SoFar l.lookups l.numbers (program_view l.program) (starts_in l.starts) l.found.items (kinds_of l.kinds.items) (drop l.at (map instruction_view l.block.code.items))
       (sketched_code l.lookups l.numbers (program_view l.program) (block_view l.block).entry (block_view l.block).code);

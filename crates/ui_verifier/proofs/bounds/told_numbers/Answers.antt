@@ -7,13 +7,14 @@ use Rattle.law_typing.specs.Graph.Costs.{node_cost}
 use Rattle.law_typing.specs.Graph.Tables.{entry, greatest}
 use Rattle.law_typing.specs.Laws.Capped.{capped}
 use Rattle.law_numbering.specs.Tables.{value_of}
-use Rattle.node_numbers.specs.Numbers.{of_node}
+use Rattle.node_numbers.specs.Numbers.{AreWithin, of_node}
 use Rattle.graph_sketches.specs.Numbered.{program}
 use Rattle.graph_sketches.specs.View.{channel_view, sketch_view}
 use Rattle.graph_numbers.specs.Counts.{Counts, at, at_in}
 use Rattle.graph_numbers.proofs.Lists.{mapped_length}
 use Rattle.graph_bounds.specs.ByChannel.{Gives, GivesCapped, build_cost, makings_depth}
 use Rattle.ui_verifier.specs.Bounds.{with_objects}
+use Rattle.ui_verifier.proofs.FewNumbers.{within_listed}
 use Rattle.ui_verifier.proofs.ToldNumbers.{bounds_are, by_cost, by_depth, cost_list, costs_are, depth_is, depth_list, depths_are, gives_costs, gives_depths, ranks_are, sources_are}
 use Rattle.ui_verifier.proofs.bounds.told_numbers.Goals as goal
 
@@ -30,8 +31,35 @@ build_bound-requires c =
     ∙ (mapped_length (λ (x : Channel). capped (node_cost (graph d) (by_cost d s n c.requires.sketched c.requires.reckoned) x)) (channels d)
     ∙ ap (λ cs. length cs) (sym c.requires.known))
 
-pub depth_of-requires : goal.depth_of-requires
-depth_of-requires c =
+pub ranks_of-requires : goal.ranks_of-requires
+ranks_of-requires c =
+    let s = sketch_view c.args.sketch.now in
+    let n = c.args.nodes.now in
+    let count = length c.args.sketch.now.channels.items in
+    subst (λ xs. AreWithin xs 4_294_967_294)
+    (sym (c.as_slice-5.ensures.value ∙ (c.in_ok-ranks.ensures ∙ ap (λ vs. listed (value_of s (at_in s) vs) count) c.as_slice-2.ensures.value)))
+    (within_listed (value_of s (at_in s) n.ranks.items) count 4_294_967_294 (λ i. c.requires.few.ranks _))
+
+pub depth_of-requires-clause-few : goal.depth_of-requires-clause-few
+depth_of-requires-clause-few c =
+    let s = sketch_view c.args.sketch.now in
+    let n = c.args.nodes.now in
+    let count = length c.args.sketch.now.channels.items in
+    subst (λ xs. AreWithin xs 2_147_483_648)
+    (sym (c.as_slice-10.ensures.value ∙ (c.in_ok-depths.ensures ∙ ap (λ vs. listed (value_of s (at_in s) vs) count) c.as_slice-3.ensures.value)))
+    (within_listed (value_of s (at_in s) n.depths.items) count 2_147_483_648 (λ i. c.requires.few.depths _))
+
+pub depth_of-requires-clause-programs : goal.depth_of-requires-clause-programs
+depth_of-requires-clause-programs c =
+    let l = c.args.layout.now in
+    let n = c.args.nodes.now in
+    let count = length c.args.lookups.now.programs in
+    subst (λ xs. AreWithin xs 2_147_483_648)
+    (sym (c.as_slice-11.ensures.value ∙ (c.in_ok-programs.ensures ∙ ap (λ vs. listed (λ p. of_node vs (at l (program p))) count) c.as_slice-4.ensures.value)))
+    (within_listed (λ p. of_node n.depths.items (at l (program p))) count 2_147_483_648 (λ p. c.requires.few.depths (at l (program p))))
+
+pub depth_of-requires-clause-count : goal.depth_of-requires-clause-count
+depth_of-requires-clause-count c =
     let d = c.args.lookups.now in
     let s = sketch_view c.args.sketch.now in
     let n = c.args.nodes.now in

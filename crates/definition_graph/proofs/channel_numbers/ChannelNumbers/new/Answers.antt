@@ -10,7 +10,7 @@ pub invariant_of-result : goal.invariant_of-result
 invariant_of-result c = (
   rw c.as_slice.ensures.value at c.in_ok-numbers.ensures,
   record {
-    once = subst (λ (cs : List Channel). IsOnce cs) (sym c.in_ok-channels.ensures) (channels_once c.args.lookups.now);
-    few = (let e = length-map c.in_ok-channels.channels.items channel_of in omega (arith, e));
+    once = subst (λ (cs : List Channel). IsOnce cs) (sym c.in_ok-channels.ensures.channels) (channels_once c.args.lookups.now);
+    few = (let e = length-map c.in_ok-channels.channels.items channel_of in omega (arith, e, c.in_ok-channels.ensures.few));
   },
 )

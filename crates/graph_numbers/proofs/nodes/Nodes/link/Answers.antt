@@ -6,5 +6,4 @@ use Rattle.graph_numbers.proofs.nodes.Nodes.link.Goals as goal
 pub returns : goal.returns
 returns c =
     let h = c.in_ok-add_edge.ensures.ok in
-    let k = c.in-Ok.ensures.1 in
-    rw (h, grown_one c.self.inside.dependencies c.in-Ok.to, k) (ap (λ x. linked x (c.args.to ∷ [])) c.self.view_is)
+    rw (h, grown_one c.self.inside.dependencies c.args.to) (ap (λ x. linked x (c.args.to ∷ [])) c.self.view_is)

@@ -22,6 +22,7 @@ loop-at-preserved c =
     let next = listed_if (connection_of d ks (instruction_view i)) in
     record {
       places = c.in_ok-add_instruction.ensures.places;
+      few = omega (arith, c.in_ok-add_instruction.ensures.few, c.loop-at.invariant.few);
       so_far =
           one_so_far d c.args.self.now c.loop-at.self c.add_instruction.new.self (code_connections d p ks (drop at (map instruction_view code)))
           (code_connections d p (kinds_of c.go_after.new.kinds.items) rest) (code_connections d p (block_view c.args.block.now).entry (block_view c.args.block.now).code) next

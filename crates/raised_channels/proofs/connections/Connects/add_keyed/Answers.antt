@@ -25,5 +25,5 @@ returns-clause-more c ns are =
     let detail = option_map string_bytes c.args.connection.now.detail in
     let last : Connects = record { groups = c.add.new.self.groups; at = c.add.new.self.at; numbers = c.insert.new.self } in
     let basic = subst IsBasic c.definition.ensures c.types-types.ensures.basic in
-    new_key d c.args.self.now c.add.new.self kind signal detail c.args.program c.in_ok-group.group c.in_ok-group.ensures basic ns last c.args.key are refl refl c.requires.key
+    new_key d c.args.self.now c.add.new.self kind signal detail c.args.program c.in_ok-group.group c.in_ok-group.ensures.adds basic ns last c.args.key are refl refl c.requires.key
     (λ k. c.in_ok-insert.ensures.updates.0 k)

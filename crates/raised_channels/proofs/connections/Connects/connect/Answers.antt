@@ -32,4 +32,4 @@ returns-in_ok-add-in-None-clause-more c =
     let detail = option_map string_bytes c.args.connection.now.detail in
     subst (λ (o : Option ℕ). ConnectsMore d c.args.self.now c.add.new.self (connection_over d kind signal detail o ∷ []))
     (c.in-Some.ensures ∙ ap (program_of d) c.as_str.ensures.value)
-    (new_group d c.args.self.now c.add.new.self kind signal detail c.in-Some.program c.in_ok-add-in-None.field-0 c.in_ok-add-in-None.ensures)
+    (new_group d c.args.self.now c.add.new.self kind signal detail c.in-Some.program c.in_ok-add-in-None.field-0 c.in_ok-add-in-None.ensures.adds)

@@ -8,7 +8,7 @@ use Rattle.started_channels.proofs.sketched_starts.SketchedStarts.add.Goals as g
 pub returns-clause-goes_on : goal.returns-clause-goes_on
 returns-clause-goes_on c =
     let new : SketchedStarts = record { starts = c.push.new.self; numbers = c.args.self.now.numbers } in
-    one_more c.args.lookups.now c.args.numbers.now c.args.self.now new c.in_ok-start.start c.requires
+    one_more c.args.lookups.now c.args.numbers.now c.args.self.now new c.in_ok-start.start c.requires.table
     (trigger_view c.args.trigger.now, c.in_ok-start.ensures) c.in_ok-push.ensures.items refl
 
 pub returns-clause-start : goal.returns-clause-start

@@ -7,7 +7,7 @@ use Rattle.ui_machine.specs.Runs.{Reaches, of_build}
 use Rattle.ui_machine.specs.State.Config.{Config, World}
 use Rattle.ui_machine.specs.State.Objects.{Object, living}
 use Rattle.ui_machine.specs.State.Peers.{Peer, Reply}
-use Rattle.law_identities.specs.Identities.{HasIdentities}
+use Rattle.law_left_numbers.specs.Identities.{HasIdentities}
 
 -- an object's children and its parent are among the first so many identities
 pub record KinMade (made : ℕ) (o : Object) : Type 0 where

@@ -1,4 +1,4 @@
--- What a task makes.
+-- What a task takes.
 use Rattle.std.proofs.Common.{◌≡◌, refl, ℕ, suc, ◌+◌, ◌≤◌, Bool, true, false, cond, not, List, [], ◌∷◌, ◌++◌, arith, Option, None, Some, Ok, Err, ◌&&◌, ◌||◌}
 use Rattle.std.specs.Prelude.{IfOk, nat_lt, slice_get}
 use Rattle.ui_machine.specs.declared.arm.Arm.TheVariants as arms
@@ -13,7 +13,7 @@ use Rattle.ui_machine.specs.Instructions.Peers.{called, calling_on, left_with, r
 use Rattle.ui_machine.specs.Outcome.{After, Answer, known, only_if}
 use Rattle.ui_machine.specs.Output.Lines as lines
 use Rattle.ui_machine.specs.Rules.Accumulation.{ending, given_to, in_stage, instance_of, passed_down, received, received_by, resulting, taken, running_handler, taking_entry, told}
-use Rattle.ui_machine.specs.Rules.Build.{building, building_child, building_forward, building_handler, building_object, connection, held_data, held_object, peer_for, set_forward, with_signal, with_binding, new_binding, building_binding, is_making, to_make}
+use Rattle.ui_machine.specs.Rules.Build.{building, building_child, building_forward, building_handler, building_object, connection, held_data, held_object, peer_for, set_forward, with_signal, with_binding, new_binding, building_binding}
 use Rattle.ui_machine.specs.Rules.Children.{adopted}
 use Rattle.ui_machine.specs.Rules.Connections.{Connection, detail_at, detail_in, is_too_late, signal_number, with_handler}
 use Rattle.ui_machine.specs.Rules.Construction.{apply_construct_property, constructed, constructing, given_value, making, thawing_made}
@@ -32,70 +32,71 @@ use Rattle.ui_machine.specs.State.Config.{Config, Left, Started, World, builder_
 use Rattle.ui_machine.specs.Seq.{total}
 use Rattle.ui_machine.specs.Instructions.Registers.{with_register}
 use Rattle.ui_machine.specs.State.Handlers.{Handler, handler_of}
-use Rattle.ui_machine.specs.State.Objects.{Objects, asked, changed, class_in, living, most_identities, with_value, object_at, value_at}
+use Rattle.ui_machine.specs.State.Objects.{Objects, asked, changed, class_in, living, with_value, object_at, value_at}
 use Rattle.ui_machine.specs.State.Peers.{Reply, method_of}
 use Rattle.ui_machine.specs.State.Sources.{source_of}
 use Rattle.ui_machine.specs.State.Tasks.{Answering, Beginning, Building, Call, Calling, ConstructStep, Constructing, Due, Emission, Emitting, Frame, Handling, Item, Notifying, PlanEntry, Request, Running, Setting, Task, Thawing, Transferring, Unsetting, adopts, binds, class_handler, connects, forwards, handler, makes, runs, sets, thaws}
 use Rattle.ui_machine.specs.State.Tasks as config
 use Rattle.ui_machine.specs.Steps.{act, counted, finalising, left, most_steps, sink_first_floating, uncounted}
 use Rattle.machine_laws.proofs.KeptProofs.{bind_keeps, cond_keeps, kept_at, only_keeps}
-use Rattle.law_identities.proofs.InstructionProofs.{running_kept}
-use Rattle.law_identities.proofs.KinProofs.{Made, adopted_made, finalised_made, thawed_made, written_made}
-use Rattle.law_identities.proofs.StartProofs.{Within, if_weaker, in_front_of, makes_one, more_room, raises_one, within, within_also}
+use Rattle.law_left_numbers.proofs.InstructionProofs.{running_kept}
+use Rattle.law_left_numbers.proofs.Counting.{Counting, Taken, adopted_taken, finalised_taken, thawed_taken, to_take, written_taken}
+use Rattle.law_left_numbers.proofs.StartProofs.{Within, if_weaker, in_front_of, makes_one, more_room, raises_one, within, within_also}
 
 -- ** what comes down
 
--- a program that is given a value makes nothing, as before
-received_same : (f : Frame) (rest : List Task) (to : ℕ) (v : Option Value) → IfOk (received_by f rest to v) (λ a. to_make a ≡ to_make (Running f ∷ rest))
-unfolding received_by
-received_same f rest to v = bind_keeps (with_register to v f.registers) _ _ (λ r _. refl)
+module _ (takes : Item → ℕ) where
+  -- a program that is given a value takes nothing, as before
+  received_same : (f : Frame) (rest : List Task) (to : ℕ) (v : Option Value) → IfOk (received_by f rest to v) (λ a. to_take takes a ≡ to_take takes (Running f ∷ rest))
+  unfolding received_by
+  received_same f rest to v = bind_keeps (with_register to v f.registers) _ _ (λ r _. refl)
 
-receives : (rest : List Task) (to : ℕ) (v : Option Value) → IfOk (received rest to v) (λ a. to_make a ≡ to_make rest)
-receives (Running f ∷ rest) to v = received_same f rest to v
-receives _ to v = tt
+  receives : (rest : List Task) (to : ℕ) (v : Option Value) → IfOk (received rest to v) (λ a. to_take takes a ≡ to_take takes rest)
+  receives (Running f ∷ rest) to v = received_same f rest to v
+  receives _ to v = tt
 
-takes_down : (into : Option ℕ) (f : Frame) (rest : List Task) (v : Option Value) → IfOk (taken into f rest v) (λ a. to_make a ≡ to_make (Running f ∷ rest))
-takes_down None f rest v = refl
-takes_down (Some to) f rest None = tt
-takes_down (Some to) f rest (Some v) = received_same f rest to (Some v)
+  takes_down : (into : Option ℕ) (f : Frame) (rest : List Task) (v : Option Value) → IfOk (taken into f rest v) (λ a. to_take takes a ≡ to_take takes (Running f ∷ rest))
+  takes_down None f rest v = refl
+  takes_down (Some to) f rest None = tt
+  takes_down (Some to) f rest (Some v) = received_same f rest to (Some v)
 
-passes : (rest : List Task) (v : Option Value) → IfOk (passed_down rest v) (λ a. to_make a ≡ to_make rest)
-passes (Running f ∷ rest) v = takes_down f.into f rest v
-passes rest v = refl
+  passes : (rest : List Task) (v : Option Value) → IfOk (passed_down rest v) (λ a. to_take takes a ≡ to_take takes rest)
+  passes (Running f ∷ rest) v = takes_down f.into f rest v
+  passes rest v = refl
 
 -- ** parts of a step
 
-module _ (d : Definition) (w : World) (n : ℕ) (made : Made n w.objects) (most : ℕ) (enough : most_identities ≤ most) where
+module _ (K : Counting) (d : Definition) (w : World) (n : ℕ) (holds : Taken K n w) where
   abbrev Kept : Started → Type 0
-  Kept s = Within n s.world s.tasks
+  Kept s = Within K n s.world s.tasks
 
   abbrev Leaves : Left → Type 0
-  Leaves l = Within most l.world l.agenda
+  Leaves l = Within K K.most l.world l.agenda
 
-  -- as many objects are there, and tasks that make none
-  same : (v : World) (tasks : List Task) → Made n v.objects → to_make tasks ≡ 0 → Within n v tasks
-  same v tasks made none = within n 0 n v tasks made none (omega arith)
+  -- as many were taken, and the tasks take none
+  same : (v : World) (tasks : List Task) → Taken K n v → to_take K.takes tasks ≡ 0 → Within K n v tasks
+  same v tasks holds none = within K n 0 n v tasks holds none (omega arith)
 
-  -- as many objects are there, and an agenda that makes as many as the rest
-  rests : (v : World) (rest agenda : List Task) → Made n v.objects → to_make agenda ≡ to_make rest → n + to_make rest ≤ most → Within most v agenda
-  rests v rest agenda made sum few = within n (to_make rest) most v agenda made sum few
+  -- as many were taken, and the agenda takes as many as the rest
+  rests : (v : World) (rest agenda : List Task) → Taken K n v → to_take K.takes agenda ≡ to_take K.takes rest → n + to_take K.takes rest ≤ K.most → Within K K.most v agenda
+  rests v rest agenda holds sum few = within K n (to_take K.takes rest) K.most v agenda holds sum few
 
   settable : (s : Spec) (a : Answer Started) → IfOk a Kept → IfOk (if_settable s a) Kept
   settable s a k = only_keeps (is_writable s) arms.Flags (only_if (not (is_construct_only s)) arms.ConstructOnly a) Kept (only_keeps (not (is_construct_only s)) arms.ConstructOnly a Kept k)
 
-  raises_if : (b : Bool) (v : World) → Made n v.objects → (id slot : ℕ) → IfOk (raising_if b v id slot) Kept
-  raises_if true v now id slot = raises_one n v now id slot
+  raises_if : (b : Bool) (v : World) → Taken K n v → (id slot : ℕ) → IfOk (raising_if b v id slot) Kept
+  raises_if true v now id slot = raises_one K n v now id slot
   raises_if false v now id slot = same v [] now refl
 
   writes : (id slot : ℕ) (s : Spec) (v : Value) → IfOk (written d w id slot s v) Kept
   unfolding written
   writes id slot s v = bind_keeps (changed w.objects id (with_value slot v)) _ Kept (λ r is.
-      raises_if (notifies s r.answer v) _ (kept_at (λ (r : After Objects Value). Made n r.state) (changed w.objects id (with_value slot v)) r (written_made n w.objects made id slot v) is) id slot)
+      raises_if (notifies s r.answer v) _ (kept_at (λ (r : After Objects Value). K.Holds n r.state w.last_handler) (changed w.objects id (with_value slot v)) r (written_taken K n w holds id slot v) is) id slot)
 
   settles : (id slot : ℕ) (s : Spec) (v valid : Value) → IfOk (settled d w id slot s v valid) Kept
   settles id slot s v valid =
       cond_keeps (same_value valid v || is_lax s) (written d w id slot s (without_disposed w.objects s valid)) (starts (said d w (lines.refused id s.name v)) []) Kept
-      (writes id slot s (without_disposed w.objects s valid)) (same _ _ made refl)
+      (writes id slot s (without_disposed w.objects s valid)) (same _ _ holds refl)
 
   sets_one : (id slot : ℕ) (v : Value) → IfOk (setting d w id slot v) Kept
   unfolding setting
@@ -105,60 +106,60 @@ module _ (d : Definition) (w : World) (n : ℕ) (made : Made n w.objects) (most 
 
   notifies_one : (id slot : ℕ) → IfOk (notifying d w id slot) Kept
   unfolding notifying
-  notifies_one id slot = bind_keeps (object_at w.objects id) _ Kept (λ o _. bind_keeps (known arms.Code (spec_of d o.class slot)) _ Kept (λ p _. bind_keeps (signal_at d o.class 0) _ Kept (λ s _. same _ _ made refl)))
+  notifies_one id slot = bind_keeps (object_at w.objects id) _ Kept (λ o _. bind_keeps (known arms.Code (spec_of d o.class slot)) _ Kept (λ p _. bind_keeps (signal_at d o.class 0) _ Kept (λ s _. same _ _ holds refl)))
 
   begins_emission : (e : Emission) → IfOk (beginning_emission d w e) Kept
   unfolding beginning_emission
   begins_emission e = bind_keeps (object_at w.objects e.object) _ Kept (λ o _. bind_keeps (signal_at d o.class e.signal) _ Kept (λ s _.
       only_keeps (all_fit (kind_fits (class_in w.objects) d.types) e.args s.params) arms.Argument
-      (starts (said d w (lines.emit e.object s.name e.detail e.args)) (Emitting e (emission_plan d w s o.class e) ∷ [])) Kept (same _ _ made refl)))
+      (starts (said d w (lines.emit e.object s.name e.detail e.args)) (Emitting e (emission_plan d w s o.class e) ∷ [])) Kept (same _ _ holds refl)))
 
   begins_program : (number : ℕ) (args : List Value) → IfOk (beginning_program d w number args) Kept
   unfolding beginning_program
   begins_program number args = bind_keeps (known arms.Code (program_at d number)) _ Kept (λ p _.
       only_keeps (all_fit (fits_register d w.objects) args p.params) arms.Parameters (starts (said d w (lines.run p.name)) (Running (first_frame number p args) ∷ [])) Kept
-      (same _ _ made refl))
+      (same _ _ holds refl))
 
-  runs_before : (number : ℕ) (args : List Value) (tasks : List Task) → to_make tasks ≡ 0 → IfOk (program_before d w number args tasks) Kept
+  runs_before : (number : ℕ) (args : List Value) (tasks : List Task) → to_take K.takes tasks ≡ 0 → IfOk (program_before d w number args tasks) Kept
   unfolding program_before
   runs_before number args tasks none = bind_keeps (beginning_program d w number args) _ Kept (λ s is.
-      within_also n s.world s.tasks tasks none (kept_at Kept (beginning_program d w number args) s (begins_program number args) is))
+      within_also K n s.world s.tasks tasks none (kept_at Kept (beginning_program d w number args) s (begins_program number args) is))
 
   -- ** emissions
 
   turns : (e : Emission) (entries : List PlanEntry) (o : Option Handler) → IfOk (running_handler d w e entries o) Kept
-  turns e entries None = same _ _ made refl
-  turns e entries (Some h) = cond_keeps (nat_lt 0 h.blocks) _ _ Kept (same _ _ made refl) (runs_before h.program (given_to e h) (Emitting e entries ∷ []) refl)
+  turns e entries None = same _ _ holds refl
+  turns e entries (Some h) = cond_keeps (nat_lt 0 h.blocks) _ _ Kept (same _ _ holds refl) (runs_before h.program (given_to e h) (Emitting e entries ∷ []) refl)
 
   takes : (e : Emission) (entries : List PlanEntry) (entry : PlanEntry) → IfOk (taking_entry d w e entries entry) Kept
   takes e entries (class_handler program cleanup) = runs_before program (instance_of e ∷ e.args) (Emitting (in_stage cleanup e) entries ∷ []) refl
   takes e entries (handler number) = turns e entries (handler_of number w.handlers)
-  takes e entries (config.transfer number back) = same _ _ made (transfers (binding_of number w.bindings))
+  takes e entries (config.transfer number back) = same _ _ holds (transfers (binding_of number w.bindings))
     where
-      either : (b : Bool) → to_make (cond b [] (Transferring number back ∷ []) ++ Emitting e entries ∷ []) ≡ 0
+      either : (b : Bool) → to_take K.takes (cond b [] (Transferring number back ∷ []) ++ Emitting e entries ∷ []) ≡ 0
       either true = refl
       either false = refl
 
-      transfers : (b : Option Binding) → to_make (transfer_for b number back ++ Emitting e entries ∷ []) ≡ 0
+      transfers : (b : Option Binding) → to_take K.takes (transfer_for b number back ++ Emitting e entries ∷ []) ≡ 0
       transfers None = refl
       transfers (Some b) = either b.busy
 
-  -- an event reports a result, and no object is made
-  tells : (b : Bool) (v : Option Value) → Made n (told d w b v).objects
-  tells b None = made
-  tells false (Some v) = made
-  tells true (Some v) = made
+  -- an event reports a result, and as many were taken
+  tells : (b : Bool) (v : Option Value) → Taken K n (told d w b v)
+  tells b None = holds
+  tells false (Some v) = holds
+  tells true (Some v) = holds
 
-  ends_emission : (e : Emission) (rest : List Task) → n + to_make rest ≤ most → IfOk (ending d w e rest) Leaves
+  ends_emission : (e : Emission) (rest : List Task) → n + to_take K.takes rest ≤ K.most → IfOk (ending d w e rest) Leaves
   unfolding ending
   ends_emission e rest few = bind_keeps (resulting d w e) _ Leaves (λ v _. bind_keeps (passed_down rest v) _ Leaves (λ agenda is.
-      rests (told d w e.by_event v) rest agenda (tells e.by_event v) (kept_at (λ (a : List Task). to_make a ≡ to_make rest) (passed_down rest v) agenda (passes rest v) is) few))
+      rests (told d w e.by_event v) rest agenda (tells e.by_event v) (kept_at (λ (a : List Task). to_take K.takes a ≡ to_take K.takes rest) (passed_down rest v) agenda (passes K.takes rest v) is) few))
 
   -- ** transfers
 
   sets_by : (number : ℕ) (end : End) (v : Option Value) → IfOk (set_by w number end v) Kept
-  sets_by number end None = same _ _ made refl
-  sets_by number end (Some v) = same _ _ made refl
+  sets_by number end None = same _ _ holds refl
+  sets_by number end (Some v) = same _ _ holds refl
 
   -- where the one end is read and the other set
   may_set : (from to : Spec) (a : Answer Started) → IfOk a Kept
@@ -172,31 +173,31 @@ module _ (d : Definition) (w : World) (n : ℕ) (made : Made n w.objects) (most 
       may_set from to (set_by w b.number target (inverted (inverts b) (transformed d.types from.kind to.kind v))) (sets_by b.number target _))))
 
   carries_by : (back : Bool) (b : Option Binding) → IfOk (carried_by d w back b) Kept
-  carries_by back None = same _ _ made refl
+  carries_by back None = same _ _ holds refl
   carries_by false (Some b) = carries b (source_end b) (target_end b)
   carries_by true (Some b) = carries b (target_end b) (source_end b)
 
   -- ** constructions and the build
 
   thaws_rest : (id : ℕ) (slots : List ℕ) → IfOk (thawing w id slots) Kept
-  thaws_rest id [] = same _ _ made refl
-  thaws_rest id (slot ∷ slots) = same _ _ made refl
+  thaws_rest id [] = same _ _ holds refl
+  thaws_rest id (slot ∷ slots) = same _ _ holds refl
 
   is_constructed : (id : ℕ) (held : Bool) → IfOk (constructed w id held) Kept
   unfolding constructed
-  is_constructed id false = same _ _ made refl
+  is_constructed id false = same _ _ holds refl
   is_constructed id true = bind_keeps (object_at w.objects id) _ Kept (λ o _.
-      only_keeps (is_unbuilt (builder_entry w o.place)) arms.Code (starts (sunk (with_builder_entry w o.place (built id)) id) []) Kept (same _ _ made refl))
+      only_keeps (is_unbuilt (builder_entry w o.place)) arms.Code (starts (sunk (with_builder_entry w o.place (built id)) id) []) Kept (same _ _ holds refl))
 
-  makes_set : (id slot : ℕ) (v : Value) (tasks : List Task) → to_make tasks ≡ 0 → IfOk (apply_construct_property d w id slot v tasks) Kept
+  makes_set : (id slot : ℕ) (v : Value) (tasks : List Task) → to_take K.takes tasks ≡ 0 → IfOk (apply_construct_property d w id slot v tasks) Kept
   unfolding apply_construct_property
   makes_set id slot v tasks none = bind_keeps (spec_at d w.objects id slot) _ Kept (λ s _.
-      only_keeps (is_writable s) arms.Flags (starts w (Setting id slot v ∷ tasks)) Kept (same _ _ made (omega (arith, none))))
+      only_keeps (is_writable s) arms.Flags (starts w (Setting id slot v ∷ tasks)) Kept (same _ _ holds (omega (arith, none))))
 
   thaws_made : (id : ℕ) (steps : List ConstructStep) (held : Bool) → IfOk (thawing_made w id steps held) Kept
   unfolding thawing_made
   thaws_made id steps held = bind_keeps (changed w.objects id frozen_less) _ Kept (λ thaw is.
-      same _ _ (kept_at (λ (r : After Objects (List ℕ)). Made n r.state) (changed w.objects id frozen_less) thaw (thawed_made n w.objects made id) is) refl)
+      same _ _ (kept_at (λ (r : After Objects (List ℕ)). K.Holds n r.state w.last_handler) (changed w.objects id frozen_less) thaw (thawed_taken K n w holds id) is) refl)
 
   constructs : (id : ℕ) (steps : List ConstructStep) (held : Bool) → IfOk (constructing d w id steps held) Kept
   constructs id [] held = is_constructed id held
@@ -206,30 +207,30 @@ module _ (d : Definition) (w : World) (n : ℕ) (made : Made n w.objects) (most 
 
   -- what is still to be built is left
   abbrev Builds : List Item → Started → Type 0
-  Builds items s = Within (n + total is_making items) s.world s.tasks
+  Builds items s = Within K (n + total K.takes items) s.world s.tasks
 
-  builds_on : (v : World) (items : List Item) (tasks : List Task) → Made n v.objects → to_make tasks ≡ total is_making items
-      → Within (n + total is_making items) v tasks
-  builds_on v items tasks made sum = within n (total is_making items) (n + total is_making items) v tasks made sum (omega arith)
+  builds_on : (v : World) (items : List Item) (tasks : List Task) → Taken K n v → to_take K.takes tasks ≡ total K.takes items
+      → Within K (n + total K.takes items) v tasks
+  builds_on v items tasks holds sum = within K n (total K.takes items) (n + total K.takes items) v tasks holds sum (omega arith)
 
-  -- where the build makes an object, one less is left
+  -- where the build makes an object, as much less is left as the item takes
   builds_object : (place : ℕ) (items : List Item) → IfOk (building_object d w place items) (Builds (makes place ∷ items))
   unfolding building_object
   builds_object place items = bind_keeps (known arms.Code (place_at d place)) _ _ (λ p _. bind_keeps (peer_for d w p) _ _ (λ peer _.
       bind_keeps (making d w place peer true) _ _ (λ s is.
-      in_front_of (suc n) (n + total is_making (makes place ∷ items)) (Building items ∷ []) (omega arith) s.world s.tasks
-      (kept_at (λ (s : Started). Within (suc n) s.world s.tasks) (making d w place peer true) s (makes_one d w n made place peer true) is))))
+      in_front_of K (K.takes (makes place) + n) (n + total K.takes (makes place ∷ items)) (Building items ∷ []) (omega arith) s.world s.tasks
+      (kept_at (λ (s : Started). Within K (K.takes (makes place) + n) s.world s.tasks) (making d w place peer true) s (makes_one K d w n holds place peer true) is))))
 
   builds_child : (place : ℕ) (items : List Item) → IfOk (building_child d w place items) (Builds items)
   unfolding building_child
   builds_child place items = bind_keeps (known arms.Code (place_at d place)) _ _ (λ p _. bind_keeps (known arms.Code p.parent) _ _ (λ above _.
       bind_keeps (held_object w above) _ _ (λ parent _. bind_keeps (held_object w place) _ _ (λ child _. bind_keeps (adopted d w parent child) _ _ (λ family is.
       builds_on family.state items (Building items ∷ [])
-      (kept_at (λ (r : After World Bool). Made n r.state.objects) (adopted d w parent child) family (adopted_made d w n made parent child) is) (omega arith))))))
+      (kept_at (λ (r : After World Bool). Taken K n r.state) (adopted d w parent child) family (adopted_taken K d w n holds parent child) is) (omega arith))))))
 
   sets_forward : (id slot to : ℕ) (items : List Item) → IfOk (set_forward w id slot to items) (Builds items)
   unfolding set_forward
-  sets_forward id slot to items = bind_keeps (held_object w to) _ _ (λ target _. builds_on w items _ made (omega arith))
+  sets_forward id slot to items = bind_keeps (held_object w to) _ _ (λ target _. builds_on w items _ holds (omega arith))
 
   builds_forward : (place slot to : ℕ) (items : List Item) → IfOk (building_forward d w place slot to items) (Builds items)
   unfolding building_forward
@@ -241,45 +242,47 @@ module _ (d : Definition) (w : World) (n : ℕ) (made : Made n w.objects) (most 
   unfolding building_binding
   builds_binding number items = bind_keeps (known arms.Code (slice_get d.bindings number)) _ _ (λ b _. bind_keeps (held_object w b.source) _ _ (λ source _.
       bind_keeps (held_object w b.target) _ _ (λ target _. cond_keeps (is_disposed (living w.objects source) || is_disposed (living w.objects target)) _ _ (Builds items)
-      (builds_on w items (Building items ∷ []) made (omega arith))
-      (builds_on (with_binding w (new_binding number b source target)) items _ made (transfers b (has_flags 2 b.flags))))))
+      (builds_on w items (Building items ∷ []) holds (omega arith))
+      (builds_on (with_binding w (new_binding number b source target)) items _ holds (transfers b (has_flags 2 b.flags))))))
     where
-      transfers : (b : Bind) (at_once : Bool) → to_make (cond at_once (Transferring number false ∷ []) [] ++ Building items ∷ []) ≡ total is_making items
+      transfers : (b : Bind) (at_once : Bool) → to_take K.takes (cond at_once (Transferring number false ∷ []) [] ++ Building items ∷ []) ≡ total K.takes items
       transfers b true = omega arith
       transfers b false = omega arith
 
-  connects_signal : (c : Connection) → Made n (with_signal w c).objects
-  connects_signal c = by (is_too_late w.objects c.object c.arg)
+  -- so it is where it connects a handler, or is too late
+  connects_signal : (c : Connection) (place number : ℕ) (items : List Item)
+      → Within K (n + total K.takes (connects place number ∷ items)) (with_signal w c) (Building items ∷ [])
+  connects_signal c place number items = by (is_too_late w.objects c.object c.arg)
     where
-      by : (late : Bool) → Made n (cond late w (with_handler w c)).objects
-      by true = made
-      by false = made
+      by : (late : Bool) → Within K (n + total K.takes (connects place number ∷ items)) (cond late w (with_handler w c)) (Building items ∷ [])
+      by true = within K n (total K.takes items) (n + total K.takes (connects place number ∷ items)) w (Building items ∷ []) holds (omega arith) (omega arith)
+      by false = within K (K.takes (connects place number) + n) (total K.takes items) (n + total K.takes (connects place number ∷ items)) (with_handler w c) (Building items ∷ [])
+          (K.connects_handler n w.last_handler w.objects place number holds) (omega arith) (omega arith)
 
-  builds_handler : (place number : ℕ) (items : List Item) → IfOk (building_handler d w place number items) (Builds items)
+  builds_handler : (place number : ℕ) (items : List Item) → IfOk (building_handler d w place number items) (Builds (connects place number ∷ items))
   unfolding building_handler
   builds_handler place number items = bind_keeps (known arms.Code (place_at d place)) _ _ (λ p _. bind_keeps (known arms.Code (slice_get p.signals number)) _ _ (λ a _.
       bind_keeps (held_object w place) _ _ (λ id _. bind_keeps (held_data w a.with) _ _ (λ arg _. bind_keeps (known arms.Code (signal_number d p.class a.signal)) _ _ (λ signal _.
-      bind_keeps (detail_at d p.class signal a.detail) _ _ (λ detail _.
-      builds_on (with_signal w (connection id signal detail a arg)) items (Building items ∷ []) (connects_signal (connection id signal detail a arg)) (omega arith)))))))
+      bind_keeps (detail_at d p.class signal a.detail) _ _ (λ detail _. connects_signal (connection id signal detail a arg) place number items))))))
 
-  -- an item that makes nothing
+  -- an item that takes none of what is counted
   other : (item : Item) (items : List Item) (a : Answer Started) → IfOk a (Builds items) → IfOk a (Builds (item ∷ items))
   other item items a kept = if_weaker (Builds items) (Builds (item ∷ items)) a (λ s within.
-      more_room (n + total is_making items) (n + total is_making (item ∷ items)) s.world s.tasks (omega arith) within) kept
+      more_room K (n + total K.takes items) (n + total K.takes (item ∷ items)) s.world s.tasks (omega arith) within) kept
 
   builds : (items : List Item) → IfOk (building d w items) (Builds items)
-  builds [] = builds_on w [] [] made refl
+  builds [] = builds_on w [] [] holds refl
   builds (makes place ∷ items) = builds_object place items
   builds (adopts place ∷ items) = other (adopts place) items _ (builds_child place items)
   builds (forwards place slot to ∷ items) = other (forwards place slot to) items _ (builds_forward place slot to items)
   builds (binds number ∷ items) = other (binds number) items _ (builds_binding number items)
-  builds (connects place number ∷ items) = other (connects place number) items _ (builds_handler place number items)
+  builds (connects place number ∷ items) = builds_handler place number items
 
   -- ** requests, sources and calls
 
   sets_given : (id slot : ℕ) (given : Given) → IfOk (set_given w id slot given) Kept
   unfolding set_given
-  sets_given id slot given = bind_keeps (known arms.Operand (given_value w given)) _ Kept (λ v _. same _ _ made refl)
+  sets_given id slot given = bind_keeps (known arms.Operand (given_value w given)) _ Kept (λ v _. same _ _ holds refl)
 
   carries_set : (place slot : ℕ) (given : Given) → IfOk (set_from_event d w place slot given) Kept
   unfolding set_from_event
@@ -289,15 +292,15 @@ module _ (d : Definition) (w : World) (n : ℕ) (made : Made n w.objects) (most 
   carries_get : (place slot : ℕ) → IfOk (get_from_event d w place slot) Kept
   unfolding get_from_event
   carries_get place slot = bind_keeps (held_object w place) _ Kept (λ id _. bind_keeps (spec_at d w.objects id slot) _ Kept (λ s _. bind_keeps (asked w.objects id (value_at slot)) _ Kept (λ v _.
-      only_keeps (is_readable s) arms.Flags (starts (with_result (said d w (lines.get id s.name v)) v) []) Kept (same _ _ made refl))))
+      only_keeps (is_readable s) arms.Flags (starts (with_result (said d w (lines.get id s.name v)) v) []) Kept (same _ _ holds refl))))
 
   carries_emit : (place signal : ℕ) (args : List Given) (detail : Option (List ℕ)) → IfOk (emit_from_event d w place signal args detail) Kept
   unfolding emit_from_event
-  carries_emit place signal args detail = bind_keeps (held_object w place) _ Kept (λ id _. bind_keeps (detail_in d w id signal detail) _ Kept (λ stands _. bind_keeps (given_values w args) _ Kept (λ given _. same _ _ made refl)))
+  carries_emit place signal args detail = bind_keeps (held_object w place) _ Kept (λ id _. bind_keeps (detail_in d w id signal detail) _ Kept (λ stands _. bind_keeps (given_values w args) _ Kept (λ given _. same _ _ holds refl)))
 
   carries_release : (place : ℕ) → IfOk (release_from_event d w place) Kept
   unfolding release_from_event
-  carries_release place = bind_keeps (known arms.Code (place_at d place)) _ Kept (λ p _. bind_keeps (held_object w place) _ Kept (λ id _. same _ _ made refl))
+  carries_release place = bind_keeps (known arms.Code (place_at d place)) _ Kept (λ p _. bind_keeps (held_object w place) _ Kept (λ id _. same _ _ holds refl))
 
   carries_request : (r : Request) → IfOk (request_step d w r) Kept
   carries_request (config.set place slot given) = carries_set place slot given
@@ -309,60 +312,60 @@ module _ (d : Definition) (w : World) (n : ℕ) (made : Made n w.objects) (most 
   unfolding sourcing
   runs_source source = bind_keeps (known arms.Code (source_of source w.sources)) _ Kept (λ s _. runs_before s.program (source_data s.arg) (Answering source ∷ []) refl)
 
-  left_one : (v : World) → Made n v.objects → (rest : List Task) → n + to_make rest ≤ most → (to : ℕ) (x : Value) → IfOk (left_with v rest to x) Leaves
+  left_one : (v : World) → Taken K n v → (rest : List Task) → n + to_take K.takes rest ≤ K.most → (to : ℕ) (x : Value) → IfOk (left_with v rest to x) Leaves
   unfolding left_with
   left_one v now rest few to x = bind_keeps (received rest to (Some x)) _ Leaves (λ agenda is.
-      rests v rest agenda now (kept_at (λ (a : List Task). to_make a ≡ to_make rest) (received rest to (Some x)) agenda (receives rest to (Some x)) is) few)
+      rests v rest agenda now (kept_at (λ (a : List Task). to_take K.takes a ≡ to_take K.takes rest) (received rest to (Some x)) agenda (receives K.takes rest to (Some x)) is) few)
 
-  is_called : (call : Call) (rest : List Task) → n + to_make rest ≤ most → (reply : Reply) → IfOk (called d w call rest reply) Leaves
+  is_called : (call : Call) (rest : List Task) → n + to_take K.takes rest ≤ K.most → (reply : Reply) → IfOk (called d w call rest reply) Leaves
   unfolding called with_method
   is_called call rest few reply = bind_keeps (known arms.Call (peer_at w call.peer)) _ Leaves (λ p _. bind_keeps (known arms.Call (method_of p call.method)) _ Leaves (λ m _.
-      left_one _ made rest few call.to _))
+      left_one _ holds rest few call.to _))
 
-  is_uncalled : (call : Call) (rest : List Task) → n + to_make rest ≤ most → IfOk (uncalled d w call rest) Leaves
+  is_uncalled : (call : Call) (rest : List Task) → n + to_take K.takes rest ≤ K.most → IfOk (uncalled d w call rest) Leaves
   unfolding uncalled with_method
   is_uncalled call rest few = bind_keeps (known arms.Call (peer_at w call.peer)) _ Leaves (λ p _. bind_keeps (known arms.Call (method_of p call.method)) _ Leaves (λ m _.
-      left_one _ made rest few call.to _))
+      left_one _ holds rest few call.to _))
 
-  is_replied : (call : Call) (rest : List Task) → n + to_make rest ≤ most → (reply : Option Reply) → IfOk (replied d w call rest reply) Leaves
+  is_replied : (call : Call) (rest : List Task) → n + to_take K.takes rest ≤ K.most → (reply : Option Reply) → IfOk (replied d w call rest reply) Leaves
   is_replied call rest few None = tt
   is_replied call rest few (Some reply) = is_called call rest few reply
 
-  calls : (call : Call) (rest : List Task) → n + to_make rest ≤ most → (reply : Option Reply) → IfOk (calling_on d w call rest reply) Leaves
+  calls : (call : Call) (rest : List Task) → n + to_take K.takes rest ≤ K.most → (reply : Option Reply) → IfOk (calling_on d w call rest reply) Leaves
   calls call rest few reply = cond_keeps (is_asked w call.peer) (replied d w call rest reply) (uncalled d w call rest) Leaves (is_replied call rest few reply) (is_uncalled call rest few)
 
-  is_finalised : (id : ℕ) → id ≤ n → IfOk (finalising d w id) Kept
+  is_finalised : (id : ℕ) → K.IsAmong n id → IfOk (finalising d w id) Kept
   unfolding finalising
   is_finalised id low = bind_keeps (finalised d w id) _ Kept (λ v is.
-      same v [] (kept_at (λ (u : World). Made n u.objects) (finalised d w id) v (finalised_made d w n made id low) is) refl)
+      same v [] (kept_at (Taken K n) (finalised d w id) v (finalised_taken K d w n holds id low) is) refl)
 
   -- ** steps
 
   abbrev At : Config → Type 0
-  At c = Within most c.world c.agenda
+  At c = Within K K.most c.world c.agenda
 
   leaves_agenda : (k : ℕ) (a : Answer Left) → IfOk a Leaves → IfOk (left k a) At
   unfolding left
   leaves_agenda k (Ok l) within = within
   leaves_agenda k (Err arm) within = tt
 
-  sinks_first : (floating : List ℕ) → Made n (sink_first_floating w floating).objects
-  sinks_first [] = made
-  sinks_first (id ∷ ids) = made
+  sinks_first : (floating : List ℕ) → Taken K n (sink_first_floating w floating)
+  sinks_first [] = holds
+  sinks_first (id ∷ ids) = holds
 
-  module _ (some : ℕ) (rest : List Task) (few : some + to_make rest ≤ most) where
-    not_counted : (k : ℕ) (a : Answer Started) → IfOk a (λ s. Within some s.world s.tasks) → IfOk (uncounted rest k a) At
-    not_counted k (Ok s) within = in_front_of some most rest few s.world s.tasks within
+  module _ (some : ℕ) (rest : List Task) (few : some + to_take K.takes rest ≤ K.most) where
+    not_counted : (k : ℕ) (a : Answer Started) → IfOk a (λ s. Within K some s.world s.tasks) → IfOk (uncounted rest k a) At
+    not_counted k (Ok s) within = in_front_of K some K.most rest few s.world s.tasks within
     not_counted k (Err arm) within = tt
 
-    is_counted : (k : ℕ) (a : Answer Started) → IfOk a (λ s. Within some s.world s.tasks) → IfOk (counted rest k a) At
+    is_counted : (k : ℕ) (a : Answer Started) → IfOk a (λ s. Within K some s.world s.tasks) → IfOk (counted rest k a) At
     is_counted k a within = only_keeps (nat_lt k most_steps) arms.Steps (uncounted rest (suc k) a) At (not_counted (suc k) a within)
 
   -- where an object is finalised, before all tasks
-  pub finalises : (tasks : List Task) → n + to_make tasks ≤ most → (k id : ℕ) → id ≤ n → IfOk (counted tasks k (finalising d w id)) At
+  pub finalises : (tasks : List Task) → n + to_take K.takes tasks ≤ K.most → (k id : ℕ) → K.IsAmong n id → IfOk (counted tasks k (finalising d w id)) At
   finalises tasks few k id low = is_counted n tasks few k (finalising d w id) (is_finalised id low)
 
-  pub acts_within : (reply : Option Reply) (tasks : List Task) (k : ℕ) → n + to_make tasks ≤ most → IfOk (act d w reply tasks k) At
+  pub acts_within : (reply : Option Reply) (tasks : List Task) (k : ℕ) → n + to_take K.takes tasks ≤ K.most → IfOk (act d w reply tasks k) At
   acts_within reply [] k few = rests _ [] [] (sinks_first w.floating) refl few
   acts_within reply (Setting id slot v ∷ rest) k few = not_counted n rest (omega (arith, few)) k (setting d w id slot v) (sets_one id slot v)
   acts_within reply (Notifying id slot ∷ rest) k few = is_counted n rest (omega (arith, few)) k (notifying d w id slot) (notifies_one id slot)
@@ -370,14 +373,14 @@ module _ (d : Definition) (w : World) (n : ℕ) (made : Made n w.objects) (most 
   acts_within reply (Emitting e [] ∷ rest) k few = leaves_agenda k (ending d w e rest) (ends_emission e rest (omega (arith, few)))
   acts_within reply (Emitting e (entry ∷ entries) ∷ rest) k few = not_counted n rest (omega (arith, few)) k (taking_entry d w e entries entry) (takes e entries entry)
   acts_within reply (Transferring number back ∷ rest) k few = is_counted n rest (omega (arith, few)) k (transferring d w number back) (carries_by back (binding_of number w.bindings))
-  acts_within reply (Unsetting number ∷ rest) k few = not_counted n rest (omega (arith, few)) k (unsetting w number) (same _ _ made refl)
+  acts_within reply (Unsetting number ∷ rest) k few = not_counted n rest (omega (arith, few)) k (unsetting w number) (same _ _ holds refl)
   acts_within reply (Thawing id slots ∷ rest) k few = not_counted n rest (omega (arith, few)) k (thawing w id slots) (thaws_rest id slots)
   acts_within reply (Running f ∷ rest) k few =
       only_keeps (nat_lt k most_steps) arms.Steps (left (suc k) (running d w rest f)) At
-      (leaves_agenda (suc k) (running d w rest f) (running_kept d w n made most enough rest (omega (arith, few)) f))
+      (leaves_agenda (suc k) (running d w rest f) (running_kept K d w n holds rest (omega (arith, few)) f))
   acts_within reply (Answering source ∷ rest) k few = tt
   acts_within reply (Calling call ∷ rest) k few = leaves_agenda k (calling_on d w call rest reply) (calls call rest (omega (arith, few)) reply)
   acts_within reply (Constructing id steps held ∷ rest) k few = not_counted n rest (omega (arith, few)) k (constructing d w id steps held) (constructs id steps held)
-  acts_within reply (Building items ∷ rest) k few = not_counted (n + total is_making items) rest (omega (arith, few)) k (building d w items) (builds items)
+  acts_within reply (Building items ∷ rest) k few = not_counted (n + total K.takes items) rest (omega (arith, few)) k (building d w items) (builds items)
   acts_within reply (Handling r ∷ rest) k few = not_counted n rest (omega (arith, few)) k (request_step d w r) (carries_request r)
   acts_within reply (Due source ∷ rest) k few = not_counted n rest (omega (arith, few)) k (sourcing d w source) (runs_source source)

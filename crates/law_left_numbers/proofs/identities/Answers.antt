@@ -1,5 +1,5 @@
-use Rattle.law_identities.proofs.RunProofs.{builds_have_identities, builds_have_kin_made, identities_last, kin_last, requests_have_identities, sources_have_identities}
-use Rattle.law_identities.proofs.identities.Goals as goal
+use Rattle.law_left_numbers.proofs.RunProofs.{builds_have_identities, builds_have_kin_made, identities_last, kin_last, requests_have_identities, sources_have_identities}
+use Rattle.law_left_numbers.proofs.identities.Goals as goal
 
 pub returns : goal.returns
 returns c = record {

@@ -1,0 +1,4 @@
+pub mod TextProofs
+pub mod WidthProofs
+pub mod PartProofs
+pub mod LengthProofs
