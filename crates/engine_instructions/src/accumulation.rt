@@ -16,6 +16,7 @@ ghost use Rattle.engine_instructions.specs.CollectView.{collects, stops_at};
 ghost use Rattle.engine_world.specs.Counting.{Counts, HoldsTasks, IsCounted, KeepsCounts, MayHold, OnlyCounts, OnlyTasks};
 ghost use Rattle.engine_world.specs.SourceView.{HoldsSources};
 ghost use Rattle.engine_world.specs.TaskView.{agenda_of, emission_of, entries_to_come};
+ghost use Rattle.engine_world.specs.Room.{HasRoom, SameRoom};
 ghost use Rattle.engine_world.specs.View.{world_of};
 
 use definitions::Definition;
@@ -74,7 +75,7 @@ fn accumulate(
     by_event: bool,
     transfers: Transfers,
     given: Option<Value>,
-) -> Result<(), AllocError>
+)
     requires able { Able (down_to_emission definition.now (world_of engine.now.world) (emission_of cursor args.items by_event) (entries_to_come cursor engine.now.world.handlers.handlers transfers)
         (agenda_of definition.now engine.now) (option_map value_view given)) }
     requires held { (o : ℕ) → in_register o cursor.value ≤ count_of engine.now.world.table.counts o }
@@ -82,13 +83,14 @@ fn accumulate(
     requires again { MayHold engine.now.world.table (λ o. in_register o cursor.value) }
     requires begun { cursor.greatest ≤ engine.now.world.handlers.last }
     requires ends { EndsWithoutTransfers cursor transfers }
-    ensures step { Leads result
-        (down_to_emission definition.now (world_of engine.old.world) (emission_of cursor args.items by_event) (entries_to_come cursor engine.old.world.handlers.handlers transfers)
-        (agenda_of definition.now engine.old) (option_map value_view given))
-        (record { world = world_of engine.new.world; agenda = agenda_of definition.now engine.new }) }
+    requires room { HasRoom 1 engine.now }
+    ensures step { down_to_emission definition.now (world_of engine.old.world) (emission_of cursor args.items by_event) (entries_to_come cursor engine.old.world.handlers.handlers transfers)
+        (agenda_of definition.now engine.old) (option_map value_view given)
+        ≡ Ok (record { world = world_of engine.new.world; agenda = agenda_of definition.now engine.new }) }
     ensures only { OnlyTasks engine.old engine.new }
-    ensures counted { OnOk result ((taken : ℕ → ℕ)
-        → Counts definition.now (λ o. taken o + in_emission o (emission_of cursor args.items by_event)) engine.old → Counts definition.now taken engine.new) }
+    ensures counted { (taken : ℕ → ℕ)
+        → Counts definition.now (λ o. taken o + in_emission o (emission_of cursor args.items by_event)) engine.old → Counts definition.now taken engine.new }
+    ensures room { SameRoom engine.old engine.new }
 {
     let object = cursor.object();
     let number = cursor.signal();
@@ -108,8 +110,7 @@ fn accumulate(
         args,
         by_event,
         transfers: left,
-    })?;
-    Ok(())
+    });
 }
 
 // The program of a source says whether the source stays (GLib manual, GSourceFunc).
@@ -129,28 +130,24 @@ fn answer(engine: &mut Engine, source: u64, given: Option<Value>)
 }
 
 /// What a program gives goes to the task below it: an emission collects it, a source stays or not by it, and to all others it gives nothing.
-pub(crate) fn give_down(
-    engine: &mut Engine,
-    definition: &Definition,
-    given: Option<Value>,
-) -> Result<(), AllocError>
+pub(crate) fn give_down(engine: &mut Engine, definition: &Definition, given: Option<Value>)
     requires able { Able (given_down definition.now (world_of engine.now.world) (agenda_of definition.now engine.now) (option_map value_view given)) }
     requires held { HoldsTasks definition.now engine.now }
     requires may { MayHold engine.now.world.table (λ o. in_register o (option_map value_view given)) }
     requires counted { IsCounted definition.now engine.now }
     requires sources { HoldsSources engine.now }
     requires begun { AllTakeKnownHandlers engine.now.world.handlers.last engine.now.stack }
-    ensures step { Leads result
-        (given_down definition.now (world_of engine.old.world) (agenda_of definition.now engine.old) (option_map value_view given))
-        (record { world = world_of engine.new.world; agenda = agenda_of definition.now engine.new }) }
+    ensures step { given_down definition.now (world_of engine.old.world) (agenda_of definition.now engine.old) (option_map value_view given)
+        ≡ Ok (record { world = world_of engine.new.world; agenda = agenda_of definition.now engine.new }) }
     ensures quiet { IsQuiet (world_of engine.old.world) (world_of engine.new.world) }
     ensures same { engine.new.counted ≡ engine.old.counted }
-    ensures counted { OnOk result (KeepsCounts definition.now engine.old engine.new) }
+    ensures counted { KeepsCounts definition.now engine.old engine.new }
+    ensures room { SameRoom engine.old engine.new }
 {
     // For the proof: what an emission has collected lives, and may be held once more.
     never_full(engine);
     let Some(task) = engine.stack.pop() else {
-        return Ok(());
+        return;
     };
     match task {
         Task::Emitting {
@@ -159,13 +156,7 @@ pub(crate) fn give_down(
             by_event,
             transfers,
         } => accumulate(engine, definition, cursor, args, by_event, transfers, given),
-        Task::Answering { source } => {
-            answer(engine, source, given);
-            Ok(())
-        }
-        task => {
-            engine.stack.push(task)?;
-            Ok(())
-        }
+        Task::Answering { source } => answer(engine, source, given),
+        task => engine.stack.push(task),
     }
 }

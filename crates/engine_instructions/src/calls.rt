@@ -16,6 +16,7 @@ ghost use Rattle.engine_world.specs.Able.{Able, Leads, LeadsToLiving};
 ghost use Rattle.engine_world.specs.Quiet.{IsQuiet};
 ghost use Rattle.engine_world.specs.SeatView.{HasKnownKinds};
 ghost use Rattle.engine_world.specs.TaskView.{agenda_of, call_of};
+ghost use Rattle.engine_world.specs.Room.{HasRoom, SameRoom};
 ghost use Rattle.engine_world.specs.View.{world_of};
 ghost use Rattle.engine_instructions.specs.CallingView.{called_in, called_view, due_call};
 
@@ -26,7 +27,7 @@ use engine_world::engine::Engine;
 use engine_world::program_frames::push_frame;
 use engine_world::references::push_task;
 use engine_world::task::{DueCall, Task};
-use frames::{Frame, values_at};
+use frames::{Frame, copy_values};
 use peer_shapes::MethodRef;
 use std::alloc::AllocError;
 use ui_machine::ObjectId;
@@ -85,7 +86,8 @@ fn due_call(
     };
     let registers = frame.registers.as_slice();
     let from = call.args.as_slice();
-    let args = values_at(engine.alloc, registers, from)?;
+    let mut args = Vec::new(engine.alloc);
+    copy_values(registers, from, &mut args)?;
     Ok(DueCall {
         object,
         peer: called.peer,
@@ -107,15 +109,17 @@ pub(crate) fn call_from_program(
     requires names { LeadsToLiving (left engine.now.counted (in_front (agenda_of definition.now engine.now) (calling definition.now (world_of engine.now.world) (frame_view frame)
         call.now.to.0 call.now.object.0 (string_bytes call.now.method) (map number_of call.now.args.items)))) }
     requires counted { Counts definition.now (λ o. in_frame o (frame_view frame)) engine.now }
+    requires room { HasRoom 2 engine.now }
     ensures step { Leads result
         (left engine.old.counted (in_front (agenda_of definition.now engine.old) (calling definition.now (world_of engine.old.world) (frame_view frame)
         call.now.to.0 call.now.object.0 (string_bytes call.now.method) (map number_of call.now.args.items))))
         (config_of definition.now engine.new) }
     ensures quiet { OnErr result (IsQuiet (world_of engine.old.world) (world_of engine.new.world)) }
     ensures counted { OnOk result (Counts definition.now nothing engine.new) }
+    ensures room { SameRoom engine.old engine.new }
 {
     let due = due_call(engine, definition, &frame, call)?;
-    push_frame(engine, frame)?;
-    push_task(engine, Task::Calling(due))?;
+    push_frame(engine, frame);
+    push_task(engine, Task::Calling(due));
     Ok(())
 }

@@ -13,6 +13,7 @@ ghost use Rattle.engine_world.specs.EngineView.{config_of};
 ghost use Rattle.engine_world.specs.Able.{Able, Leads};
 ghost use Rattle.engine_world.specs.Quiet.{IsQuiet};
 ghost use Rattle.engine_world.specs.TaskView.{agenda_of};
+ghost use Rattle.engine_world.specs.Room.{HasRoom, SameRoom};
 ghost use Rattle.engine_world.specs.View.{world_of};
 
 use crate::emits::signal_in;
@@ -71,12 +72,14 @@ pub(crate) fn connect_from_program(
     requires able { Able (left engine.now.counted (in_front (agenda_of definition.now engine.now)
         (connecting definition.now (world_of engine.now.world) (agenda_of definition.now engine.now) (frame_view frame) to.0 object.0 (connect_view connect.now)))) }
     requires counted { Counts definition.now (λ o. in_frame o (frame_view frame)) engine.now }
+    requires room { HasRoom 1 engine.now }
     ensures step { Leads result
         (left engine.old.counted (in_front (agenda_of definition.now engine.old)
         (connecting definition.now (world_of engine.old.world) (agenda_of definition.now engine.old) (frame_view frame) to.0 object.0 (connect_view connect.now))))
         (config_of definition.now engine.new) }
     ensures quiet { OnErr result (IsQuiet (world_of engine.old.world) (world_of engine.new.world)) }
     ensures counted { OnOk result (Counts definition.now nothing engine.new) }
+    ensures room { SameRoom engine.old engine.new }
 {
     let connection = new_connection(engine, definition, &frame, object, connect)?;
     let outcome = connect_handler(engine, definition, connection)?;
@@ -87,7 +90,7 @@ pub(crate) fn connect_from_program(
         frame,
         to,
         Some(Value::Bool(is_connected)),
-    )?;
+    );
     if !outcome.is_full() {
         return Ok(());
     }

@@ -1,6 +1,6 @@
 //! `emit`: a program emits a signal (GObject manual, Signals: `g_signal_emit`).
 
-ghost use Rattle.std.specs.Prelude.{◌≡◌, IfOk, Ok, OnOk, OnErr};
+ghost use Rattle.std.specs.Prelude.{◌≡◌, [], IfOk, Ok, OnOk, OnErr};
 ghost use Rattle.ui_machine.specs.Instructions.{in_front};
 ghost use Rattle.ui_machine.specs.Instructions.Signals.{emitting, signal_in};
 ghost use Rattle.ui_machine.specs.Steps.{left};
@@ -11,6 +11,7 @@ ghost use Rattle.engine_instructions.specs.EmitView.{emission_by_code, emit_of};
 ghost use Rattle.engine_world.specs.Able.{Able, Leads, LeadsToLiving};
 ghost use Rattle.engine_world.specs.Quiet.{IsQuiet};
 ghost use Rattle.engine_world.specs.TaskView.{agenda_of, new_of};
+ghost use Rattle.engine_world.specs.Room.{HasRoom, SameRoom};
 ghost use Rattle.engine_world.specs.View.{world_of};
 
 use crate::operands::object_in;
@@ -21,7 +22,8 @@ use engine_world::engine::Engine;
 use engine_world::program_frames::push_frame;
 use engine_world::references::push_task;
 use engine_world::task::{NewEmission, Task};
-use frames::{Frame, values_at};
+use frames::{Frame, copy_values};
+use g_values::Value;
 use std::alloc::AllocError;
 use ui_machine::{ObjectId, SignalId};
 
@@ -52,14 +54,16 @@ pub(crate) fn signal_in(
     number
 }
 
-// The emission that a program is to begin.
+// The emission that a program is to begin, with its arguments in a list that is empty yet.
 fn new_emission(
     engine: &Engine,
     definition: &Definition,
     frame: &Frame,
     object: Register,
     emit: Emit<'_>,
+    mut args: Vec<Value>,
 ) -> Result<NewEmission, AllocError>
+    requires none { args.items ≡ [] }
     requires able { Able (emission_by_code definition.now (world_of engine.now.world) (frame_view frame.now) object.0 (emit_of emit)) }
     ensures { IfOk result (λ e. emission_by_code definition.now (world_of engine.now.world) (frame_view frame.now) object.0 (emit_of emit.entry) ≡ Ok (new_of e)) }
 {
@@ -67,7 +71,7 @@ fn new_emission(
     let signal = signal_in(engine, definition, object, emit.signal);
     let detail = detail_in(engine, definition, object, signal, emit.detail)?;
     let registers = frame.registers.as_slice();
-    let args = values_at(engine.alloc, registers, emit.args)?;
+    copy_values(registers, emit.args, &mut args)?;
     Ok(NewEmission {
         object,
         signal,
@@ -88,15 +92,18 @@ pub(crate) fn emit_from_program(
     requires able { Able (left engine.now.counted (in_front (agenda_of definition.now engine.now) (emitting definition.now (world_of engine.now.world) (frame_view frame) object.0 (emit_of emit)))) }
     requires names { LeadsToLiving (left engine.now.counted (in_front (agenda_of definition.now engine.now) (emitting definition.now (world_of engine.now.world) (frame_view frame) object.0 (emit_of emit)))) }
     requires counted { Counts definition.now (λ o. in_frame o (frame_view frame)) engine.now }
+    requires room { HasRoom 2 engine.now }
     ensures step { Leads result
         (left engine.old.counted (in_front (agenda_of definition.now engine.old) (emitting definition.now (world_of engine.old.world) (frame_view frame) object.0 (emit_of emit.entry))))
         (config_of definition.now engine.new) }
     ensures quiet { OnErr result (IsQuiet (world_of engine.old.world) (world_of engine.new.world)) }
     ensures counted { OnOk result (Counts definition.now nothing engine.new) }
+    ensures room { SameRoom engine.old engine.new }
 {
-    let emission = new_emission(engine, definition, &frame, object, emit)?;
+    let args = engine.spare_args.take(engine.alloc);
+    let emission = new_emission(engine, definition, &frame, object, emit, args)?;
     frame.into = emit.into;
-    push_frame(engine, frame)?;
-    push_task(engine, Task::Beginning(emission))?;
+    push_frame(engine, frame);
+    push_task(engine, Task::Beginning(emission));
     Ok(())
 }

@@ -9,6 +9,7 @@ ghost use Rattle.frames.specs.FrameView.{frame_view};
 ghost use Rattle.bytecode.specs.Known.{HasKnownKinds};
 ghost use Rattle.bytecode.specs.View.{control_view, instruction_view, object_instruction_view, program_view, property_instruction_view, signal_instruction_view, source_instruction_view};
 ghost use Rattle.engine_world.specs.Quiet.{IsQuiet};
+ghost use Rattle.engine_world.specs.Room.{HasRoom, SameRoom};
 ghost use Rattle.engine_world.specs.View.{world_of};
 ghost use Rattle.engine_world.specs.TaskView.{agenda_of};
 ghost use Rattle.engine_world.specs.Counting.{Counts, in_frame, nothing};
@@ -59,12 +60,14 @@ pub fn execute(
     requires known { HasKnownKinds definition.now.types instruction.now }
     requires result { IfSome program.now.result (IsKnown definition.now.types) }
     requires counted { Counts definition.now (λ o. in_frame o (frame_view frame)) engine.now }
+    requires room { HasRoom 2 engine.now }
     ensures step { LeadsWithoutGone result
         (left engine.old.counted (instruction_step definition.now (world_of engine.old.world) (agenda_of definition.now engine.old) (frame_view frame) (instruction_view instruction.now)))
         (config_of definition.now engine.new) }
     ensures quiet { OnErr result (IsQuiet (world_of engine.old.world) (world_of engine.new.world)) }
     ensures closing { OnOk result (LeavesClosed (instruction_view instruction.now) (world_of engine.old.world) (frame_view frame) engine.old.closing engine.new.closing) }
     ensures counted { OnOk result (Counts definition.now nothing engine.new) }
+    ensures room { SameRoom engine.old engine.new }
 {
     match instruction {
         Instruction::Compute { to, computation } => {
@@ -95,11 +98,13 @@ fn execute_control(
     requires program { program_at definition.now (frame_view frame).program ≡ Some (program_view program.now) }
     requires result { IfSome program.now.result (IsKnown definition.now.types) }
     requires counted { Counts definition.now (λ o. in_frame o (frame_view frame)) engine.now }
+    requires room { HasRoom 1 engine.now }
     ensures step { Leads result
         (left engine.old.counted (instruction_step definition.now (world_of engine.old.world) (agenda_of definition.now engine.old) (frame_view frame) (control_view instruction.now)))
         (config_of definition.now engine.new) }
     ensures quiet { OnErr result (IsQuiet (world_of engine.old.world) (world_of engine.new.world)) }
     ensures counted { OnOk result (Counts definition.now nothing engine.new) }
+    ensures room { SameRoom engine.old engine.new }
 {
     match instruction {
         ControlInstruction::Jump(to) => jump(engine, definition, program, frame, *to),
@@ -114,9 +119,10 @@ fn execute_control(
             else_to,
         } => branch_null(engine, definition, program, frame, *on, *then_to, *else_to),
         ControlInstruction::Return(from) => {
-            return_from_program(engine, definition, program, frame, *from)
+            return_from_program(engine, definition, program, frame, *from)?;
         }
     }
+    Ok(())
 }
 
 // The instructions on properties.
@@ -129,29 +135,32 @@ fn execute_on_properties(
     requires able { Able (left engine.now.counted (instruction_step definition.now (world_of engine.now.world) (agenda_of definition.now engine.now) (frame_view frame) (property_instruction_view instruction.now))) }
     requires names { LeadsToLiving (left engine.now.counted (instruction_step definition.now (world_of engine.now.world) (agenda_of definition.now engine.now) (frame_view frame) (property_instruction_view instruction.now))) }
     requires counted { Counts definition.now (λ o. in_frame o (frame_view frame)) engine.now }
+    requires room { HasRoom 2 engine.now }
     ensures step { Leads result
         (left engine.old.counted (instruction_step definition.now (world_of engine.old.world) (agenda_of definition.now engine.old) (frame_view frame) (property_instruction_view instruction.now)))
         (config_of definition.now engine.new) }
     ensures quiet { OnErr result (IsQuiet (world_of engine.old.world) (world_of engine.new.world)) }
     ensures counted { OnOk result (Counts definition.now nothing engine.new) }
+    ensures room { SameRoom engine.old engine.new }
 {
     match instruction {
         PropertyInstruction::Get {
             to,
             object,
             property,
-        } => get_property(engine, definition, frame, *to, *object, property.as_str()),
+        } => get_property(engine, definition, frame, *to, *object, property.as_str())?,
         PropertyInstruction::Set {
             object,
             property,
             from,
-        } => set_property(engine, definition, frame, *object, property.as_str(), *from),
+        } => set_property(engine, definition, frame, *object, property.as_str(), *from)?,
         PropertyInstruction::Notify { object, property } => {
-            notify_from_program(engine, definition, frame, *object, property.as_str())
+            notify_from_program(engine, definition, frame, *object, property.as_str())?;
         }
         PropertyInstruction::Freeze(object) => freeze_notify(engine, definition, frame, *object),
         PropertyInstruction::Thaw(object) => thaw_notify(engine, definition, frame, *object),
     }
+    Ok(())
 }
 
 // The instructions on objects. Handlers that `dispose` disconnects have no more turns.
@@ -164,25 +173,28 @@ fn execute_on_objects(
     requires able { Able (left engine.now.counted (instruction_step definition.now (world_of engine.now.world) (agenda_of definition.now engine.now) (frame_view frame) (object_instruction_view instruction.now))) }
     requires names { LeadsToLiving (left engine.now.counted (instruction_step definition.now (world_of engine.now.world) (agenda_of definition.now engine.now) (frame_view frame) (object_instruction_view instruction.now))) }
     requires counted { Counts definition.now (λ o. in_frame o (frame_view frame)) engine.now }
+    requires room { HasRoom 2 engine.now }
     ensures step { LeadsWithoutGone result
         (left engine.old.counted (instruction_step definition.now (world_of engine.old.world) (agenda_of definition.now engine.old) (frame_view frame) (object_instruction_view instruction.now)))
         (config_of definition.now engine.new) }
     ensures quiet { OnErr result (IsQuiet (world_of engine.old.world) (world_of engine.new.world)) }
     ensures closing { OnOk result (LeavesClosed (object_instruction_view instruction.now) (world_of engine.old.world) (frame_view frame) engine.old.closing engine.new.closing) }
     ensures counted { OnOk result (Counts definition.now nothing engine.new) }
+    ensures room { SameRoom engine.old engine.new }
 {
     match instruction {
         ObjectInstruction::LookUp { to, id } => {
-            look_up_object(engine, definition, frame, *to, id.as_str())
+            look_up_object(engine, definition, frame, *to, id.as_str());
         }
-        ObjectInstruction::New { to, id } => create(engine, definition, frame, *to, id.as_str()),
+        ObjectInstruction::New { to, id } => create(engine, definition, frame, *to, id.as_str())?,
         ObjectInstruction::Sink(object) => sink(engine, definition, frame, *object),
-        ObjectInstruction::Orphan(object) => orphan(engine, definition, frame, *object),
-        ObjectInstruction::Dispose(object) => run_dispose(engine, definition, frame, *object),
+        ObjectInstruction::Orphan(object) => orphan(engine, definition, frame, *object)?,
+        ObjectInstruction::Dispose(object) => run_dispose(engine, definition, frame, *object)?,
         ObjectInstruction::Adopt { to, parent, child } => {
-            adopt_from_program(engine, definition, frame, *to, *parent, *child)
+            adopt_from_program(engine, definition, frame, *to, *parent, *child)?;
         }
     }
+    Ok(())
 }
 
 // The instructions on signals and handlers. Handlers that `disconnect` disconnects have no more turns.
@@ -195,11 +207,13 @@ fn execute_on_signals(
     requires able { Able (left engine.now.counted (instruction_step definition.now (world_of engine.now.world) (agenda_of definition.now engine.now) (frame_view frame) (signal_instruction_view instruction.now))) }
     requires names { LeadsToLiving (left engine.now.counted (instruction_step definition.now (world_of engine.now.world) (agenda_of definition.now engine.now) (frame_view frame) (signal_instruction_view instruction.now))) }
     requires counted { Counts definition.now (λ o. in_frame o (frame_view frame)) engine.now }
+    requires room { HasRoom 2 engine.now }
     ensures step { LeadsWithoutGone result
         (left engine.old.counted (instruction_step definition.now (world_of engine.old.world) (agenda_of definition.now engine.old) (frame_view frame) (signal_instruction_view instruction.now)))
         (config_of definition.now engine.new) }
     ensures quiet { OnErr result (IsQuiet (world_of engine.old.world) (world_of engine.new.world)) }
     ensures counted { OnOk result (Counts definition.now nothing engine.new) }
+    ensures room { SameRoom engine.old engine.new }
 {
     match instruction {
         SignalInstruction::Emit {
@@ -215,24 +229,25 @@ fn execute_on_signals(
                 detail: as_text(detail),
                 args: args.as_slice(),
             };
-            emit_from_program(engine, definition, frame, *object, emit)
+            emit_from_program(engine, definition, frame, *object, emit)?;
         }
         SignalInstruction::Connect {
             to,
             object,
             connection,
-        } => connect_from_program(engine, definition, frame, *to, *object, connection),
+        } => connect_from_program(engine, definition, frame, *to, *object, connection)?,
         SignalInstruction::Disconnect { object, program } => {
-            disconnect_matched(engine, definition, frame, *object, program.as_str())
+            disconnect_matched(engine, definition, frame, *object, program.as_str());
         }
         SignalInstruction::Block { object, program } => {
-            block_matched(engine, definition, frame, *object, program.as_str())
+            block_matched(engine, definition, frame, *object, program.as_str());
         }
         SignalInstruction::Unblock { object, program } => {
-            unblock_matched(engine, definition, frame, *object, program.as_str())
+            unblock_matched(engine, definition, frame, *object, program.as_str());
         }
         SignalInstruction::Stop => stop_from_program(engine, definition, frame),
     }
+    Ok(())
 }
 
 // The instructions on bindings and sources.
@@ -244,15 +259,17 @@ fn execute_on_sources(
 ) -> Result<(), AllocError>
     requires able { Able (left engine.now.counted (instruction_step definition.now (world_of engine.now.world) (agenda_of definition.now engine.now) (frame_view frame) (source_instruction_view instruction.now))) }
     requires counted { Counts definition.now (λ o. in_frame o (frame_view frame)) engine.now }
+    requires room { HasRoom 1 engine.now }
     ensures step { Leads result
         (left engine.old.counted (instruction_step definition.now (world_of engine.old.world) (agenda_of definition.now engine.old) (frame_view frame) (source_instruction_view instruction.now)))
         (config_of definition.now engine.new) }
     ensures quiet { OnErr result (IsQuiet (world_of engine.old.world) (world_of engine.new.world)) }
     ensures counted { OnOk result (Counts definition.now nothing engine.new) }
+    ensures room { SameRoom engine.old engine.new }
 {
     match instruction {
         SourceInstruction::Unbind(name) => {
-            unbind_from_program(engine, definition, frame, name.as_str())
+            unbind_from_program(engine, definition, frame, name.as_str());
         }
         SourceInstruction::Idle {
             to,
@@ -267,7 +284,7 @@ fn execute_on_sources(
                 interval: None,
                 with: *with,
             };
-            attach_from_program(engine, definition, frame, *to, attach)
+            attach_from_program(engine, definition, frame, *to, attach)?;
         }
         SourceInstruction::Timeout {
             to,
@@ -283,10 +300,11 @@ fn execute_on_sources(
                 interval: Some(*interval),
                 with: *with,
             };
-            attach_from_program(engine, definition, frame, *to, attach)
+            attach_from_program(engine, definition, frame, *to, attach)?;
         }
         SourceInstruction::Remove(program) => {
-            remove_from_program(engine, definition, frame, program.as_str())
+            remove_from_program(engine, definition, frame, program.as_str());
         }
     }
+    Ok(())
 }

@@ -12,6 +12,7 @@ ghost use Rattle.frames.specs.FrameView.{frame_view};
 ghost use Rattle.bytecode.specs.View.{program_view};
 ghost use Rattle.engine_world.specs.Able.{Able, Leads};
 ghost use Rattle.engine_world.specs.Quiet.{IsQuiet};
+ghost use Rattle.engine_world.specs.Room.{HasRoom, SameRoom};
 ghost use Rattle.engine_world.specs.View.{world_of};
 ghost use Rattle.engine_world.specs.TaskView.{agenda_of};
 ghost use Rattle.engine_world.specs.Counting.{Counts, in_frame, nothing};
@@ -44,21 +45,20 @@ pub(crate) fn jump(
     program: &Program,
     mut frame: Frame,
     to: BlockNumber,
-) -> Result<(), AllocError>
+)
     requires able { Able (left engine.now.counted (in_front (agenda_of definition.now engine.now) (jumping definition.now (world_of engine.now.world) (frame_view frame) to.0))) }
     requires program { program_at definition.now (frame_view frame).program ≡ Some (program_view program.now) }
     requires counted { Counts definition.now (λ o. in_frame o (frame_view frame)) engine.now }
-    ensures step { Leads result
-        (left engine.old.counted (in_front (agenda_of definition.now engine.old) (jumping definition.now (world_of engine.old.world) (frame_view frame) to.0)))
-        (config_of definition.now engine.new) }
-    ensures quiet { OnErr result (IsQuiet (world_of engine.old.world) (world_of engine.new.world)) }
-    ensures counted { OnOk result (Counts definition.now nothing engine.new) }
+    requires room { HasRoom 1 engine.now }
+    ensures step { left engine.old.counted (in_front (agenda_of definition.now engine.old) (jumping definition.now (world_of engine.old.world) (frame_view frame) to.0))
+        ≡ Ok (config_of definition.now engine.new) }
+    ensures counted { Counts definition.now nothing engine.new }
+    ensures room { SameRoom engine.old engine.new }
 {
     // For the proof: the clauses speak of the definition.
     let _ = definition;
     frame.jump(program, to);
-    push_frame(engine, frame)?;
-    Ok(())
+    push_frame(engine, frame);
 }
 
 /// The program goes on at one of two blocks, by the truth value in a register.
@@ -70,15 +70,15 @@ pub(crate) fn branch(
     on: Register,
     then_to: BlockNumber,
     else_to: BlockNumber,
-) -> Result<(), AllocError>
+)
     requires able { Able (left engine.now.counted (in_front (agenda_of definition.now engine.now) (branching definition.now (world_of engine.now.world) (frame_view frame) on.0 then_to.0 else_to.0))) }
     requires program { program_at definition.now (frame_view frame).program ≡ Some (program_view program.now) }
     requires counted { Counts definition.now (λ o. in_frame o (frame_view frame)) engine.now }
-    ensures step { Leads result
-        (left engine.old.counted (in_front (agenda_of definition.now engine.old) (branching definition.now (world_of engine.old.world) (frame_view frame) on.0 then_to.0 else_to.0)))
-        (config_of definition.now engine.new) }
-    ensures quiet { OnErr result (IsQuiet (world_of engine.old.world) (world_of engine.new.world)) }
-    ensures counted { OnOk result (Counts definition.now nothing engine.new) }
+    requires room { HasRoom 1 engine.now }
+    ensures step { left engine.old.counted (in_front (agenda_of definition.now engine.old) (branching definition.now (world_of engine.old.world) (frame_view frame) on.0 then_to.0 else_to.0))
+        ≡ Ok (config_of definition.now engine.new) }
+    ensures counted { Counts definition.now nothing engine.new }
+    ensures room { SameRoom engine.old engine.new }
 {
     let Some(truth) = truth_at(frame.registers.as_slice(), on) else {
         unreachable!()
@@ -98,15 +98,15 @@ pub(crate) fn branch_null(
     on: Register,
     then_to: BlockNumber,
     else_to: BlockNumber,
-) -> Result<(), AllocError>
+)
     requires able { Able (left engine.now.counted (in_front (agenda_of definition.now engine.now) (branching_null definition.now (world_of engine.now.world) (frame_view frame) on.0 then_to.0 else_to.0))) }
     requires program { program_at definition.now (frame_view frame).program ≡ Some (program_view program.now) }
     requires counted { Counts definition.now (λ o. in_frame o (frame_view frame)) engine.now }
-    ensures step { Leads result
-        (left engine.old.counted (in_front (agenda_of definition.now engine.old) (branching_null definition.now (world_of engine.old.world) (frame_view frame) on.0 then_to.0 else_to.0)))
-        (config_of definition.now engine.new) }
-    ensures quiet { OnErr result (IsQuiet (world_of engine.old.world) (world_of engine.new.world)) }
-    ensures counted { OnOk result (Counts definition.now nothing engine.new) }
+    requires room { HasRoom 1 engine.now }
+    ensures step { left engine.old.counted (in_front (agenda_of definition.now engine.old) (branching_null definition.now (world_of engine.old.world) (frame_view frame) on.0 then_to.0 else_to.0))
+        ≡ Ok (config_of definition.now engine.new) }
+    ensures counted { Counts definition.now nothing engine.new }
+    ensures room { SameRoom engine.old engine.new }
 {
     let Some(is_null) = null_at(frame.registers.as_slice(), on) else {
         unreachable!()

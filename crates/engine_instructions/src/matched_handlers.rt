@@ -11,10 +11,11 @@ ghost use Rattle.machine_laws.specs.GoneLaws.{pruned};
 ghost use Rattle.engine_world.specs.Counting.{Counts, KeepsCounts, in_frame, nothing};
 ghost use Rattle.engine_world.specs.EngineView.{config_of};
 ghost use Rattle.engine_instructions.specs.HandlersView.{matched_in, matched_of};
-ghost use Rattle.engine_world.specs.Able.{Able, Leads, LeadsWithoutGone};
+ghost use Rattle.engine_world.specs.Able.{Able, ComesWithoutGone};
 ghost use Rattle.engine_world.specs.Quiet.{IsQuiet};
 ghost use Rattle.engine_world.specs.Standing.{gone_handlers};
 ghost use Rattle.engine_world.specs.TaskView.{agenda_of};
+ghost use Rattle.engine_world.specs.Room.{HasRoom, SameRoom};
 ghost use Rattle.engine_world.specs.View.{world_of};
 
 use crate::operands::{object_in, program_named};
@@ -55,6 +56,7 @@ fn disconnect(engine: &mut Engine, definition: &Definition, matched: Matched)
     ensures agenda { agenda_of definition.now engine.new ≡ map (pruned (gone_handlers (world_of engine.new.world))) (agenda_of definition.now engine.old) }
     ensures same { engine.new.counted ≡ engine.old.counted }
     ensures counted { KeepsCounts definition.now engine.old engine.new }
+    ensures stack { engine.new.stack ≡ engine.old.stack }
 {
     // For the proof: the clauses speak of the definition, and of the numbers of handlers.
     let _ = definition;
@@ -71,6 +73,7 @@ fn block(engine: &mut Engine, definition: &Definition, matched: Matched)
     ensures agenda { agenda_of definition.now engine.new ≡ agenda_of definition.now engine.old }
     ensures same { engine.new.counted ≡ engine.old.counted }
     ensures counted { KeepsCounts definition.now engine.old engine.new }
+    ensures stack { engine.new.stack ≡ engine.old.stack }
 {
     // For the proof: the clauses speak of the definition.
     let _ = definition;
@@ -86,6 +89,7 @@ fn unblock(engine: &mut Engine, definition: &Definition, matched: Matched)
     ensures agenda { agenda_of definition.now engine.new ≡ agenda_of definition.now engine.old }
     ensures same { engine.new.counted ≡ engine.old.counted }
     ensures counted { KeepsCounts definition.now engine.old engine.new }
+    ensures stack { engine.new.stack ≡ engine.old.stack }
 {
     // For the proof: the clauses speak of the definition.
     let _ = definition;
@@ -102,19 +106,19 @@ pub(crate) fn disconnect_matched(
     frame: Frame,
     object: Register,
     program: &str,
-) -> Result<(), AllocError>
+)
     requires able { Able (left engine.now.counted (in_front (agenda_of definition.now engine.now) (disconnecting definition.now (world_of engine.now.world) (frame_view frame) object.0 program.now))) }
     requires counted { Counts definition.now (λ o. in_frame o (frame_view frame)) engine.now }
-    ensures step { LeadsWithoutGone result
+    requires room { HasRoom 1 engine.now }
+    ensures step { ComesWithoutGone
         (left engine.old.counted (in_front (agenda_of definition.now engine.old) (disconnecting definition.now (world_of engine.old.world) (frame_view frame) object.0 program.now)))
         (config_of definition.now engine.new) }
-    ensures quiet { OnErr result (IsQuiet (world_of engine.old.world) (world_of engine.new.world)) }
-    ensures counted { OnOk result (Counts definition.now nothing engine.new) }
+    ensures counted { Counts definition.now nothing engine.new }
+    ensures room { SameRoom engine.old engine.new }
 {
     let matched = matched_in(engine, definition, &frame, object, program);
     disconnect(engine, definition, matched);
-    push_frame(engine, frame)?;
-    Ok(())
+    push_frame(engine, frame);
 }
 
 /// The handlers of a program on an object are blocked once more.
@@ -124,19 +128,18 @@ pub(crate) fn block_matched(
     frame: Frame,
     object: Register,
     program: &str,
-) -> Result<(), AllocError>
+)
     requires able { Able (left engine.now.counted (in_front (agenda_of definition.now engine.now) (blocking definition.now (world_of engine.now.world) (frame_view frame) object.0 program.now))) }
     requires counted { Counts definition.now (λ o. in_frame o (frame_view frame)) engine.now }
-    ensures step { Leads result
-        (left engine.old.counted (in_front (agenda_of definition.now engine.old) (blocking definition.now (world_of engine.old.world) (frame_view frame) object.0 program.now)))
-        (config_of definition.now engine.new) }
-    ensures quiet { OnErr result (IsQuiet (world_of engine.old.world) (world_of engine.new.world)) }
-    ensures counted { OnOk result (Counts definition.now nothing engine.new) }
+    requires room { HasRoom 1 engine.now }
+    ensures step { left engine.old.counted (in_front (agenda_of definition.now engine.old) (blocking definition.now (world_of engine.old.world) (frame_view frame) object.0 program.now))
+        ≡ Ok (config_of definition.now engine.new) }
+    ensures counted { Counts definition.now nothing engine.new }
+    ensures room { SameRoom engine.old engine.new }
 {
     let matched = matched_in(engine, definition, &frame, object, program);
     block(engine, definition, matched);
-    push_frame(engine, frame)?;
-    Ok(())
+    push_frame(engine, frame);
 }
 
 /// The handlers of a program on an object are blocked once less.
@@ -146,17 +149,16 @@ pub(crate) fn unblock_matched(
     frame: Frame,
     object: Register,
     program: &str,
-) -> Result<(), AllocError>
+)
     requires able { Able (left engine.now.counted (in_front (agenda_of definition.now engine.now) (unblocking definition.now (world_of engine.now.world) (frame_view frame) object.0 program.now))) }
     requires counted { Counts definition.now (λ o. in_frame o (frame_view frame)) engine.now }
-    ensures step { Leads result
-        (left engine.old.counted (in_front (agenda_of definition.now engine.old) (unblocking definition.now (world_of engine.old.world) (frame_view frame) object.0 program.now)))
-        (config_of definition.now engine.new) }
-    ensures quiet { OnErr result (IsQuiet (world_of engine.old.world) (world_of engine.new.world)) }
-    ensures counted { OnOk result (Counts definition.now nothing engine.new) }
+    requires room { HasRoom 1 engine.now }
+    ensures step { left engine.old.counted (in_front (agenda_of definition.now engine.old) (unblocking definition.now (world_of engine.old.world) (frame_view frame) object.0 program.now))
+        ≡ Ok (config_of definition.now engine.new) }
+    ensures counted { Counts definition.now nothing engine.new }
+    ensures room { SameRoom engine.old engine.new }
 {
     let matched = matched_in(engine, definition, &frame, object, program);
     unblock(engine, definition, matched);
-    push_frame(engine, frame)?;
-    Ok(())
+    push_frame(engine, frame);
 }

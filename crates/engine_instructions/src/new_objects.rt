@@ -19,6 +19,7 @@ ghost use Rattle.engine_world.specs.PeerPlaces.{is_there};
 ghost use Rattle.engine_world.specs.Able.{Able, Leads};
 ghost use Rattle.engine_world.specs.Quiet.{IsQuiet};
 ghost use Rattle.engine_world.specs.TaskView.{agenda_of, task_of};
+ghost use Rattle.engine_world.specs.Room.{HasRoom, SameRoom};
 ghost use Rattle.engine_world.specs.View.{world_of};
 
 use crate::registers::{write_null_and_say_limit, write_register};
@@ -123,11 +124,13 @@ fn create_at(
     requires peer { IfSome peer (λ number. number < length engine.now.world.seats) }
     requires identity { length (world_of engine.now.world).objects < most_identities }
     requires counted { Counts definition.now (λ o. in_frame o (frame_view frame)) engine.now }
+    requires room { HasRoom 2 engine.now }
     ensures step { Leads result
         (left engine.old.counted (in_front (agenda_of definition.now engine.old) (created definition.now (world_of engine.old.world) (frame_view frame) to.0 place.0 peer)))
         (config_of definition.now engine.new) }
     ensures quiet { OnErr result (IsQuiet (world_of engine.old.world) (world_of engine.new.world)) }
     ensures counted { OnOk result (Counts definition.now nothing engine.new) }
+    ensures room { SameRoom engine.old engine.new }
 {
     let new = make(engine, definition, place, peer)?;
     write_register(
@@ -136,7 +139,7 @@ fn create_at(
         frame,
         to,
         Some(object_value(new.object)),
-    )?;
+    );
     begin_construction(engine, new, false)?;
     Ok(())
 }
@@ -153,12 +156,14 @@ pub(crate) fn create(
     requires able { Able (left engine.now.counted (in_front (agenda_of definition.now engine.now)
         (creating definition.now (world_of engine.now.world) (agenda_of definition.now engine.now) (frame_view frame) to.0 id.now))) }
     requires counted { Counts definition.now (λ o. in_frame o (frame_view frame)) engine.now }
+    requires room { HasRoom 2 engine.now }
     ensures step { Leads result
         (left engine.old.counted (in_front (agenda_of definition.now engine.old)
         (creating definition.now (world_of engine.old.world) (agenda_of definition.now engine.old) (frame_view frame) to.0 id.now)))
         (config_of definition.now engine.new) }
     ensures quiet { OnErr result (IsQuiet (world_of engine.old.world) (world_of engine.new.world)) }
     ensures counted { OnOk result (Counts definition.now nothing engine.new) }
+    ensures room { SameRoom engine.old engine.new }
 {
     // For the proof: what is known of a definition's places.
     let _types = definition.types();

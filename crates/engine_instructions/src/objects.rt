@@ -15,6 +15,7 @@ ghost use Rattle.instance_tables.specs.Weak.{Knows};
 ghost use Rattle.machine_laws.specs.GoneLaws.{pruned};
 ghost use Rattle.engine_world.specs.Able.{Able, Leads, LeadsToLiving, LeadsWithoutGone};
 ghost use Rattle.engine_world.specs.Quiet.{IsQuiet};
+ghost use Rattle.engine_world.specs.Room.{HasRoom, SameRoom};
 ghost use Rattle.engine_world.specs.View.{world_of};
 ghost use Rattle.engine_world.specs.TaskView.{agenda_of};
 ghost use Rattle.engine_world.specs.ClosingView.{closed_with, or_number};
@@ -47,15 +48,15 @@ pub(crate) fn look_up_object(
     frame: Frame,
     to: Register,
     id: &str,
-) -> Result<(), AllocError>
+)
     requires able { Able (left engine.now.counted (in_front (agenda_of definition.now engine.now) (look_up_object definition.now (world_of engine.now.world) (frame_view frame) to.0 id.now))) }
     requires names { LeadsToLiving (left engine.now.counted (in_front (agenda_of definition.now engine.now) (look_up_object definition.now (world_of engine.now.world) (frame_view frame) to.0 id.now))) }
     requires counted { Counts definition.now (λ o. in_frame o (frame_view frame)) engine.now }
-    ensures step { Leads result
-        (left engine.old.counted (in_front (agenda_of definition.now engine.old) (look_up_object definition.now (world_of engine.old.world) (frame_view frame) to.0 id.now)))
-        (config_of definition.now engine.new) }
-    ensures quiet { OnErr result (IsQuiet (world_of engine.old.world) (world_of engine.new.world)) }
-    ensures counted { OnOk result (Counts definition.now nothing engine.new) }
+    requires room { HasRoom 1 engine.now }
+    ensures step { left engine.old.counted (in_front (agenda_of definition.now engine.old) (look_up_object definition.now (world_of engine.old.world) (frame_view frame) to.0 id.now))
+        ≡ Ok (config_of definition.now engine.new) }
+    ensures counted { Counts definition.now nothing engine.new }
+    ensures room { SameRoom engine.old engine.new }
 {
     let Some(place) = definition.place(id) else {
         unreachable!()
@@ -65,26 +66,20 @@ pub(crate) fn look_up_object(
 }
 
 /// An object floats no longer.
-pub(crate) fn sink(
-    engine: &mut Engine,
-    definition: &Definition,
-    frame: Frame,
-    object: Register,
-) -> Result<(), AllocError>
+pub(crate) fn sink(engine: &mut Engine, definition: &Definition, frame: Frame, object: Register)
     requires able { Able (left engine.now.counted (in_front (agenda_of definition.now engine.now) (sinking (world_of engine.now.world) (frame_view frame) object.0))) }
     requires counted { Counts definition.now (λ o. in_frame o (frame_view frame)) engine.now }
-    ensures step { Leads result
-        (left engine.old.counted (in_front (agenda_of definition.now engine.old) (sinking (world_of engine.old.world) (frame_view frame) object.0)))
-        (config_of definition.now engine.new) }
-    ensures quiet { OnErr result (IsQuiet (world_of engine.old.world) (world_of engine.new.world)) }
-    ensures counted { OnOk result (Counts definition.now nothing engine.new) }
+    requires room { HasRoom 1 engine.now }
+    ensures step { left engine.old.counted (in_front (agenda_of definition.now engine.old) (sinking (world_of engine.old.world) (frame_view frame) object.0))
+        ≡ Ok (config_of definition.now engine.new) }
+    ensures counted { Counts definition.now nothing engine.new }
+    ensures room { SameRoom engine.old engine.new }
 {
     // For the proof: the clauses speak of the definition.
     let _ = definition;
     let object = object_in(engine, &frame, object);
     engine.world.table.sink(object);
-    push_frame(engine, frame)?;
-    Ok(())
+    push_frame(engine, frame);
 }
 
 /// The notifications of an object wait from now on.
@@ -93,21 +88,20 @@ pub(crate) fn freeze_notify(
     definition: &Definition,
     frame: Frame,
     object: Register,
-) -> Result<(), AllocError>
+)
     requires able { Able (left engine.now.counted (in_front (agenda_of definition.now engine.now) (freezing (world_of engine.now.world) (frame_view frame) object.0))) }
     requires counted { Counts definition.now (λ o. in_frame o (frame_view frame)) engine.now }
-    ensures step { Leads result
-        (left engine.old.counted (in_front (agenda_of definition.now engine.old) (freezing (world_of engine.old.world) (frame_view frame) object.0)))
-        (config_of definition.now engine.new) }
-    ensures quiet { OnErr result (IsQuiet (world_of engine.old.world) (world_of engine.new.world)) }
-    ensures counted { OnOk result (Counts definition.now nothing engine.new) }
+    requires room { HasRoom 1 engine.now }
+    ensures step { left engine.old.counted (in_front (agenda_of definition.now engine.old) (freezing (world_of engine.old.world) (frame_view frame) object.0))
+        ≡ Ok (config_of definition.now engine.new) }
+    ensures counted { Counts definition.now nothing engine.new }
+    ensures room { SameRoom engine.old engine.new }
 {
     // For the proof: the clauses speak of the definition.
     let _ = definition;
     let object = object_in(engine, &frame, object);
     engine.world.table.freeze(object);
-    push_frame(engine, frame)?;
-    Ok(())
+    push_frame(engine, frame);
 }
 
 /// One freeze of an object is taken off. Where it was the last one, what waited is notified before the program goes on.
@@ -116,28 +110,27 @@ pub(crate) fn thaw_notify(
     definition: &Definition,
     frame: Frame,
     object: Register,
-) -> Result<(), AllocError>
+)
     requires able { Able (left engine.now.counted (in_front (agenda_of definition.now engine.now) (thaw_notify (world_of engine.now.world) (frame_view frame) object.0))) }
     requires counted { Counts definition.now (λ o. in_frame o (frame_view frame)) engine.now }
-    ensures step { Leads result
-        (left engine.old.counted (in_front (agenda_of definition.now engine.old) (thaw_notify (world_of engine.old.world) (frame_view frame) object.0)))
-        (config_of definition.now engine.new) }
-    ensures quiet { OnErr result (IsQuiet (world_of engine.old.world) (world_of engine.new.world)) }
-    ensures counted { OnOk result (Counts definition.now nothing engine.new) }
+    requires room { HasRoom 2 engine.now }
+    ensures step { left engine.old.counted (in_front (agenda_of definition.now engine.old) (thaw_notify (world_of engine.old.world) (frame_view frame) object.0))
+        ≡ Ok (config_of definition.now engine.new) }
+    ensures counted { Counts definition.now nothing engine.new }
+    ensures room { SameRoom engine.old engine.new }
 {
     // For the proof: the clauses speak of the definition.
     let _ = definition;
     let object = object_in(engine, &frame, object);
     let slots = engine.world.table.thaw(object);
-    push_frame(engine, frame)?;
+    push_frame(engine, frame);
     push_task(
         engine,
         Task::Thawing {
             object,
             slots: Slots::new(slots),
         },
-    )?;
-    Ok(())
+    );
 }
 
 // An object leaves its parent, if it has one.
@@ -166,14 +159,16 @@ pub(crate) fn orphan(
 ) -> Result<(), AllocError>
     requires able { Able (left engine.now.counted (in_front (agenda_of definition.now engine.now) (orphaning definition.now (world_of engine.now.world) (frame_view frame) object.0))) }
     requires counted { Counts definition.now (λ o. in_frame o (frame_view frame)) engine.now }
+    requires room { HasRoom 1 engine.now }
     ensures step { Leads result
         (left engine.old.counted (in_front (agenda_of definition.now engine.old) (orphaning definition.now (world_of engine.old.world) (frame_view frame) object.0)))
         (config_of definition.now engine.new) }
     ensures quiet { OnErr result (IsQuiet (world_of engine.old.world) (world_of engine.new.world)) }
     ensures counted { OnOk result (Counts definition.now nothing engine.new) }
+    ensures room { SameRoom engine.old engine.new }
 {
     let object = object_in(engine, &frame, object);
-    push_frame(engine, frame)?;
+    push_frame(engine, frame);
     leave(engine, definition, object)?;
     Ok(())
 }
@@ -189,16 +184,18 @@ pub(crate) fn adopt_from_program(
 ) -> Result<(), AllocError>
     requires able { Able (left engine.now.counted (in_front (agenda_of definition.now engine.now) (adopting definition.now (world_of engine.now.world) (frame_view frame) to.0 parent.0 child.0))) }
     requires counted { Counts definition.now (λ o. in_frame o (frame_view frame)) engine.now }
+    requires room { HasRoom 1 engine.now }
     ensures step { Leads result
         (left engine.old.counted (in_front (agenda_of definition.now engine.old) (adopting definition.now (world_of engine.old.world) (frame_view frame) to.0 parent.0 child.0)))
         (config_of definition.now engine.new) }
     ensures quiet { OnErr result (IsQuiet (world_of engine.old.world) (world_of engine.new.world)) }
     ensures counted { OnOk result (Counts definition.now nothing engine.new) }
+    ensures room { SameRoom engine.old engine.new }
 {
     let parent = object_in(engine, &frame, parent);
     let child = object_in(engine, &frame, child);
     let is_free = engine.world.table.refusal(parent, child).is_none();
-    write_register(engine, definition, frame, to, Some(Value::Bool(is_free)))?;
+    write_register(engine, definition, frame, to, Some(Value::Bool(is_free)));
     join_objects(engine, definition, parent, child)
 }
 
@@ -214,6 +211,7 @@ fn dispose(engine: &mut Engine, definition: &Definition, object: ObjectId) -> Re
     ensures same { OnOk result (engine.new.counted ≡ engine.old.counted) }
     ensures closing { OnOk result (engine.new.closing ≡ or_number (closed_with (world_of engine.old.world) object.0) engine.old.closing) }
     ensures counted { OnOk result (KeepsCounts definition.now engine.old engine.new) }
+    ensures room { SameRoom engine.old engine.new }
 {
     let line = dispose_line(engine, definition, object)?;
     let closed = closing_with(engine, definition, object)?;
@@ -236,6 +234,7 @@ pub(crate) fn run_dispose(
 ) -> Result<(), AllocError>
     requires able { Able (left engine.now.counted (in_front (agenda_of definition.now engine.now) (disposing definition.now (world_of engine.now.world) (frame_view frame) object.0))) }
     requires counted { Counts definition.now (λ o. in_frame o (frame_view frame)) engine.now }
+    requires room { HasRoom 1 engine.now }
     ensures step { LeadsWithoutGone result
         (left engine.old.counted (in_front (agenda_of definition.now engine.old) (disposing definition.now (world_of engine.old.world) (frame_view frame) object.0)))
         (config_of definition.now engine.new) }
@@ -243,9 +242,10 @@ pub(crate) fn run_dispose(
     ensures closing { OnOk result (engine.new.closing
         ≡ or_number (closed_in (world_of engine.old.world) (operand_in (world_of engine.old.world) (frame_view frame) object.0)) engine.old.closing) }
     ensures counted { OnOk result (Counts definition.now nothing engine.new) }
+    ensures room { SameRoom engine.old engine.new }
 {
     let object = object_in(engine, &frame, object);
-    push_frame(engine, frame)?;
+    push_frame(engine, frame);
     if engine.world.table.is_disposed(object) {
         return Ok(());
     }

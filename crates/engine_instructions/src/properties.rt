@@ -10,6 +10,7 @@ ghost use Rattle.g_values.specs.View.{value_view};
 ghost use Rattle.frames.specs.FrameView.{frame_view};
 ghost use Rattle.engine_world.specs.Able.{Able, Leads, LeadsToLiving};
 ghost use Rattle.engine_world.specs.Quiet.{IsQuiet};
+ghost use Rattle.engine_world.specs.Room.{HasRoom, SameRoom};
 ghost use Rattle.engine_world.specs.View.{world_of};
 ghost use Rattle.engine_instructions.specs.PropertyView.{readable_value};
 ghost use Rattle.engine_world.specs.TaskView.{agenda_of};
@@ -79,15 +80,18 @@ pub(crate) fn get_property(
     requires able { Able (left engine.now.counted (in_front (agenda_of definition.now engine.now) (get_property definition.now (world_of engine.now.world) (frame_view frame) to.0 object.0 property.now))) }
     requires names { LeadsToLiving (left engine.now.counted (in_front (agenda_of definition.now engine.now) (get_property definition.now (world_of engine.now.world) (frame_view frame) to.0 object.0 property.now))) }
     requires counted { Counts definition.now (λ o. in_frame o (frame_view frame)) engine.now }
+    requires room { HasRoom 1 engine.now }
     ensures step { Leads result
         (left engine.old.counted (in_front (agenda_of definition.now engine.old) (get_property definition.now (world_of engine.old.world) (frame_view frame) to.0 object.0 property.now)))
         (config_of definition.now engine.new) }
     ensures quiet { OnErr result (IsQuiet (world_of engine.old.world) (world_of engine.new.world)) }
     ensures counted { OnOk result (Counts definition.now nothing engine.new) }
+    ensures room { SameRoom engine.old engine.new }
 {
     let object = object_in(engine, &frame, object);
     let value = readable_value(engine, definition, object, property)?;
-    write_register(engine, definition, frame, to, Some(value))
+    write_register(engine, definition, frame, to, Some(value));
+    Ok(())
 }
 
 /// An object's property is set to the value of a register, before the program goes on.
@@ -101,16 +105,18 @@ pub(crate) fn set_property(
 ) -> Result<(), AllocError>
     requires able { Able (left engine.now.counted (in_front (agenda_of definition.now engine.now) (set_property definition.now (world_of engine.now.world) (frame_view frame) object.0 property.now from.0))) }
     requires counted { Counts definition.now (λ o. in_frame o (frame_view frame)) engine.now }
+    requires room { HasRoom 2 engine.now }
     ensures step { Leads result
         (left engine.old.counted (in_front (agenda_of definition.now engine.old) (set_property definition.now (world_of engine.old.world) (frame_view frame) object.0 property.now from.0)))
         (config_of definition.now engine.new) }
     ensures quiet { OnErr result (IsQuiet (world_of engine.old.world) (world_of engine.new.world)) }
     ensures counted { OnOk result (Counts definition.now nothing engine.new) }
+    ensures room { SameRoom engine.old engine.new }
 {
     let object = object_in(engine, &frame, object);
     let slot = slot_at(engine, definition, object, property);
     let value = value_in(&frame, from)?;
-    push_frame(engine, frame)?;
+    push_frame(engine, frame);
     push_task(
         engine,
         Task::Setting {
@@ -118,7 +124,7 @@ pub(crate) fn set_property(
             slot,
             value,
         },
-    )?;
+    );
     Ok(())
 }
 
@@ -132,16 +138,18 @@ fn raise(
 ) -> Result<(), AllocError>
     requires able { Able (uncounted (agenda_of definition.now engine.now) engine.now.counted (raising (world_of engine.now.world) object.0 slot)) }
     requires counted { IsCounted definition.now engine.now }
+    requires room { HasRoom 1 engine.now }
     ensures step { Leads result
         (uncounted (agenda_of definition.now engine.old) engine.old.counted (raising (world_of engine.old.world) object.0 slot))
         (config_of definition.now engine.new) }
     ensures quiet { OnErr result (IsQuiet (world_of engine.old.world) (world_of engine.new.world)) }
     ensures counted { OnOk result (KeepsCounts definition.now engine.old engine.new) }
+    ensures room { SameRoom engine.old engine.new }
 {
     // For the proof: the clauses speak of the definition.
     let _ = definition;
     if engine.world.table.add(object, slot)? {
-        push_task(engine, Task::Notifying { object, slot })?;
+        push_task(engine, Task::Notifying { object, slot });
     }
     Ok(())
 }
@@ -156,16 +164,18 @@ pub(crate) fn notify_from_program(
 ) -> Result<(), AllocError>
     requires able { Able (left engine.now.counted (in_front (agenda_of definition.now engine.now) (notify_from_program definition.now (world_of engine.now.world) (frame_view frame) object.0 property.now))) }
     requires counted { Counts definition.now (λ o. in_frame o (frame_view frame)) engine.now }
+    requires room { HasRoom 2 engine.now }
     ensures step { Leads result
         (left engine.old.counted (in_front (agenda_of definition.now engine.old) (notify_from_program definition.now (world_of engine.old.world) (frame_view frame) object.0 property.now)))
         (config_of definition.now engine.new) }
     ensures quiet { OnErr result (IsQuiet (world_of engine.old.world) (world_of engine.new.world)) }
     ensures counted { OnOk result (Counts definition.now nothing engine.new) }
+    ensures room { SameRoom engine.old engine.new }
 {
     let object = object_in(engine, &frame, object);
     let slot = slot_at(engine, definition, object, property);
     let spec = spec_of(engine, definition, object, slot);
-    push_frame(engine, frame)?;
+    push_frame(engine, frame);
     if !spec.is_readable() {
         return Ok(());
     }

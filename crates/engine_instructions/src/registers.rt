@@ -1,6 +1,6 @@
 //! Instructions that touch registers alone.
 
-ghost use Rattle.std.specs.Prelude.{Some, option_map, IfSome, OnOk, OnErr};
+ghost use Rattle.std.specs.Prelude.{◌≡◌, Ok, Some, option_map, IfSome, OnOk, OnErr};
 ghost use Rattle.ui_machine.specs.Instructions.{in_front, instruction_step};
 ghost use Rattle.ui_machine.specs.Instructions.Registers.{written_to};
 ghost use Rattle.ui_machine.specs.Output.Lines as lines;
@@ -12,6 +12,7 @@ ghost use Rattle.bytecode.specs.Computing.{HasKnownKind, instruction_of};
 ghost use Rattle.frames.specs.FrameView.{frame_view};
 ghost use Rattle.engine_world.specs.Able.{Able, Leads, LeadsToLiving};
 ghost use Rattle.engine_world.specs.Quiet.{IsQuiet};
+ghost use Rattle.engine_world.specs.Room.{HasRoom, SameRoom, TakesRoom};
 ghost use Rattle.engine_world.specs.View.{world_of};
 ghost use Rattle.engine_world.specs.TaskView.{agenda_of};
 ghost use Rattle.engine_world.specs.Counting.{Counts, in_frame, nothing};
@@ -35,22 +36,21 @@ pub(crate) fn write_register(
     mut frame: Frame,
     to: Register,
     value: Option<Value>,
-) -> Result<(), AllocError>
+)
     requires able { Able (left engine.now.counted (in_front (agenda_of definition.now engine.now) (written_to (world_of engine.now.world) to.0 (option_map value_view value) (frame_view frame)))) }
     requires names { IfSome (option_map value_view value) (NamesLiving (world_of engine.now.world)) }
     requires counted { Counts definition.now (λ o. in_frame o (frame_view frame)) engine.now }
-    ensures step { Leads result
-        (left engine.old.counted (in_front (agenda_of definition.now engine.old) (written_to (world_of engine.old.world) to.0 (option_map value_view value) (frame_view frame))))
-        (config_of definition.now engine.new) }
-    ensures quiet { OnErr result (IsQuiet (world_of engine.old.world) (world_of engine.new.world)) }
-    ensures counted { OnOk result (Counts definition.now nothing engine.new) }
+    requires room { HasRoom 1 engine.now }
+    ensures step { left engine.old.counted (in_front (agenda_of definition.now engine.old) (written_to (world_of engine.old.world) to.0 (option_map value_view value) (frame_view frame)))
+        ≡ Ok (config_of definition.now engine.new) }
+    ensures counted { Counts definition.now nothing engine.new }
+    ensures room { TakesRoom 1 engine.old engine.new }
 {
     // For the proof: the clauses speak of the definition, and what lives may be held once more.
     let _ = definition;
     never_full(engine);
     put(&mut engine.world.table, &mut frame, to, value);
-    push_frame(engine, frame)?;
-    Ok(())
+    push_frame(engine, frame);
 }
 
 /// A limit was reached, of what the word says: a line says so, and a register gets a value all the same.
@@ -66,17 +66,19 @@ pub(crate) fn write_null_and_say_limit(
         (written_to (said definition.now (world_of engine.now.world) (lines.limit word.now)) to.0 (Some (value_view value)) (frame_view frame)))) }
     requires names { NamesLiving (world_of engine.now.world) (value_view value) }
     requires counted { Counts definition.now (λ o. in_frame o (frame_view frame)) engine.now }
+    requires room { HasRoom 1 engine.now }
     ensures step { Leads result
         (left engine.old.counted (in_front (agenda_of definition.now engine.old)
         (written_to (said definition.now (world_of engine.old.world) (lines.limit word.now)) to.0 (Some (value_view value)) (frame_view frame))))
         (config_of definition.now engine.new) }
     ensures quiet { OnErr result (IsQuiet (world_of engine.old.world) (world_of engine.new.world)) }
     ensures counted { OnOk result (Counts definition.now nothing engine.new) }
+    ensures room { SameRoom engine.old engine.new }
 {
     // For the proof: what lives may be held once more.
     never_full(engine);
     put(&mut engine.world.table, &mut frame, to, Some(value));
-    push_frame(engine, frame)?;
+    push_frame(engine, frame);
     say_limit(engine, definition, word)?;
     Ok(())
 }
@@ -93,11 +95,13 @@ pub(crate) fn compute_register(
     requires names { LeadsToLiving (left engine.now.counted (instruction_step definition.now (world_of engine.now.world) (agenda_of definition.now engine.now) (frame_view frame) (instruction_of computation.now to.0))) }
     requires known { HasKnownKind definition.now.types computation.now }
     requires counted { Counts definition.now (λ o. in_frame o (frame_view frame)) engine.now }
+    requires room { HasRoom 1 engine.now }
     ensures step { Leads result
         (left engine.old.counted (instruction_step definition.now (world_of engine.old.world) (agenda_of definition.now engine.old) (frame_view frame) (instruction_of computation.now to.0)))
         (config_of definition.now engine.new) }
     ensures quiet { OnErr result (IsQuiet (world_of engine.old.world) (world_of engine.new.world)) }
     ensures counted { OnOk result (Counts definition.now nothing engine.new) }
+    ensures room { SameRoom engine.old engine.new }
 {
     let types = definition.types();
     let registers = frame.registers.as_slice();
@@ -106,7 +110,9 @@ pub(crate) fn compute_register(
         Computed::Value(value) => write_register(engine, definition, frame, to, Some(value)),
         Computed::Unset => write_register(engine, definition, frame, to, None),
         Computed::TooLong => {
-            write_null_and_say_limit(engine, definition, frame, to, Value::Text(None), "join")
+            let null = Value::Text(None);
+            write_null_and_say_limit(engine, definition, frame, to, null, "join")?;
         }
     }
+    Ok(())
 }

@@ -12,6 +12,7 @@ ghost use Rattle.engine_world.specs.EngineView.{config_of};
 ghost use Rattle.engine_world.specs.Able.{Able, Leads};
 ghost use Rattle.engine_world.specs.Quiet.{IsQuiet};
 ghost use Rattle.engine_world.specs.TaskView.{agenda_of};
+ghost use Rattle.engine_world.specs.Room.{SameRoom};
 ghost use Rattle.engine_world.specs.View.{world_of};
 
 use crate::accumulation::give_down;
@@ -52,11 +53,13 @@ pub(crate) fn return_from_program(
         (config_of definition.now engine.new) }
     ensures quiet { OnErr result (IsQuiet (world_of engine.old.world) (world_of engine.new.world)) }
     ensures counted { OnOk result (Counts definition.now nothing engine.new) }
+    ensures room { SameRoom engine.old engine.new }
 {
     // For the proof: what the registers name lives, and may be held once more.
     never_full(engine);
     let given = given_by(&frame, from)?;
-    give_down(engine, definition, given)?;
+    give_down(engine, definition, given);
     let_go_registers(&mut engine.world.table, frame.registers.as_slice());
+    engine.spare_registers.give_back(frame.registers);
     Ok(())
 }

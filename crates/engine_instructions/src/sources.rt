@@ -10,6 +10,7 @@ ghost use Rattle.engine_world.specs.Quiet.{IsQuiet};
 ghost use Rattle.engine_world.specs.SourceView.{with_new_source};
 ghost use Rattle.ui_machine.specs.Steps.{left};
 ghost use Rattle.frames.specs.FrameView.{frame_view};
+ghost use Rattle.engine_world.specs.Room.{HasRoom, SameRoom};
 ghost use Rattle.engine_world.specs.View.{world_of};
 ghost use Rattle.engine_world.specs.TaskView.{agenda_of};
 ghost use Rattle.engine_world.specs.Counting.{Counts, in_frame, nothing};
@@ -66,11 +67,13 @@ pub(crate) fn attach_from_program(
 ) -> Result<(), AllocError>
     requires able { Able (left engine.now.counted (in_front (agenda_of definition.now engine.now) (attaching definition.now (world_of engine.now.world) (frame_view frame) to.0 (attach_of attach)))) }
     requires counted { Counts definition.now (λ o. in_frame o (frame_view frame)) engine.now }
+    requires room { HasRoom 1 engine.now }
     ensures step { Leads result
         (left engine.old.counted (in_front (agenda_of definition.now engine.old) (attaching definition.now (world_of engine.old.world) (frame_view frame) to.0 (attach_of attach.entry))))
         (config_of definition.now engine.new) }
     ensures quiet { OnErr result (IsQuiet (world_of engine.old.world) (world_of engine.new.world)) }
     ensures counted { OnOk result (Counts definition.now nothing engine.new) }
+    ensures room { SameRoom engine.old engine.new }
 {
     let program = program_named(definition, attach.program);
     let arg = data_in(engine, &frame, attach.with);
@@ -78,7 +81,8 @@ pub(crate) fn attach_from_program(
     // For the proof: what lives may be held once more.
     never_full(engine);
     if attach_source(engine, source)? {
-        return write_register(engine, definition, frame, to, Some(Value::Bool(true)));
+        write_register(engine, definition, frame, to, Some(Value::Bool(true)));
+        return Ok(());
     }
     write_null_and_say_limit(
         engine,
@@ -96,17 +100,16 @@ pub(crate) fn remove_from_program(
     definition: &Definition,
     frame: Frame,
     program: &str,
-) -> Result<(), AllocError>
+)
     requires able { Able (left engine.now.counted (in_front (agenda_of definition.now engine.now) (removing definition.now (world_of engine.now.world) (frame_view frame) program.now))) }
     requires counted { Counts definition.now (λ o. in_frame o (frame_view frame)) engine.now }
-    ensures step { Leads result
-        (left engine.old.counted (in_front (agenda_of definition.now engine.old) (removing definition.now (world_of engine.old.world) (frame_view frame) program.now)))
-        (config_of definition.now engine.new) }
-    ensures quiet { OnErr result (IsQuiet (world_of engine.old.world) (world_of engine.new.world)) }
-    ensures counted { OnOk result (Counts definition.now nothing engine.new) }
+    requires room { HasRoom 1 engine.now }
+    ensures step { left engine.old.counted (in_front (agenda_of definition.now engine.old) (removing definition.now (world_of engine.old.world) (frame_view frame) program.now))
+        ≡ Ok (config_of definition.now engine.new) }
+    ensures counted { Counts definition.now nothing engine.new }
+    ensures room { SameRoom engine.old engine.new }
 {
     let number = program_named(definition, program);
     remove_sources(engine, number);
-    push_frame(engine, frame)?;
-    Ok(())
+    push_frame(engine, frame);
 }

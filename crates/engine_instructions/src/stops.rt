@@ -13,6 +13,7 @@ ghost use Rattle.engine_world.specs.EngineView.{config_of};
 ghost use Rattle.engine_world.specs.Able.{Able, Leads};
 ghost use Rattle.engine_world.specs.Quiet.{IsQuiet};
 ghost use Rattle.engine_world.specs.TaskView.{agenda_of};
+ghost use Rattle.engine_world.specs.Room.{HasRoom, SameRoom, TakesRoom};
 ghost use Rattle.engine_world.specs.View.{world_of};
 
 use definitions::Definition;
@@ -23,14 +24,15 @@ use frames::Frame;
 use std::alloc::AllocError;
 
 // The emission that runs the program stops: what is left of it is its cleanup stage, which makes no transfers.
-fn stop_emission(engine: &mut Engine) -> Result<(), AllocError>
+fn stop_emission(engine: &mut Engine)
     requires begun { AllTakeKnownHandlers engine.now.world.handlers.last engine.now.stack }
-    ensures agenda { OnOk result ((d : machine.Definition) → agenda_of d engine.new ≡ stopped (agenda_of d engine.old)) }
+    ensures agenda { (d : machine.Definition) → agenda_of d engine.new ≡ stopped (agenda_of d engine.old) }
     ensures beside { engine.new ≡ record engine.old { stack = engine.new.stack } }
-    ensures begun { OnOk result ((last : ℕ) → AllTakeKnownHandlers last engine.old.stack → AllTakeKnownHandlers last engine.new.stack) }
+    ensures begun { (last : ℕ) → AllTakeKnownHandlers last engine.old.stack → AllTakeKnownHandlers last engine.new.stack }
+    ensures room { TakesRoom 0 engine.old engine.new }
 {
     let Some(task) = engine.stack.pop() else {
-        return Ok(());
+        return;
     };
     let Task::Emitting {
         mut cursor,
@@ -39,8 +41,8 @@ fn stop_emission(engine: &mut Engine) -> Result<(), AllocError>
         transfers: _,
     } = task
     else {
-        engine.stack.push(task)?;
-        return Ok(());
+        engine.stack.push(task);
+        return;
     };
     cursor.stop();
     engine.stack.push(Task::Emitting {
@@ -48,27 +50,21 @@ fn stop_emission(engine: &mut Engine) -> Result<(), AllocError>
         args,
         by_event,
         transfers: Transfers::new(engine.alloc),
-    })?;
-    Ok(())
+    });
 }
 
 /// The emission that runs the program stops, and the program goes on.
-pub(crate) fn stop_from_program(
-    engine: &mut Engine,
-    definition: &Definition,
-    frame: Frame,
-) -> Result<(), AllocError>
+pub(crate) fn stop_from_program(engine: &mut Engine, definition: &Definition, frame: Frame)
     requires able { Able (left engine.now.counted (instruction_step definition.now (world_of engine.now.world) (agenda_of definition.now engine.now) (frame_view frame) words.stop)) }
     requires counted { Counts definition.now (λ o. in_frame o (frame_view frame)) engine.now }
-    ensures step { Leads result
-        (left engine.old.counted (instruction_step definition.now (world_of engine.old.world) (agenda_of definition.now engine.old) (frame_view frame) words.stop))
-        (config_of definition.now engine.new) }
-    ensures quiet { OnErr result (IsQuiet (world_of engine.old.world) (world_of engine.new.world)) }
-    ensures counted { OnOk result (Counts definition.now nothing engine.new) }
+    requires room { HasRoom 1 engine.now }
+    ensures step { left engine.old.counted (instruction_step definition.now (world_of engine.old.world) (agenda_of definition.now engine.old) (frame_view frame) words.stop)
+        ≡ Ok (config_of definition.now engine.new) }
+    ensures counted { Counts definition.now nothing engine.new }
+    ensures room { SameRoom engine.old engine.new }
 {
     // For the proof: the clauses speak of the definition.
     let _ = definition;
-    stop_emission(engine)?;
-    push_frame(engine, frame)?;
-    Ok(())
+    stop_emission(engine);
+    push_frame(engine, frame);
 }

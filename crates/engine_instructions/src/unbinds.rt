@@ -12,6 +12,7 @@ ghost use Rattle.engine_world.specs.EngineView.{config_of};
 ghost use Rattle.engine_world.specs.Able.{Able, Leads};
 ghost use Rattle.engine_world.specs.Quiet.{IsQuiet};
 ghost use Rattle.engine_world.specs.TaskView.{agenda_of};
+ghost use Rattle.engine_world.specs.Room.{HasRoom, SameRoom};
 ghost use Rattle.engine_world.specs.View.{world_of};
 
 use definitions::Definition;
@@ -36,18 +37,17 @@ pub(crate) fn unbind_from_program(
     definition: &Definition,
     frame: Frame,
     name: &str,
-) -> Result<(), AllocError>
+)
     requires able { Able (left engine.now.counted (in_front (agenda_of definition.now engine.now) (unbinding definition.now (world_of engine.now.world) (frame_view frame) name.now))) }
     requires counted { Counts definition.now (λ o. in_frame o (frame_view frame)) engine.now }
-    ensures step { Leads result
-        (left engine.old.counted (in_front (agenda_of definition.now engine.old) (unbinding definition.now (world_of engine.old.world) (frame_view frame) name.now)))
-        (config_of definition.now engine.new) }
-    ensures quiet { OnErr result (IsQuiet (world_of engine.old.world) (world_of engine.new.world)) }
-    ensures counted { OnOk result (Counts definition.now nothing engine.new) }
+    requires room { HasRoom 1 engine.now }
+    ensures step { left engine.old.counted (in_front (agenda_of definition.now engine.old) (unbinding definition.now (world_of engine.old.world) (frame_view frame) name.now))
+        ≡ Ok (config_of definition.now engine.new) }
+    ensures counted { Counts definition.now nothing engine.new }
+    ensures room { SameRoom engine.old engine.new }
 {
     // For the proof: the clauses speak of the definition.
     let _ = definition;
     unbind(engine, name);
-    push_frame(engine, frame)?;
-    Ok(())
+    push_frame(engine, frame);
 }

@@ -89,7 +89,7 @@ module _ (d : Definition) (may : Relations) (p : Point) (call : Call) (rest : Li
       ∙ ap (λ b. cond b (Some reply.question) None) is_open
 
   -- its method takes the arguments
-  pub asked_aptly : ComesOfSafe d p → Takes d (slice_get s.state.shape call.method) call.args
+  pub asked_aptly : {room : ℕ} → ComesOfSafe d room p → Takes d (slice_get s.state.shape call.method) call.args
   asked_aptly safe = (subst (λ q. IfSome q (IsApt d safe.at)) (asks_there safe.at safe.stands) (safe.safe.asks [] tt safe.at (reaches_here d safe.at))).args
 
   -- no memory was found for the line of the call
@@ -121,7 +121,7 @@ module _ (d : Definition) (may : Relations) (p : Point) (call : Call) (rest : Li
   steps reply = ap (first_of d reply p.view) none
 
   -- it is not stuck
-  pub asked_acts : ComesOfSafe d p → GivenBy may reply → (arm : Arm) → act d p.view.world (Some (forgotten_reply reply)) p.view.agenda p.view.counted ≡ Err arm → ⊥
+  pub asked_acts : {room : ℕ} → ComesOfSafe d room p → GivenBy may reply → (arm : Arm) → act d p.view.world (Some (forgotten_reply reply)) p.view.agenda p.view.counted ≡ Err arm → ⊥
   asked_acts safe given arm is =
       let c = safe.at in
       let here = safe.stands in
@@ -138,7 +138,7 @@ module _ (d : Definition) (may : Relations) (p : Point) (call : Call) (rest : Li
   reaches_replied c e s = record { count = suc zero; steps = record { reply = Some reply; later = []; mid = e; replied = refl; step = s; follows = (refl, refl) } }
 
   -- and what it leaves names what lives
-  pub asked_names : ComesOfSafe d p → GivenBy may reply → LeadsToLiving (act d p.view.world (Some (forgotten_reply reply)) p.view.agenda p.view.counted)
+  pub asked_names : {room : ℕ} → ComesOfSafe d room p → GivenBy may reply → LeadsToLiving (act d p.view.world (Some (forgotten_reply reply)) p.view.agenda p.view.counted)
   asked_names safe given = by (act d p.view.world (Some (forgotten_reply reply)) p.view.agenda p.view.counted) refl
     where
       by : (a : Answer Config) → act d p.view.world (Some (forgotten_reply reply)) p.view.agenda p.view.counted ≡ a → LeadsToLiving a

@@ -1,5 +1,5 @@
 -- The step of a due call whose peer is open: how the machine follows it.
-use Rattle.std.proofs.Common.{◌≡◌, refl, ap, sym, subst, ◌∙◌, true, List, ◌∷◌, map, Option, None, Some, Ok, Err}
+use Rattle.std.proofs.Common.{◌≡◌, refl, ap, sym, subst, ◌∙◌, true, List, ◌∷◌, map, Option, None, Some, Ok, Err, ℕ}
 use Rattle.ui_machine.specs.declared.arm.Arm.{Arm}
 use Rattle.ui_machine.specs.Definition.{Definition}
 use Rattle.ui_machine.specs.Definition.Values.{Value}
@@ -24,7 +24,7 @@ use Rattle.engine_pools.proofs.Living.{no_seen, read_at, shut_seen}
 use Rattle.engine_pools.proofs.Points.{safe_knows}
 use Rattle.engine_pools.proofs.Replies.{given, known_asked}
 
-module _ (d : Definition) (may : Relations) (p : Point) (call : Call) (rest : List Task) (safe : ComesOfSafe d p) (none : NoneUnheld d p.view)
+module _ (d : Definition) (may : Relations) (p : Point) (call : Call) (rest : List Task) {room : ℕ} (safe : ComesOfSafe d room p) (none : NoneUnheld d p.view)
     (first : p.view.agenda ≡ Calling call ∷ rest) (opened : is_asked p.view.world call.peer ≡ true) where
   knows : Knows p.view.world p.pool
   knows = safe_knows d safe

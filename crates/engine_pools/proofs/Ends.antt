@@ -80,8 +80,8 @@ module _ (d : Definition) (may : Relations) (pool : List Seen) (w : World) (t : 
     knows_there : Knows view.world pool
     knows_there = knows ∙ sym (ap (λ (x : Config). map seen_of x.world.peers) begun)
 
-    pub safe_begun : IsSafe d (beginning (world_at pool w) t) → ComesOfSafe d first
-    safe_begun safe = record { at = real d first; safe = subst (IsSafe d) (sym real_there) safe; stands = stands_there d first whole knows_there }
+    pub safe_begun : {room : ℕ} → IsSafe d room (beginning (world_at pool w) t) → ComesOfSafe d room first
+    safe_begun {room} safe = record { at = real d first; safe = subst (IsSafe d room) (sym real_there) safe; stands = stands_there d first whole knows_there }
 
     pub carried_begun : (q : Point) → Follows d may first q → HasEnded d q.view → (r : Result Reply AllocError) (new : World) → IfOk r (λ reply. EndsBy reply d q.view new)
         → OnErr r (IsQuiet q.view.world new) → Carried r d may (beginning (world_at pool w) t) (world_at q.pool new)
@@ -93,7 +93,7 @@ module _ (d : Definition) (may : Relations) (pool : List Seen) (w : World) (t : 
         subst (λ (x : Config). Replied may (λ replies. Halting d may replies x left shown)) real_there (halts_so d may first whole knows_there left shown breaks)
 
     -- the pool is known at its end
-    pub knows_begun : IsSafe d (beginning (world_at pool w) t) → (q : Point) → Follows d may first q → (r : Result Reply AllocError) (new : World) → IfOk r (λ reply. EndsBy reply d q.view new)
+    pub knows_begun : {room : ℕ} → IsSafe d room (beginning (world_at pool w) t) → (q : Point) → Follows d may first q → (r : Result Reply AllocError) (new : World) → IfOk r (λ reply. EndsBy reply d q.view new)
         → OnOk r (Knows new q.pool)
     knows_begun safe q follows (Ok reply) new ends = subst (λ (v : World). Knows v q.pool) (sym ends.said) (safe_knows d (safe_on d (safe_begun safe) follows))
     knows_begun safe q follows (Err e) new ends = tt

@@ -102,7 +102,7 @@ module _ (d : Definition) (front : List (List ℕ)) where
   numbers_kept : (at : Config) → HasNumbersLeft (fronted_at front at) → HasNumbersLeft at
   numbers_kept at left = record { identities = left.identities; handlers = left.handlers }
 
-  pub safe_kept : (c : Config) → IsSafe d (fronted_at front c) → IsSafe d c
+  pub safe_kept : {room : ℕ} (c : Config) → IsSafe d room (fronted_at front c) → IsSafe d room c
   safe_kept c s = record {
     most = s.most;
     safe = record {
@@ -118,13 +118,14 @@ module _ (d : Definition) (front : List (List ℕ)) where
         apt_kept at (question d at)
         (subst (λ (q : Option Question). IfSome q (IsApt d (fronted_at front at))) (question_stays front d at) (s.asks replies fit (fronted_at front at) (behind r)));
     names = λ replies fit at r. names_kept at (s.names replies fit (fronted_at front at) (behind r));
+    few = λ replies fit at r. s.few replies fit (fronted_at front at) (behind r);
     numbers = λ replies fit at r. numbers_kept at (s.numbers replies fit (fronted_at front at) (behind r));
   }
 
-  pub comes_of_safe : (p : Point) (c : Config) → Stands (fronted_point front p) c → IsSafe d c → ComesOfSafe d p
-  comes_of_safe p c stands safe = record {
+  pub comes_of_safe : {room : ℕ} (p : Point) (c : Config) → Stands (fronted_point front p) c → IsSafe d room c → ComesOfSafe d room p
+  comes_of_safe {room} p c stands safe = record {
     at = kept_at p c;
-    safe = safe_kept (kept_at p c) (subst (IsSafe d) (sym (kept_behind p c stands)) safe);
+    safe = safe_kept (kept_at p c) (subst (IsSafe d room) (sym (kept_behind p c stands)) safe);
     stands = stands_kept p c stands;
   }
 

@@ -34,8 +34,11 @@ use Rattle.law_living.proofs.LivingProofs.{throughout}
 use Rattle.law_left_numbers.specs.Kin.{HasKinMade}
 use Rattle.law_left_numbers.proofs.HandlerProofs.{builds_have_handler_numbers, handler_numbers_last, requests_have_handler_numbers, sources_have_handler_numbers}
 use Rattle.law_left_numbers.proofs.RunProofs.{builds_have_identities, builds_have_kin_made, identities_last, requests_have_identities, sources_have_identities}
+use Rattle.law_stacks.specs.Stacks.{IsStacked}
+use Rattle.law_stacks.proofs.ShortProofs.{stacked_are_short}
+use Rattle.law_stacks.proofs.StepProofs.{stacks_last}
 use Rattle.engine_pools.proofs.KinMade.{kin_made}
-use Rattle.engine_pools.specs.Promises.{BuildKeeps, EventKeeps, IsNumberable, IsNumbered, Rests, by_request, by_source}
+use Rattle.engine_pools.specs.Promises.{BuildKeeps, EventKeeps, IsNumberable, IsNumbered, IsRoomy, Rests, by_request, by_source}
 use Rattle.engine_pools.specs.Safety.{HasNumbersLeft, IsSafe}
 use Rattle.engine_pools.proofs.Apt.{asks_on}
 
@@ -93,8 +96,8 @@ module _ (d : Definition) where
 
   module _ (well : WellRead d) where
     -- what begins well is safe
-    safe_by : (a : Accepted d) (e : Entry) (c : Config) → IsPrinted d a e → IsGood d a (bound_of d a e) c → HasNumbersLeft c → IsSafe d c
-    safe_by a e c printed good left =
+    safe_by : (room : ℕ) → IsRoomy d room → (a : Accepted d) (e : Entry) (c : Config) → IsPrinted d a e → IsGood d a (bound_of d a e) c → HasNumbersLeft c → IsStacked c.agenda → IsSafe d room c
+    safe_by room roomy a e c printed good left stacked =
         let few = printed_few d a well e printed in
         let kept = keeps steps_keep_good d well a e c few printed good in
         record {
@@ -102,6 +105,11 @@ module _ (d : Definition) where
           safe = record { unstuck = kept.never_stuck; shallow = kept.shallow };
           asks = asks_on d a (bound_of d a e) steps_keep_good well few c good;
           names = throughout d well a (bound_of d a e) few c good;
+          few = λ replies fit at reached.
+              let short = stacked_are_short at.agenda (stacks_last d replies c at reached stacked) in
+              let shallow = kept.shallow replies fit at reached in
+              let enough = roomy a in
+              omega (arith, short, shallow, enough);
           numbers = λ replies fit at reached. numbers_last c (kin_made d c.world good.objects) left replies at reached;
         }
 
@@ -115,8 +123,8 @@ module _ (d : Definition) where
       build_numbered : IsNumberable d → HasNumbersLeft (of_build d peers)
       build_numbered few = record { identities = builds_have_identities d peers few.places; handlers = builds_have_handler_numbers d peers few.signals }
 
-      pub build_safe : IsNumberable d → Accepted d → IsSafe d (of_build d peers)
-      build_safe few a = safe_by a entries.build (of_build d peers) (build_printed d a) (build_begins d well a peers ready) (build_numbered few)
+      pub build_safe : (room : ℕ) → IsRoomy d room → IsNumberable d → Accepted d → IsSafe d room (of_build d peers)
+      build_safe room roomy few a = safe_by room roomy a entries.build (of_build d peers) (build_printed d a) (build_begins d well a peers ready) (build_numbered few) tt
 
       pub build_rests : IsNumberable d → (replies : List Reply) → Each (Fits d) replies → (count : ℕ) (new : World) → Dispatches d replies (of_build d peers) count new → Rests d new
       build_rests few = rests_by (of_build d peers) (λ a. (_, build_promised a)) (λ a. (builds_have_kin_made d peers, build_numbered few))
@@ -130,8 +138,9 @@ module _ (d : Definition) where
       request_numbered : Accepted d → HasNumbersLeft (of_request w r)
       request_numbered a = record { identities = requests_have_identities d w r (rests a).1.objects; handlers = requests_have_handler_numbers d w r (rests a).1.handlers }
 
-      pub request_safe : Accepted d → IsSafe d (of_request w r)
-      request_safe a = safe_by a (entry_of d r) (of_request w r) (request_printed d a r) (requests_begin d well a w (rests a).0 r read held) (request_numbered a)
+      pub request_safe : (room : ℕ) → IsRoomy d room → Accepted d → IsSafe d room (of_request w r)
+      request_safe room roomy a =
+          safe_by room roomy a (entry_of d r) (of_request w r) (request_printed d a r) (requests_begin d well a w (rests a).0 r read held) (request_numbered a) tt
 
       pub request_rests : (replies : List Reply) → Each (Fits d) replies → (count : ℕ) (new : World) → Dispatches d replies (of_request w r) count new → Rests d new
       request_rests = rests_by (of_request w r) (λ a. (_, request_promised a)) (λ a. (kin_made d w (rests a).0.objects, request_numbered a))
@@ -157,10 +166,10 @@ module _ (d : Definition) where
       source_promised : (a : Accepted d) → (e : Entry) × Keeps d a e (beginning w (Due number))
       source_promised a = (_, source_keeps steps_keep_good d well a w (rests a).0 number s stands)
 
-      pub source_safe : Accepted d → IsSafe d (beginning w (Due number))
-      source_safe a =
-          safe_by a (entries.source s.program) (beginning w (Due number)) (source_printed d a s.program (source_known a w (rests a).0 number s stands).told)
-          (sources_begin d well a w (rests a).0 number s stands) (source_numbered w number (rests a).1)
+      pub source_safe : (room : ℕ) → IsRoomy d room → Accepted d → IsSafe d room (beginning w (Due number))
+      source_safe room roomy a =
+          safe_by room roomy a (entries.source s.program) (beginning w (Due number)) (source_printed d a s.program (source_known a w (rests a).0 number s stands).told)
+          (sources_begin d well a w (rests a).0 number s stands) (source_numbered w number (rests a).1) (tt, tt)
 
       pub source_rests : (replies : List Reply) → Each (Fits d) replies → (count : ℕ) (new : World) → Dispatches d replies (beginning w (Due number)) count new → Rests d new
       source_rests = rests_by (beginning w (Due number)) source_promised (λ a. (kin_made d w (rests a).0.objects, source_numbered w number (rests a).1))

@@ -1,5 +1,6 @@
+use Rattle.std.proofs.lemmas.List.{length-map}
 -- The engine's tasks name what lives, where the machine's do, and numbers are left.
-use Rattle.std.proofs.Common.{◌≡◌, refl, subst, ℕ, true, List, [], ◌∷◌, map, IfSome, IsSome, arith}
+use Rattle.std.proofs.Common.{◌≡◌, refl, sym, ap, subst, ◌∙◌, ℕ, true, List, [], ◌∷◌, length, map, IfSome, IsSome, arith}
 use Rattle.ui_machine.specs.Rules.Build.{is_connecting, is_making, of_items}
 use Rattle.ui_machine.specs.Rules.Sets.{lives}
 use Rattle.ui_machine.specs.Seq.{total}
@@ -12,7 +13,7 @@ use Rattle.law_typing.specs.Good.Living.{TaskNamesLiving}
 use Rattle.law_typing.specs.Verdict.Accepted.{Each}
 use Rattle.engine_world.specs.Able.{TasksNameLiving}
 use Rattle.engine_world.specs.Standing.{gone_handlers, without_gone}
-use Rattle.engine_pools.specs.Safety.{HasNumbersLeft}
+use Rattle.engine_pools.specs.Safety.{HasFewTasks, HasNumbersLeft}
 
 -- the same objects live
 module _ (w v : World) (same : w.objects ≡ v.objects) where
@@ -125,3 +126,9 @@ numbers_alike y x is left =
     let handlers = left.handlers in
     let there : HasNumbersLeft (without_gone (forgotten_at y)) = record { identities = omega (arith, identities, made); handlers = omega (arith, handlers, connected) } in
     subst HasNumbersLeft is there
+
+-- as few tasks as the machine's configuration has the engine's has
+pub few_alike : (room : ℕ) (y x : Config) → without_gone (forgotten_at y) ≡ x → HasFewTasks room y → HasFewTasks room x
+few_alike room y x is few =
+    let same : length x.agenda ≡ length y.agenda = sym (ap (λ (c : Config). length c.agenda) is) ∙ length-map y.agenda (pruned (gone_handlers (forgotten_at y).world)) in
+    omega (arith, same, few)

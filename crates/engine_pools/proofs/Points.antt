@@ -203,7 +203,7 @@ module _ (d : Definition) where
   follows_to {may} {p} {pool} same f = subst (λ (y : Config). Follows d may p (record { pool = pool; view = y })) same f
 
   -- what safe configurations lead to is safe
-  pub safe_on : {may : Relations} {p q : Point} → ComesOfSafe d p → Follows d may p q → ComesOfSafe d q
+  pub safe_on : {may : Relations} {room : ℕ} {p q : Point} → ComesOfSafe d room p → Follows d may p q → ComesOfSafe d room q
   safe_on {may} from follows =
       let there = follows.arrives from.at from.stands in
       let fits = fitting d may follows.replies follows.given in
@@ -214,14 +214,19 @@ module _ (d : Definition) where
           safe = safe_stays d from.safe.most from.at from.safe.safe follows.replies fits there.at there.reached;
           asks = λ replies fit at reached. from.safe.asks (follows.replies ++ replies) (each_both (Fits d) follows.replies replies fits fit) at (reaches_on d there.reached reached);
           names = λ replies fit at reached. from.safe.names (follows.replies ++ replies) (each_both (Fits d) follows.replies replies fits fit) at (reaches_on d there.reached reached);
+          few = λ replies fit at reached. from.safe.few (follows.replies ++ replies) (each_both (Fits d) follows.replies replies fits fit) at (reaches_on d there.reached reached);
           numbers = λ replies fit at reached. from.safe.numbers (follows.replies ++ replies) (each_both (Fits d) follows.replies replies fits fit) at (reaches_on d there.reached reached);
         };
         stands = there.stands;
       }
 
+  -- the room is what it was
+  pub safe_in : {old new : ℕ} {p : Point} → new ≡ old → ComesOfSafe d old p → ComesOfSafe d new p
+  safe_in {old} {new} {p} same from = subst (λ (room : ℕ). ComesOfSafe d room p) (sym same) from
+
   -- the engine knows the pool there
-  pub safe_knows : {p : Point} → ComesOfSafe d p → Knows p.view.world p.pool
-  safe_knows {p} from =
+  pub safe_knows : {room : ℕ} {p : Point} → ComesOfSafe d room p → Knows p.view.world p.pool
+  safe_knows {room} {p} from =
       ap (λ (l : List Seen). map forgotten_seen l) (sym from.stands.peers)
       ∙ forgotten_as_seen from.at.world.peers
       ∙ ap (λ (l : List Peer). map seen_of l) (known_at p from.at from.stands)

@@ -229,7 +229,7 @@ module _ (d : Definition) where
     }
 
     -- from where no run is stuck the first task can act
-    pub first_acts : (p : Point) → p.view ≡ c → ComesOfSafe d p → (arm : Arm) → asked_first c.world c.agenda ≡ None → act d c.world None (with_first c.world c.agenda) c.counted ≡ Err arm → ⊥
+    pub first_acts : (p : Point) {room : ℕ} → p.view ≡ c → ComesOfSafe d room p → (arm : Arm) → asked_first c.world c.agenda ≡ None → act d c.world None (with_first c.world c.agenda) c.counted ≡ Err arm → ⊥
     first_acts p here safe arm asks is =
         let m = forgotten_at safe.at in
         let stands = safe.stands.view ∙ here in
@@ -239,7 +239,7 @@ module _ (d : Definition) where
         (λ _. ap (λ (y : Config). is_next (gone_handlers y.world) y.agenda) x.is ∙ first_apart m) (asks_first asks) (acts_first ∙ is)
 
     -- and what it leaves names what lives
-    pub first_names : (p : Point) → p.view ≡ c → ComesOfSafe d p → asked_first c.world c.agenda ≡ None → LeadsToLiving (act d c.world None (with_first c.world c.agenda) c.counted)
+    pub first_names : (p : Point) {room : ℕ} → p.view ≡ c → ComesOfSafe d room p → asked_first c.world c.agenda ≡ None → LeadsToLiving (act d c.world None (with_first c.world c.agenda) c.counted)
     first_names p here safe asks = by (act d c.world None (with_first c.world c.agenda) c.counted) refl
       where
         by : (a : Answer Config) → act d c.world None (with_first c.world c.agenda) c.counted ≡ a → LeadsToLiving a
@@ -273,7 +273,7 @@ module _ (d : Definition) where
     }
 
     -- from where no run is stuck it can be finalised
-    pub last_acts : (p : Point) → p.view ≡ c → ComesOfSafe d p → (arm : Arm) → step d None c ≡ Err arm → ⊥
+    pub last_acts : (p : Point) {room : ℕ} → p.view ≡ c → ComesOfSafe d room p → (arm : Arm) → step d None c ≡ Err arm → ⊥
     last_acts p here safe arm is =
         let stands = safe.stands.view ∙ here in
         not_stuck c safe.at stands (safe.safe.safe.unstuck [] tt safe.at (reaches_here d safe.at)) arm (not_none (forgotten_at safe.at) stands) asks_nothing is

@@ -52,7 +52,7 @@ module _ (d : Definition) (may : Relations) (pool : List Seen) (view : Config) (
   pub call_breaks : (left : List Peer) (shown : List (List ℕ)) → Breaks d may calling left shown → Breaks d may here left shown
   call_breaks left shown breaks = subst (λ (v : Config). Breaks d may (record { pool = pool; view = v }) left shown) (sym first) breaks
 
-module _ (d : Definition) (may : Relations) (p : Point) (safe : ComesOfSafe d p) (v : Config) (number : Option ℕ) (known : LeavesKnown p.view.world v.world number) where
+module _ (d : Definition) (may : Relations) (p : Point) {room : ℕ} (safe : ComesOfSafe d room p) (v : Config) (number : Option ℕ) (known : LeavesKnown p.view.world v.world number) where
   -- the box that is due is closed
   abbrev pub after : Point
   after = record { pool = closed_in (due v.world p.pool number) p.pool; view = v }

@@ -22,9 +22,9 @@ use Rattle.engine_world.specs.EngineView.{IsOfKind}
 use Rattle.ui_machine.specs.Prefix.{IsPrefix}
 use Rattle.engine_world.specs.Standing.{Follows, GoesWithoutGone, gone_handlers, past_turns, with_first, without_gone}
 use Rattle.engine_pools.specs.QuietSteps.{IsSafeView, QuietlyStepped}
-use Rattle.engine_pools.specs.Safety.{HasNumbersLeft, NoneUnheld}
+use Rattle.engine_pools.specs.Safety.{HasFewTasks, HasNumbersLeft, NoneUnheld}
 use Rattle.engine_pools.proofs.Standing.{first_acts, first_follows, first_names, last_acts, last_follows}
-use Rattle.engine_pools.proofs.Named.{numbers_alike}
+use Rattle.engine_pools.proofs.Named.{few_alike, numbers_alike}
 use Rattle.engine_pools.proofs.Reaching.{reaches_here}
 use Rattle.engine_world.proofs.Floats.{if_ok_at, first_gone}
 use Rattle.engine_pools.proofs.Acts.{Passes, acted}
@@ -99,16 +99,20 @@ module _ (d : Definition) (hs : List Handler) (c e : Config) (none : NoneUnheld 
   first_grows made goes = subst (λ (y : Config). IsPrefix c.world.transcript y.world.transcript) goes.2 (passes goes.0 goes.1).grows
 
   -- it is not stuck
-  pub first_can : IsSafeView d c → (arm : Arm) → act d c.world None (past_turns c.world (task_of d hs task) ∷ tasks_of d hs s) c.counted ≡ Err arm → ⊥
+  pub first_can : {room : ℕ} → IsSafeView d room c → (arm : Arm) → act d c.world None (past_turns c.world (task_of d hs task) ∷ tasks_of d hs s) c.counted ≡ Err arm → ⊥
   first_can safe arm is = first_acts d c none (record { pool = safe.pool; view = c }) refl safe.safe arm asks (acts ∙ is)
 
   -- and what it leaves names what lives
-  pub first_names_so : IsSafeView d c → LeadsToLiving (act d c.world None (past_turns c.world (task_of d hs task) ∷ tasks_of d hs s) c.counted)
+  pub first_names_so : {room : ℕ} → IsSafeView d room c → LeadsToLiving (act d c.world None (past_turns c.world (task_of d hs task) ∷ tasks_of d hs s) c.counted)
   first_names_so safe = subst LeadsToLiving acts (first_names d c none (record { pool = safe.pool; view = c }) refl safe.safe asks)
 
 -- numbers are left for what is still to be made and connected
-pub view_numbers : (d : Definition) (c : Config) → IsSafeView d c → HasNumbersLeft c
+pub view_numbers : (d : Definition) {room : ℕ} (c : Config) → IsSafeView d room c → HasNumbersLeft c
 view_numbers d c safe = numbers_alike safe.safe.at c safe.safe.stands.view (safe.safe.safe.numbers [] tt safe.safe.at (reaches_here d safe.safe.at))
+
+-- there are fewer tasks than there is room for
+pub view_few : (d : Definition) (room : ℕ) (c : Config) → IsSafeView d room c → HasFewTasks room c
+view_few d room c safe = few_alike room safe.safe.at c safe.safe.stands.view (safe.safe.safe.few [] tt safe.safe.at (reaches_here d safe.safe.at))
 
 -- the step that finalises an object
 module _ (d : Definition) (c : Config) (id : ℕ) (unheld : next_unheld (mentions d c) c.world.objects ≡ Some id) where
@@ -119,7 +123,7 @@ module _ (d : Definition) (c : Config) (id : ℕ) (unheld : next_unheld (mention
       → (c.counted < most_steps) × (e.counted ≡ suc c.counted) → QuietlyStepped (Ok mades.Counted) d c e
   finalise_stepped e x leads shows counts = (last_follows d c id unheld x e (finalises ∙ leads) shows, counts.0, counts.1)
 
-  pub finalise_can : IsSafeView d c → (arm : Arm) → counted c.agenda c.counted (finalising d c.world id) ≡ Err arm → ⊥
+  pub finalise_can : {room : ℕ} → IsSafeView d room c → (arm : Arm) → counted c.agenda c.counted (finalising d c.world id) ≡ Err arm → ⊥
   finalise_can safe arm is = last_acts d c id unheld (record { pool = safe.pool; view = c }) refl safe.safe arm (finalises ∙ is)
 
 -- where nothing is left to do, what has floated longest floats no longer

@@ -35,15 +35,14 @@ use Rattle.engine_pools.specs.declared.courses.Progress.{Progress}
 use Rattle.engine_pools.specs.declared.courses.Progress.TheVariants as progress
 use Rattle.engine_pools.specs.declared.dispatches.Reply as code
 use Rattle.engine_pools.specs.CallPoints.{point_of}
-use Rattle.engine_pools.specs.Courses.{BeginsNext, HasCome, IfEnded, IfUnderWay, IsUnderWay, LeadsTo, MayBegin, NextBegins, NextBreaksOff, Proceeds, Starts, fronted_point, nothing_yet, sources_left}
+use Rattle.engine_pools.specs.Courses.{BeginsNext, HasCome, IfGoesOn, IfHasEnded, IsUnderWay, LeadsTo, MayBegin, NextBegins, Proceeds, Starts, fronted_point, nothing_yet, sources_left}
 use Rattle.engine_pools.specs.Dispatched.{EndsBy}
 use Rattle.engine_pools.specs.Following.{Breaks, Follows, Halting, Point, Stands}
 use Rattle.engine_pools.specs.PoolView.{GivenBy, Knows, Replied, forgotten_seen, seen_of, with_seen, world_at}
-use Rattle.engine_pools.specs.Promises.{Rests}
+use Rattle.engine_pools.specs.Promises.{IsRoomy, Rests}
 use Rattle.engine_pools.specs.Safety.{ComesOfSafe, IsSafe}
 use Rattle.engine_pools.specs.TurnView.{TurnBegins}
 use Rattle.engine_pools.specs.Ways.{CutOff, EventLeaves, serving, tally_of}
-use Rattle.engine_pools.proofs.Ends.{unbegun}
 use Rattle.engine_pools.proofs.Fronting.{breaks_behind, comes_of_safe, ends_behind, follows_behind, says_behind}
 use Rattle.engine_pools.proofs.Keeping.{other_lines_rest, request_rests, request_safe, runs_rest, source_safe, turn_rests}
 use Rattle.engine_pools.proofs.Points.{each_both, ended_there, fitting, forgotten_as_seen, given_before, halting_on, known_at, left_before, real, stands_there, world_there}
@@ -54,14 +53,15 @@ module _ (d : Definition) (event : Event) (w : World) where
   -- ** what a dispatch begins with is safe
 
   module _ (well : WellRead d) (a : Accepted d) (m : MayBegin d event w) where
-    pub start_safe : (left : List ℕ) (first : List Reply) (tally : Tally) (c : Config) → Each (Fits d) first → Starts d event left first w tally c → IsSafe d c
-    start_safe left first tally c fit s = by event m s
+    pub start_safe : (room : ℕ) → IsRoomy d room → (left : List ℕ) (first : List Reply) (tally : Tally) (c : Config) → Each (Fits d) first → Starts d event left first w tally c → IsSafe d room c
+    start_safe room roomy left first tally c fit s = by event m s
       where
-        by : (e : Event) → MayBegin d e w → Starts d e left first w tally c → IsSafe d c
-        by (config.request r) m s = subst (IsSafe d) (sym s.is) (request_safe d well w m.rests r m.read (not_released steps_keep_good d well a w r m.goes) a)
+        by : (e : Event) → MayBegin d e w → Starts d e left first w tally c → IsSafe d room c
+        by (config.request r) m s =
+            subst (IsSafe d room) (sym s.is) (request_safe d well w m.rests r m.read (not_released steps_keep_good d well a w r m.goes) room roomy a)
         by (config.turn moment) m s =
-            subst (IsSafe d) (sym s.is)
-            (source_safe d well s.mid (λ b. runs_rest d well b s.done first fit (turned d w moment) tally s.mid (turn_rests d well w moment m.rests b) s.runs) s.number s.source s.stands a)
+            subst (IsSafe d room) (sym s.is)
+            (source_safe d well s.mid (λ b. runs_rest d well b s.done first fit (turned d w moment) tally s.mid (turn_rests d well w moment m.rests b) s.runs) s.number s.source s.stands room roomy a)
 
   -- and what it ends with is at rest
   module _ (well : WellRead d) (m : MayBegin d event w) where
@@ -180,16 +180,17 @@ after so_far one = record { result = one.result; dispatches = so_far.dispatches 
 module _ (d : Definition) (may : Relations) (event : Event) (w : World) (front : List (List ℕ)) where
   module _ (course : Course) (p : Point) (u : IsUnderWay d may event w front course p) where
     -- the machine is where it may go on
-    pub under_way_safe : WellRead d → Accepted d → ComesOfSafe d p
-    under_way_safe well a =
+    pub under_way_safe : (room : ℕ) → IsRoomy d room → WellRead d → Accepted d → ComesOfSafe d room p
+    under_way_safe room roomy well a =
         let fits = fitting d may u.first u.given_first in
         let later = fitting d may u.later u.given_later in
-        let safe = start_safe d event w well a u.may_begin (sources_left course.left) u.first (tally_of course.so_far) u.start fits u.starts in
+        let safe = start_safe d event w well a u.may_begin room roomy (sources_left course.left) u.first (tally_of course.so_far) u.start fits u.starts in
         comes_of_safe d front p u.at u.stands (record {
           most = safe.most;
           safe = safe_stays d safe.most u.start safe.safe u.later later u.at u.reached;
           asks = λ replies fit at reached. safe.asks (u.later ++ replies) (each_both (Fits d) u.later replies later fit) at (reaches_on d u.reached reached);
           names = λ replies fit at reached. safe.names (u.later ++ replies) (each_both (Fits d) u.later replies later fit) at (reaches_on d u.reached reached);
+          few = λ replies fit at reached. safe.few (u.later ++ replies) (each_both (Fits d) u.later replies later fit) at (reaches_on d u.reached reached);
           numbers = λ replies fit at reached. safe.numbers (u.later ++ replies) (each_both (Fits d) u.later replies later fit) at (reaches_on d u.reached reached);
         })
 
@@ -314,28 +315,19 @@ module _ (d : Definition) (may : Relations) (event : Event) (w : World) (front :
             counted = let none : view.counted ≡ 0 = ap (λ (x : Config). x.counted) b.view_is in omega (arith, none);
           }
 
-      -- or no memory is found for it
-      pub come_breaks : (new : World) → NextBreaksOff course world new → (serving may d w event).breaks_off (with_seen pool new.peers) (front ++ new.transcript)
-      come_breaks new b =
-          start_breaks d event w may (numbers_after world.sources (sources_left course.left)) h.replies (tally_of course.so_far) (beginning (fronted front (world_at pool world)) (Due b.source.number)) h.given
-          (next_starts d event w (sources_left course.left) h.replies (tally_of course.so_far) (fronted front (world_at pool world)) b.source h.leads b.next) (with_seen pool new.peers) (front ++ new.transcript)
-          (unbegun d may pool (fronted front world) (Due b.source.number) knows (fronted front new) (ap (λ (ls : List (List ℕ)). front ++ ls) b.quiet.0, b.quiet.1))
-
     -- so it is whatever the code answers
-    pub begins_on : (knows : Knows world pool) (r : Result Progress AllocError) (view : Config) → without_gone view ≡ view → IfEnded r (λ _. view.world ≡ world)
-        → BeginsNext r course world view → Proceeds r d may event w front (record { pool = pool; view = view })
-    begins_on knows (Ok (progress.UnderWay next)) view whole still b = come_on knows next view whole b
-    begins_on knows (Ok (progress.Ended reply)) view whole still b =
+    pub begins_on : (knows : Knows world pool) (p : Progress) (view : Config) → without_gone view ≡ view → IfHasEnded p (λ _. view.world ≡ world)
+        → BeginsNext p course world view → Proceeds (Ok p) d may event w front (record { pool = pool; view = view })
+    begins_on knows (progress.UnderWay next) view whole still b = come_on knows next view whole b
+    begins_on knows (progress.Ended reply) view whole still b =
         subst (λ (v : World). (serving may d w event).to (tally_of reply) (fronted front (world_at pool v)) × (option_map value_view reply.result ≡ v.result)) (sym still) (come_ended reply b.0 b.1)
-    begins_on knows (Err e) view whole still b = come_breaks knows view.world b
 
 -- ** from one dispatch to the next
 
 -- where the engine is as it was, so is its world
-still_there : (e new : Engine) (r : Result Progress AllocError) → IfEnded r (λ _. new ≡ e) → IfEnded r (λ _. world_of new.world ≡ world_of e.world)
-still_there e new (Ok (progress.UnderWay course)) h = tt
-still_there e new (Ok (progress.Ended reply)) h = ap (λ (x : Engine). world_of x.world) h
-still_there e new (Err fault) h = tt
+still_there : (e new : Engine) (p : Progress) → IfHasEnded p (λ _. new ≡ e) → IfHasEnded p (λ _. world_of new.world ≡ world_of e.world)
+still_there e new (progress.UnderWay course) h = tt
+still_there e new (progress.Ended reply) h = ap (λ (x : Engine). world_of x.world) h
 
 module _ (d : Definition) (may : Relations) (event : Event) (w : World) (front : List (List ℕ)) (course : Course) (p : Point) (u : IsUnderWay d may event w front course p)
     (ended : HasEnded d p.view) (one : code.Reply) (e : Engine) (ends : EndsBy one d p.view (world_of e.world)) (next : Course)
@@ -352,31 +344,31 @@ module _ (d : Definition) (may : Relations) (event : Event) (w : World) (front :
   ended_rests well = come_at_rest d may event w front next p.pool (world_of e.world) come_so well
 
   -- its next dispatch begins, or it has ended
-  pub ended_on : (r : Result Progress AllocError) (new : Engine) → IfEnded r (λ _. new ≡ e) → BeginsNext r next (world_of e.world) (config_of d new)
-      → Proceeds r d may event w front (point_of d p.pool new)
-  ended_on r new still begins =
-      begins_on d may event w front next p.pool (world_of e.world) come_so ended_knows r (config_of d new) (engine_whole d new) (still_there e new r still) begins
+  pub ended_on : (q : Progress) (new : Engine) → IfHasEnded q (λ _. new ≡ e) → BeginsNext q next (world_of e.world) (config_of d new)
+      → Proceeds (Ok q) d may event w front (point_of d p.pool new)
+  ended_on q new still begins =
+      begins_on d may event w front next p.pool (world_of e.world) come_so ended_knows q (config_of d new) (engine_whole d new) (still_there e new q still) begins
 
 -- so it is where the code names it otherwise
 pub proceeds_as : (d : Definition) (may : Relations) (event : Event) (w : World) (front : List (List ℕ)) (p : Point) {x y : Progress} → x ≡ y → Proceeds (Ok x) d may event w front p → Proceeds (Ok y) d may event w front p
 proceeds_as d may event w front p same h = subst (λ (z : Progress). Proceeds (Ok z) d may event w front p) same h
 
 -- where it is under way, and where it has ended
-pub if_under_way : {P : Type 0} {x : Progress} {next : Course} → x ≡ progress.UnderWay next → IfUnderWay {E = AllocError} (Ok x) (λ _. P) → P
-if_under_way {P} same h = subst (λ (z : Progress). IfUnderWay {E = AllocError} (Ok z) (λ _. P)) same h
+pub if_under_way : {P : Type 0} {x : Progress} {next : Course} → x ≡ progress.UnderWay next → IfGoesOn x (λ _. P) → P
+if_under_way {P} same h = subst (λ (z : Progress). IfGoesOn z (λ _. P)) same h
 
-pub if_ended : {P : Type 0} {x : Progress} {reply : code.Reply} → x ≡ progress.Ended reply → IfEnded {E = AllocError} (Ok x) (λ _. P) → P
-if_ended {P} same h = subst (λ (z : Progress). IfEnded {E = AllocError} (Ok z) (λ _. P)) same h
+pub if_ended : {P : Type 0} {x : Progress} {reply : code.Reply} → x ≡ progress.Ended reply → IfHasEnded x (λ _. P) → P
+if_ended {P} same h = subst (λ (z : Progress). IfHasEnded z (λ _. P)) same h
 
 -- what was counted comes to what its dispatches led to
-pub next_steps : (old : Course) (w : World) (view : Config) {x : Progress} {next : Course} → x ≡ progress.UnderWay next → BeginsNext (Ok x) old w view → (next.so_far.steps ≡ old.so_far.steps) × (view.counted ≡ 0)
+pub next_steps : (old : Course) (w : World) (view : Config) {x : Progress} {next : Course} → x ≡ progress.UnderWay next → BeginsNext x old w view → (next.so_far.steps ≡ old.so_far.steps) × (view.counted ≡ 0)
 next_steps old w view {x} {next} is begins =
-    let b : NextBegins old w next view = subst (λ (z : Progress). BeginsNext (Ok z) old w view) is begins in
+    let b : NextBegins old w next view = subst (λ (z : Progress). BeginsNext z old w view) is begins in
     (ap (λ (r : code.Reply). r.steps) b.so_far, ap (λ (c : Config). c.counted) b.view_is)
 
-pub last_steps : (old : Course) (w : World) (view : Config) {x : Progress} {reply : code.Reply} → x ≡ progress.Ended reply → BeginsNext (Ok x) old w view → reply.steps ≡ old.so_far.steps
+pub last_steps : (old : Course) (w : World) (view : Config) {x : Progress} {reply : code.Reply} → x ≡ progress.Ended reply → BeginsNext x old w view → reply.steps ≡ old.so_far.steps
 last_steps old w view {x} {reply} is begins =
-    let b : (reply ≡ old.so_far) × (next_source w.sources (sources_left old.left) ≡ None) = subst (λ (z : Progress). BeginsNext (Ok z) old w view) is begins in
+    let b : (reply ≡ old.so_far) × (next_source w.sources (sources_left old.left) ≡ None) = subst (λ (z : Progress). BeginsNext z old w view) is begins in
     ap (λ (r : code.Reply). r.steps) b.0
 
 -- a dispatch that ends says one line more
@@ -384,10 +376,10 @@ pub ends_longer : (d : Definition) (one : code.Reply) (c : Config) (new : World)
 ends_longer d one c new ends = subst (λ (v : World). IsPrefix c.world.transcript v.transcript) (sym ends.said) (prefix_one c.world.transcript _)
 
 -- fewer sources are left once one has begun
-pub next_fewer : (course old : Course) (w : World) (view : Config) {x : Progress} {next : Course} → x ≡ progress.UnderWay next → sources_left old.left ≡ sources_left course.left → BeginsNext (Ok x) old w view
+pub next_fewer : (course old : Course) (w : World) (view : Config) {x : Progress} {next : Course} → x ≡ progress.UnderWay next → sources_left old.left ≡ sources_left course.left → BeginsNext x old w view
     → length (sources_left next.left) < length (sources_left course.left)
 next_fewer course old w view {x} {next} is same begins =
-    let b : NextBegins old w next view = subst (λ (z : Progress). BeginsNext (Ok z) old w view) is begins in
+    let b : NextBegins old w next view = subst (λ (z : Progress). BeginsNext z old w view) is begins in
     let fewer = fewer_after w.sources (sources_left old.left) b.source (next_is w.sources (sources_left old.left) b.source b.next) in
     let left : length (sources_left next.left) ≡ length (numbers_after w.sources (sources_left old.left)) = ap (λ (ns : List ℕ). length ns) b.left in
     let even : length (sources_left old.left) ≡ length (sources_left course.left) = ap (λ (ns : List ℕ). length ns) same in
@@ -452,12 +444,6 @@ module _ (d : Definition) (may : Relations) (pool : List Seen) (w : World) (know
         counted = let none : view.counted ≡ 0 = ap (λ (x : Config). x.counted) is in omega (arith, none);
       }
 
-  -- no memory is found for it
-  pub request_breaks : (r : Request) (new : World) → IsQuiet w new → (serving may d (world_at pool w) (config.request r)).breaks_off (with_seen pool new.peers) new.transcript
-  request_breaks r new quiet =
-      start_breaks d (config.request r) (world_at pool w) may [] [] no_dispatch (of_request (world_at pool w) r) tt (record { none_left = refl; none_before = refl; counts = refl; is = refl })
-      (with_seen pool new.peers) new.transcript (unbegun d may pool w (Handling r) knows new quiet)
-
 -- a turn
 pub turn_begins : (d : Definition) (may : Relations) (moment : ℕ) (w : World) (numbers : List ℕ) (now : World) → MayBegin d (config.turn moment) w → TurnBegins d moment w numbers now
     → HasCome d may (config.turn moment) w numbers nothing_yet now
@@ -474,10 +460,10 @@ turn_begins d may moment w numbers now begins b = record {
 
 -- the next dispatch begins, or the event has ended
 pub engine_begins : (d : Definition) (may : Relations) (event : Event) (w : World) (front : List (List ℕ)) (course : Course) (pool : List Seen) (e new : Engine)
-    → HasCome d may event w (sources_left course.left) course.so_far (fronted front (world_at pool (world_of e.world))) → Knows (world_of e.world) pool → (r : Result Progress AllocError)
-    → IfEnded r (λ _. new ≡ e) → BeginsNext r course (world_of e.world) (config_of d new) → Proceeds r d may event w front (point_of d pool new)
-engine_begins d may event w front course pool e new h knows r still begins =
-    begins_on d may event w front course pool (world_of e.world) h knows r (config_of d new) (engine_whole d new) (still_there e new r still) begins
+    → HasCome d may event w (sources_left course.left) course.so_far (fronted front (world_at pool (world_of e.world))) → Knows (world_of e.world) pool → (p : Progress)
+    → IfHasEnded p (λ _. new ≡ e) → BeginsNext p course (world_of e.world) (config_of d new) → Proceeds (Ok p) d may event w front (point_of d pool new)
+engine_begins d may event w front course pool e new h knows p still begins =
+    begins_on d may event w front course pool (world_of e.world) h knows p (config_of d new) (engine_whole d new) (still_there e new p still) begins
 
 -- a request has begun
 pub engine_handles : (d : Definition) (may : Relations) (pool : List Seen) (w : World) → Knows w pool → (r : Request) (new : Engine) → MayBegin d (config.request r) (world_at pool w)

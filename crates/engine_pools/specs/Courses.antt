@@ -128,15 +128,22 @@ Proceeds (Ok (progress.Ended reply)) d may event w front p =
 Proceeds (Err _) d may event w front p = (serving may d w event).breaks_off (with_seen p.pool p.view.world.peers) (front ++ p.view.world.transcript)
 
 -- where it has ended
+abbrev pub IfHasEnded : Progress → (code.Reply → Type 0) → Type 0
+IfHasEnded (progress.Ended reply) P = P reply
+IfHasEnded (progress.UnderWay course) P = ⊤
+
+-- where it goes on
+abbrev pub IfGoesOn : Progress → (Course → Type 0) → Type 0
+IfGoesOn (progress.UnderWay course) P = P course
+IfGoesOn (progress.Ended reply) P = ⊤
+
+-- the same where memory was found
 abbrev pub IfEnded : {E : Type 0} → Result Progress E → (code.Reply → Type 0) → Type 0
-IfEnded (Ok (progress.Ended reply)) P = P reply
-IfEnded (Ok (progress.UnderWay course)) P = ⊤
+IfEnded (Ok p) P = IfHasEnded p P
 IfEnded (Err _) P = ⊤
 
--- where it is under way
 abbrev pub IfUnderWay : {E : Type 0} → Result Progress E → (Course → Type 0) → Type 0
-IfUnderWay (Ok (progress.UnderWay course)) P = P course
-IfUnderWay (Ok (progress.Ended reply)) P = ⊤
+IfUnderWay (Ok p) P = IfGoesOn p P
 IfUnderWay (Err _) P = ⊤
 
 -- ** parts of that
@@ -149,17 +156,10 @@ pub record NextBegins (old : Course) (w : World) (new : Course) (view : Config) 
   pub so_far : new.so_far ≡ old.so_far
   pub view_is : view ≡ beginning w (Due source.number)
 
--- no memory is found for it
-pub record NextBreaksOff (old : Course) (w new : World) : Type 0 where
-  pub source : Source
-  pub next : next_source w.sources (sources_left old.left) ≡ Some source
-  pub quiet : IsQuiet w new
-
 -- the dispatch of the next source, if there is one
-abbrev pub BeginsNext : Result Progress AllocError → Course → World → Config → Type 0
-BeginsNext (Ok (progress.UnderWay new)) old w view = NextBegins old w new view
-BeginsNext (Ok (progress.Ended reply)) old w view = (reply ≡ old.so_far) × (next_source w.sources (sources_left old.left) ≡ None)
-BeginsNext (Err _) old w view = NextBreaksOff old w view.world
+abbrev pub BeginsNext : Progress → Course → World → Config → Type 0
+BeginsNext (progress.UnderWay new) old w view = NextBegins old w new view
+BeginsNext (progress.Ended reply) old w view = (reply ≡ old.so_far) × (next_source w.sources (sources_left old.left) ≡ None)
 
 -- at most so many counted steps; where some are left, all have been made
 abbrev pub RanFor : Result (Option ℕ) AllocError → Definition → Relations → Point → Point → Type 0

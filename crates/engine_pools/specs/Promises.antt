@@ -11,10 +11,12 @@ use Rattle.ui_machine.specs.State.Peers.{Peer}
 use Rattle.ui_machine.specs.State.Sources.{Source}
 use Rattle.ui_machine.specs.State.Tasks.{Due, Event, Request}
 use Rattle.ui_machine.specs.State.Tasks as config
-use Rattle.std.specs.Prelude.{ℕ, ◌≤◌, List, length}
+use Rattle.std.specs.Prelude.{ℕ, ◌+◌, ◌*◌, ◌≤◌, List, length}
 use Rattle.law_typing.specs.Good.Requests.{entry_of}
+use Rattle.law_typing.specs.Graph.{graph}
 use Rattle.law_typing.specs.Graph.Channels.{Entry}
 use Rattle.law_typing.specs.Graph.Channels as entries
+use Rattle.law_typing.specs.Graph.Depths.{depth}
 use Rattle.law_typing.specs.Laws.StepsKeepGood.{IsResting}
 use Rattle.law_typing.specs.Verdict.Accepted.{Accepted}
 use Rattle.law_sessions.specs.Dispatches.{Keeps}
@@ -29,6 +31,10 @@ pub record IsNumbered (w : World) : Type 0 where
 pub record IsNumberable (d : Definition) : Type 0 where
   pub places : length d.places ≤ most_identities
   pub signals : total (λ (p : Place). length p.signals) d.places ≤ greatest_handler
+
+-- so much room has all tasks of a definition, whose frames are no more than its depth, with one task between two of them
+abbrev pub IsRoomy : Definition → (room : ℕ) → Type 0
+IsRoomy d room = (a : Accepted d) → 2 * depth (graph d) a.weighed.depths + 4 ≤ room
 
 -- a world between two dispatches, however the definition is accepted
 abbrev pub Rests : Definition → World → Type 0

@@ -15,9 +15,9 @@ use Rattle.engine_pools.specs.PoolView.{Knows, closed_in, due}
 use Rattle.engine_pools.specs.Safety.{ComesOfSafe}
 
 -- beside some pool the engine's configuration is that of a safe one of the machine
-pub record IsSafeView (d : Definition) (view : Config) : Type 0 where
+pub record IsSafeView (d : Definition) (room : ℕ) (view : Config) : Type 0 where
   pub pool : List Seen
-  pub safe : ComesOfSafe d (record { pool = pool; view = view })
+  pub safe : ComesOfSafe d room (record { pool = pool; view = view })
 
 -- One step: an uncounted one leaves less work, and a counted one was still to be had. Where no memory is found nothing was said, and no
 -- peer has become another object's.

@@ -1,5 +1,5 @@
--- Configurations from which nothing is ever stuck, each question is apt, all that is named lives, and numbers are left.
-use Rattle.std.specs.Prelude.{◌≡◌, ℕ, IfSome, IsSomeAnd, None, slice_get}
+-- Configurations from which nothing is ever stuck, each question is apt, all that is named lives, numbers are left, and tasks are few.
+use Rattle.std.specs.Prelude.{◌≡◌, ℕ, ◌<◌, IfSome, IsSomeAnd, None, length, slice_get}
 use Rattle.ui_machine.specs.Definition.{Definition}
 use Rattle.ui_machine.specs.State.Config.{Config}
 use Rattle.ui_machine.specs.State.Peers.{Question}
@@ -31,17 +31,22 @@ pub record HasNumbersLeft (c : Config) : Type 0 where
   pub identities : HasIdentities c
   pub handlers : HasHandlerNumbers c
 
--- a configuration from which no run is stuck, or has more than so many frames, each question is apt, all that is named lives, and
--- there are numbers for what is still to be made and connected
-pub record IsSafe (d : Definition) (c : Config) : Type 0 where
+-- fewer tasks are left than there is room for
+abbrev pub HasFewTasks : (room : ℕ) → Config → Type 0
+HasFewTasks room c = length c.agenda < room
+
+-- a configuration from which no run is stuck, or has more than so many frames, each question is apt, all that is named lives,
+-- there are numbers for what is still to be made and connected, and there are fewer tasks than there is room for
+pub record IsSafe (d : Definition) (room : ℕ) (c : Config) : Type 0 where
   pub most : ℕ
   pub safe : Safe d most c
   pub asks : Throughout d c (AsksAptly d)
   pub names : Throughout d c (AllNamesLiving d)
   pub numbers : Throughout d c HasNumbersLeft
+  pub few : Throughout d c (HasFewTasks room)
 
 -- the point is that of a safe configuration of the machine
-pub record ComesOfSafe (d : Definition) (p : Point) : Type 0 where
+pub record ComesOfSafe (d : Definition) (room : ℕ) (p : Point) : Type 0 where
   pub at : Config
-  pub safe : IsSafe d at
+  pub safe : IsSafe d room at
   pub stands : Stands p at

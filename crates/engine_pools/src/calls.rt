@@ -1,6 +1,6 @@
 //! Due calls of open peers: the peer is asked, and the program is given what it answers.
 
-ghost use Rattle.std.specs.Prelude.{◌≡◌, MatchOption, None, true, is_some, OnErr, OnOk};
+ghost use Rattle.std.specs.Prelude.{◌≡◌, MatchOption, None, true, is_some, OnErr, OnOk, vec_capacity};
 ghost use Rattle.ui_machine.specs.State.Config.{is_asked};
 ghost use Rattle.ui_machine.specs.State.References.{in_task, same};
 ghost use Rattle.ui_machine.specs.State.Tasks.{Calling};
@@ -11,6 +11,7 @@ ghost use Rattle.ui_machine.specs.Steps.{question};
 ghost use Rattle.engine_world.specs.EngineView.{config_of};
 ghost use Rattle.engine_world.specs.Quiet.{IsQuiet};
 ghost use Rattle.engine_world.specs.TaskView.{call_of};
+ghost use Rattle.engine_world.specs.Room.{SameRoom};
 ghost use Rattle.engine_world.specs.View.{world_of};
 ghost use Rattle.engine_pools.specs.CallPoints.{Concludes, TakesCall, calling_point, calling_view};
 ghost use Rattle.engine_pools.specs.Following.{Breaks, Follows};
@@ -34,7 +35,7 @@ fn ask_for(
     pool: &mut PeerPool,
     call: DueCall,
 ) -> Result<(), AllocError>
-    requires safe { ComesOfSafe definition.now (calling_point definition.now (seen (λ p. (⟦<dyn Peer as Peer>⟧ p.peer.vtable).state p.peer.value) (entries pool.now)) engine.now call) }
+    requires safe { ComesOfSafe definition.now (vec_capacity engine.now.stack.tasks) (calling_point definition.now (seen (λ p. (⟦<dyn Peer as Peer>⟧ p.peer.vtable).state p.peer.value) (entries pool.now)) engine.now call) }
     requires none { NoneUnheld definition.now (calling_view definition.now engine.now call) }
     requires asked { is_asked (world_of engine.now.world) call.peer ≡ true }
     requires counted { Counts definition.now (λ o. in_task o (Calling (call_of call))) engine.now }
@@ -48,6 +49,7 @@ fn ask_for(
     ensures concludes { OnOk result (Concludes definition.now engine.old call (config_of definition.now engine.new)) }
     ensures quiet { OnErr result (IsQuiet (world_of engine.old.world) (world_of engine.new.world)) }
     ensures same { SameRelations (relations (λ p. (⟦<dyn Peer as Peer>⟧ p.peer.vtable).moves p.peer.value) (entries pool.old)) (relations (λ p. (⟦<dyn Peer as Peer>⟧ p.peer.vtable).moves p.peer.value) (entries pool.new)) }
+    ensures room { SameRoom engine.old engine.new }
 {
     let value = ask(pool, &call);
     answer(engine, definition, call, value)?;
@@ -70,8 +72,9 @@ fn asks(engine: &Engine, definition: &Definition) -> bool
 /// Takes the first task if it is a call of an open peer, where nothing is to be finalised.
 pub(crate) fn take_call(engine: &mut Engine, definition: &Definition) -> Option<DueCall>
     requires counted { Counts definition.now nothing engine.now }
-    ensures { MatchOption result ((engine.new ≡ engine.old) × (question definition.now (config_of definition.now engine.old) ≡ None))
+    ensures taken { MatchOption result ((engine.new ≡ engine.old) × (question definition.now (config_of definition.now engine.old) ≡ None))
         (λ call. TakesCall definition.now engine.old call engine.new) }
+    ensures room { SameRoom engine.old engine.new }
 {
     if !asks(engine, definition) {
         return None;
@@ -97,7 +100,7 @@ pub(crate) fn answer_call(
     pool: &mut PeerPool,
     call: DueCall,
 ) -> Result<(), AllocError>
-    requires safe { ComesOfSafe definition.now (calling_point definition.now (seen (λ p. (⟦<dyn Peer as Peer>⟧ p.peer.vtable).state p.peer.value) (entries pool.now)) engine.now call) }
+    requires safe { ComesOfSafe definition.now (vec_capacity engine.now.stack.tasks) (calling_point definition.now (seen (λ p. (⟦<dyn Peer as Peer>⟧ p.peer.vtable).state p.peer.value) (entries pool.now)) engine.now call) }
     requires none { NoneUnheld definition.now (calling_view definition.now engine.now call) }
     requires asked { is_asked (world_of engine.now.world) call.peer ≡ true }
     requires counted { Counts definition.now (λ o. in_task o (Calling (call_of call))) engine.now }
@@ -111,6 +114,7 @@ pub(crate) fn answer_call(
     ensures concludes { OnOk result (Concludes definition.now engine.old call (config_of definition.now engine.new)) }
     ensures quiet { OnErr result (IsQuiet (world_of engine.old.world) (world_of engine.new.world)) }
     ensures same { SameRelations (relations (λ p. (⟦<dyn Peer as Peer>⟧ p.peer.vtable).moves p.peer.value) (entries pool.old)) (relations (λ p. (⟦<dyn Peer as Peer>⟧ p.peer.vtable).moves p.peer.value) (entries pool.new)) }
+    ensures room { SameRoom engine.old engine.new }
 {
     let object = call.object;
     let Ok(()) = ask_for(engine, definition, pool, call) else {

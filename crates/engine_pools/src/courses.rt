@@ -1,11 +1,12 @@
 //! Events that are gone on with for so many steps at a time.
 
-ghost use Rattle.std.specs.Prelude.{◌≡◌, ◌≤◌, ◌+◌, ◌*◌, ℕ, List, option_map};
+ghost use Rattle.std.specs.Prelude.{◌≡◌, ◌≤◌, ◌+◌, ◌*◌, ℕ, List, option_map, ◌<◌, vec_capacity};
 ghost use Rattle.ui_machine.specs.Prefix.{IsPrefix};
 ghost use Rattle.ui_machine.specs.State.Config.{World};
 ghost use Rattle.ui_machine.specs.State.Tasks.{Event};
 ghost use Rattle.ui_machine.specs.Steps.{most_steps};
 ghost use Rattle.engine_world.specs.Counting.{Counts, nothing};
+ghost use Rattle.engine_world.specs.Room.{SameRoom};
 ghost use Rattle.engine_world.specs.View.{world_of};
 ghost use Rattle.engine_world.specs.EngineView.{config_of};
 ghost use Rattle.law_typing.specs.Laws.WellRead.{WellRead};
@@ -15,10 +16,10 @@ ghost use Rattle.main_context.specs.Dues.{due_of};
 ghost use Rattle.native_peers.specs.Pool.{entries, relations, seen};
 ghost use Rattle.native_peers.specs.Seen.{SameRelations};
 ghost use Rattle.engine_pools.specs.CallPoints.{point_of};
-ghost use Rattle.engine_pools.specs.Courses.{BeginsNext, GoesOn, IfEnded, IfUnderWay, IsUnderWay, Proceeds, sources_left};
+ghost use Rattle.engine_pools.specs.Courses.{BeginsNext, GoesOn, IfEnded, IfGoesOn, IfHasEnded, IfUnderWay, IsUnderWay, Proceeds, sources_left};
 ghost use Rattle.engine_pools.specs.Dispatched.{IsAtRest};
 ghost use Rattle.engine_pools.specs.PoolView.{Knows, world_at};
-ghost use Rattle.engine_pools.specs.Promises.{Rests};
+ghost use Rattle.engine_pools.specs.Promises.{IsRoomy, Rests};
 
 use crate::dispatches::{Reply, begin_dispatch, end_dispatch};
 use crate::runs::run_for;
@@ -59,28 +60,22 @@ fn next_due(engine: &Engine, left: &mut Option<Batch>) -> Option<Due>
 }
 
 /// Begins the dispatch of the source whose turn is next. Where there is none the event has ended.
-///
-/// # Errors
-///
-/// `AllocError` if no memory is found.
-pub fn begin_next(
-    engine: &mut Engine,
-    definition: &Definition,
-    course: Course,
-) -> Result<Progress, AllocError>
+pub fn begin_next(engine: &mut Engine, definition: &Definition, course: Course) -> Progress
     requires rests { IsAtRest definition.now engine.now }
-    ensures still { IfEnded result (λ _. engine.new ≡ engine.old) }
-    ensures counted { IfUnderWay result (λ _. Counts definition.now nothing engine.new) }
+    requires room { 0 < vec_capacity engine.now.stack.tasks }
+    ensures still { IfHasEnded result (λ _. engine.new ≡ engine.old) }
+    ensures counted { IfGoesOn result (λ _. Counts definition.now nothing engine.new) }
     ensures begins { BeginsNext result course (world_of engine.old.world) (config_of definition.now engine.new) }
     ensures grows { IsPrefix (world_of engine.old.world).transcript (world_of engine.new.world).transcript }
+    ensures room { SameRoom engine.old engine.new }
 {
     let Course { mut left, so_far } = course;
     let Some(due) = next_due(engine, &mut left) else {
-        return Ok(Progress::Ended(so_far));
+        return Progress::Ended(so_far);
     };
     let task = Task::Due { source: due.source };
-    begin_dispatch(engine, definition, task)?;
-    Ok(Progress::UnderWay(Course { left, so_far }))
+    begin_dispatch(engine, definition, task);
+    Progress::UnderWay(Course { left, so_far })
 }
 
 /// Goes on with an event for at most so many counted steps: where it does not end, just so many were made. The dispatch of a source begins
@@ -101,6 +96,7 @@ pub fn advance(
     requires counted { Counts definition.now nothing engine.now }
     requires goes_on { GoesOn definition.now (relations (λ p. (⟦<dyn Peer as Peer>⟧ p.peer.vtable).moves p.peer.value) (entries pool.now)) course
         (point_of definition.now (seen (λ p. (⟦<dyn Peer as Peer>⟧ p.peer.vtable).state p.peer.value) (entries pool.now)) engine.now) }
+    requires roomy { IsRoomy definition.now (vec_capacity engine.now.stack.tasks) }
     ensures rests { IfEnded result (λ _. IsAtRest definition.now engine.new) }
     ensures knows { IfEnded result (λ _. Knows (world_of engine.new.world) (seen (λ p. (⟦<dyn Peer as Peer>⟧ p.peer.vtable).state p.peer.value) (entries pool.new))) }
     ensures resting { IfEnded result (λ _. Rests definition.now (world_at (seen (λ p. (⟦<dyn Peer as Peer>⟧ p.peer.vtable).state p.peer.value) (entries pool.new)) (world_of engine.new.world))) }
@@ -114,6 +110,7 @@ pub fn advance(
     ensures most { IfEnded result (λ reply. reply.steps ≤ course.so_far.steps + engine.old.counted + most) }
     ensures same { SameRelations (relations (λ p. (⟦<dyn Peer as Peer>⟧ p.peer.vtable).moves p.peer.value) (entries pool.old)) (relations (λ p. (⟦<dyn Peer as Peer>⟧ p.peer.vtable).moves p.peer.value) (entries pool.new)) }
     ensures grows { IsPrefix (world_of engine.old.world).transcript (world_of engine.new.world).transcript }
+    ensures room { SameRoom engine.old engine.new }
 {
     let mut course = course;
     let mut most = most;
@@ -123,7 +120,7 @@ pub fn advance(
             None => return Ok(Progress::UnderWay(course)),
         };
         let one = end_dispatch(engine, definition)?;
-        match begin_next(engine, definition, course.after(one))? {
+        match begin_next(engine, definition, course.after(one)) {
             Progress::UnderWay(next) => course = next,
             Progress::Ended(reply) => return Ok(Progress::Ended(reply)),
         }

@@ -1,11 +1,12 @@
 //! Dispatches: one task, and all that it leads to.
 
-ghost use Rattle.std.specs.Prelude.{◌≡◌, ◌≤◌, [], option_map, OnOk, OnErr, IfOk};
+ghost use Rattle.std.specs.Prelude.{◌≡◌, ◌≤◌, [], option_map, OnOk, OnErr, IfOk, ◌<◌, vec_capacity};
 ghost use Rattle.g_values.specs.View.{value_view};
 ghost use Rattle.ui_machine.specs.Runs.{beginning};
 ghost use Rattle.ui_machine.specs.Steps.{most_steps};
 ghost use Rattle.engine_world.specs.KnownHandlers.{TakesKnownHandlers};
 ghost use Rattle.engine_world.specs.Quiet.{IsQuiet};
+ghost use Rattle.engine_world.specs.Room.{SameRoom};
 ghost use Rattle.engine_world.specs.View.{world_of};
 ghost use Rattle.engine_world.specs.TaskView.{task_in, agenda_of};
 ghost use Rattle.engine_world.specs.EngineView.{config_of};
@@ -53,29 +54,21 @@ impl Reply {
 }
 
 /// Begins a dispatch: the task is all there is to do, and nothing is counted yet.
-///
-/// # Errors
-///
-/// `AllocError` if no memory is found.
-pub fn begin_dispatch(
-    engine: &mut Engine,
-    definition: &Definition,
-    task: Task,
-) -> Result<(), AllocError>
+pub fn begin_dispatch(engine: &mut Engine, definition: &Definition, task: Task)
     requires idle { agenda_of definition.now engine.now ≡ [] }
     requires plain { HoldsNothing task }
     requires begun { TakesKnownHandlers engine.now.world.handlers.last task }
-    ensures counted { OnOk result (KeepsCounts definition.now engine.old engine.new) }
-    ensures ok { OnOk result (config_of definition.now engine.new ≡ beginning (world_of engine.old.world) (task_in definition.now engine.old task)) }
-    ensures err { OnErr result (IsQuiet (world_of engine.old.world) (world_of engine.new.world)) }
+    requires room { 0 < vec_capacity engine.now.stack.tasks }
+    ensures counted { KeepsCounts definition.now engine.old engine.new }
+    ensures ok { config_of definition.now engine.new ≡ beginning (world_of engine.old.world) (task_in definition.now engine.old task) }
+    ensures room { SameRoom engine.old engine.new }
 {
     // For the proof: the clauses speak of the definition.
     let _ = definition;
     engine.world.result = None;
     engine.counted = 0;
     engine.stack.clear();
-    push_task(engine, task)?;
-    Ok(())
+    push_task(engine, task);
 }
 
 /// Carries out a task with all that it leads to, and says the line of its end. No run of the machine from there may be stuck.
@@ -93,7 +86,7 @@ pub fn dispatch(
     requires plain { HoldsNothing task }
     requires begun { TakesKnownHandlers engine.now.world.handlers.last task }
     requires knows { Knows (world_of engine.now.world) (seen (λ p. (⟦<dyn Peer as Peer>⟧ p.peer.vtable).state p.peer.value) (entries pool.now)) }
-    requires safe { IsSafe definition.now (beginning (world_at (seen (λ p. (⟦<dyn Peer as Peer>⟧ p.peer.vtable).state p.peer.value) (entries pool.now)) (world_of engine.now.world)) (task_in definition.now engine.now task)) }
+    requires safe { IsSafe definition.now (vec_capacity engine.now.stack.tasks) (beginning (world_at (seen (λ p. (⟦<dyn Peer as Peer>⟧ p.peer.vtable).state p.peer.value) (entries pool.now)) (world_of engine.now.world)) (task_in definition.now engine.now task)) }
     ensures rests { OnOk result (IsAtRest definition.now engine.new) }
     ensures knows { OnOk result (Knows (world_of engine.new.world) (seen (λ p. (⟦<dyn Peer as Peer>⟧ p.peer.vtable).state p.peer.value) (entries pool.new))) }
     ensures carried { Carried result definition.now (relations (λ p. (⟦<dyn Peer as Peer>⟧ p.peer.vtable).moves p.peer.value) (entries pool.old))
@@ -102,8 +95,9 @@ pub fn dispatch(
     ensures few { IfOk result (λ reply. reply.steps ≤ most_steps) }
     ensures same { SameRelations (relations (λ p. (⟦<dyn Peer as Peer>⟧ p.peer.vtable).moves p.peer.value) (entries pool.old)) (relations (λ p. (⟦<dyn Peer as Peer>⟧ p.peer.vtable).moves p.peer.value) (entries pool.new)) }
     ensures grows { IsPrefix (world_of engine.old.world).transcript (world_of engine.new.world).transcript }
+    ensures room { SameRoom engine.old engine.new }
 {
-    begin_dispatch(engine, definition, task)?;
+    begin_dispatch(engine, definition, task);
     run(engine, definition, pool)?;
     end_dispatch(engine, definition)
 }
@@ -121,6 +115,7 @@ pub(crate) fn end_dispatch(
     ensures rests { OnOk result (IsAtRest definition.now engine.new) }
     ensures says { IfOk result (λ reply. EndsBy reply definition.now (config_of definition.now engine.old) (world_of engine.new.world)) }
     ensures quiet { OnErr result (IsQuiet (world_of engine.old.world) (world_of engine.new.world)) }
+    ensures room { SameRoom engine.old engine.new }
 {
     let result = copied(&engine.world.result)?;
     let steps = engine.counted;

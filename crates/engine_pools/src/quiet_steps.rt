@@ -1,12 +1,13 @@
 //! Steps in which no peer is asked.
 
-ghost use Rattle.std.specs.Prelude.{◌≡◌, [], None, Ok, OnOk};
+ghost use Rattle.std.specs.Prelude.{◌≡◌, [], None, Ok, OnOk, vec_capacity};
 ghost use Rattle.ui_machine.specs.Prefix.{IsPrefix};
 ghost use Rattle.ui_machine.specs.Steps.{asked_first, question};
 ghost use Rattle.engine_world.specs.Counting.{Counts, nothing};
 ghost use Rattle.engine_world.specs.EngineView.{config_of};
 ghost use Rattle.engine_world.specs.Quiet.{IsQuiet};
 ghost use Rattle.engine_world.specs.TaskView.{agenda_of};
+ghost use Rattle.engine_world.specs.Room.{SameRoom};
 ghost use Rattle.engine_world.specs.View.{world_of};
 ghost use Rattle.engine_pools.specs.QuietSteps.{IsSafeView, LeavesKnown, QuietlyStepped};
 ghost use Rattle.engine_pools.specs.Safety.{NoneUnheld};
@@ -27,6 +28,7 @@ fn sink_first_floating(engine: &mut Engine, definition: &Definition) -> StepKind
     ensures stepped { QuietlyStepped (Ok result) definition.now (config_of definition.now engine.old) (config_of definition.now engine.new) }
     ensures same { IsQuiet (world_of engine.old.world) (world_of engine.new.world) }
     ensures known { LeavesKnown (world_of engine.old.world) (world_of engine.new.world) engine.new.closing }
+    ensures room { SameRoom engine.old engine.new }
 {
     // For the proof: the clauses speak of the definition.
     let _ = definition;
@@ -39,7 +41,7 @@ fn sink_first_floating(engine: &mut Engine, definition: &Definition) -> StepKind
 
 // Makes the step of the first task, which asks no peer, or else of what floats, where nothing is to be finalised.
 fn first_task(engine: &mut Engine, definition: &Definition) -> Result<StepKind, AllocError>
-    requires safe { IsSafeView definition.now (config_of definition.now engine.now) }
+    requires safe { IsSafeView definition.now (vec_capacity engine.now.stack.tasks) (config_of definition.now engine.now) }
     requires none { NoneUnheld definition.now (config_of definition.now engine.now) }
     requires quiet { asked_first (world_of engine.now.world) (agenda_of definition.now engine.now) ≡ None }
     requires counted { Counts definition.now nothing engine.now }
@@ -47,6 +49,7 @@ fn first_task(engine: &mut Engine, definition: &Definition) -> Result<StepKind, 
     ensures stepped { QuietlyStepped result definition.now (config_of definition.now engine.old) (config_of definition.now engine.new) }
     ensures known { OnOk result (LeavesKnown (world_of engine.old.world) (world_of engine.new.world) engine.new.closing) }
     ensures grows { IsPrefix (world_of engine.old.world).transcript (world_of engine.new.world).transcript }
+    ensures room { SameRoom engine.old engine.new }
 {
     // For the proof: what is known of a definition's types.
     let _types = definition.types();
@@ -69,13 +72,14 @@ pub(crate) fn step_quietly(
     engine: &mut Engine,
     definition: &Definition,
 ) -> Result<StepKind, AllocError>
-    requires safe { IsSafeView definition.now (config_of definition.now engine.now) }
+    requires safe { IsSafeView definition.now (vec_capacity engine.now.stack.tasks) (config_of definition.now engine.now) }
     requires quiet { question definition.now (config_of definition.now engine.now) ≡ None }
     requires counted { Counts definition.now nothing engine.now }
     ensures counted { OnOk result (Counts definition.now nothing engine.new) }
     ensures stepped { QuietlyStepped result definition.now (config_of definition.now engine.old) (config_of definition.now engine.new) }
     ensures known { OnOk result (LeavesKnown (world_of engine.old.world) (world_of engine.new.world) engine.new.closing) }
     ensures grows { IsPrefix (world_of engine.old.world).transcript (world_of engine.new.world).transcript }
+    ensures room { SameRoom engine.old engine.new }
 {
     let Some(object) = engine.world.table.next_unheld() else {
         return first_task(engine, definition);

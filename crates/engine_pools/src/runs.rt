@@ -1,11 +1,12 @@
 //! Runs: steps until nothing is left to do.
 
-ghost use Rattle.std.specs.Prelude.{◌≡◌, ◌≤◌, ◌+◌, IfOk, OnOk};
+ghost use Rattle.std.specs.Prelude.{◌≡◌, ◌≤◌, ◌+◌, IfOk, OnOk, vec_capacity};
 ghost use Rattle.ui_machine.specs.Prefix.{IsPrefix};
 ghost use Rattle.ui_machine.specs.Steps.{most_steps};
 ghost use Rattle.native_peers.specs.Pool.{entries, relations, seen};
 ghost use Rattle.native_peers.specs.Seen.{SameRelations};
 ghost use Rattle.engine_world.specs.Counting.{Counts, nothing};
+ghost use Rattle.engine_world.specs.Room.{SameRoom};
 ghost use Rattle.engine_world.specs.View.{world_of};
 ghost use Rattle.engine_pools.specs.CallPoints.{point_of};
 ghost use Rattle.engine_pools.specs.Courses.{RanFor, steps_left};
@@ -26,13 +27,14 @@ fn step(
     definition: &Definition,
     pool: &mut PeerPool,
 ) -> Result<StepKind, AllocError>
-    requires safe { ComesOfSafe definition.now (point_of definition.now (seen (λ p. (⟦<dyn Peer as Peer>⟧ p.peer.vtable).state p.peer.value) (entries pool.now)) engine.now) }
+    requires safe { ComesOfSafe definition.now (vec_capacity engine.now.stack.tasks) (point_of definition.now (seen (λ p. (⟦<dyn Peer as Peer>⟧ p.peer.vtable).state p.peer.value) (entries pool.now)) engine.now) }
     requires counted { Counts definition.now nothing engine.now }
     ensures counted { OnOk result (Counts definition.now nothing engine.new) }
     ensures stepped { Stepped result definition.now (relations (λ p. (⟦<dyn Peer as Peer>⟧ p.peer.vtable).moves p.peer.value) (entries pool.old))
         (point_of definition.now (seen (λ p. (⟦<dyn Peer as Peer>⟧ p.peer.vtable).state p.peer.value) (entries pool.old)) engine.old) (point_of definition.now (seen (λ p. (⟦<dyn Peer as Peer>⟧ p.peer.vtable).state p.peer.value) (entries pool.new)) engine.new) }
     ensures same { SameRelations (relations (λ p. (⟦<dyn Peer as Peer>⟧ p.peer.vtable).moves p.peer.value) (entries pool.old)) (relations (λ p. (⟦<dyn Peer as Peer>⟧ p.peer.vtable).moves p.peer.value) (entries pool.new)) }
     ensures grows { IsPrefix (world_of engine.old.world).transcript (world_of engine.new.world).transcript }
+    ensures room { SameRoom engine.old engine.new }
 {
     if let Some(call) = take_call(engine, definition) {
         let Ok(()) = answer_call(engine, definition, pool, call) else {
@@ -51,7 +53,7 @@ fn advance(
     definition: &Definition,
     pool: &mut PeerPool,
 ) -> Result<bool, AllocError>
-    requires safe { ComesOfSafe definition.now (point_of definition.now (seen (λ p. (⟦<dyn Peer as Peer>⟧ p.peer.vtable).state p.peer.value) (entries pool.now)) engine.now) }
+    requires safe { ComesOfSafe definition.now (vec_capacity engine.now.stack.tasks) (point_of definition.now (seen (λ p. (⟦<dyn Peer as Peer>⟧ p.peer.vtable).state p.peer.value) (entries pool.now)) engine.now) }
     requires counted { Counts definition.now nothing engine.now }
     ensures counted { OnOk result (Counts definition.now nothing engine.new) }
     ensures advanced { Advanced result definition.now (relations (λ p. (⟦<dyn Peer as Peer>⟧ p.peer.vtable).moves p.peer.value) (entries pool.old))
@@ -59,6 +61,7 @@ fn advance(
     ensures few { OnOk result (engine.old.counted ≤ most_steps → engine.new.counted ≤ most_steps) }
     ensures same { SameRelations (relations (λ p. (⟦<dyn Peer as Peer>⟧ p.peer.vtable).moves p.peer.value) (entries pool.old)) (relations (λ p. (⟦<dyn Peer as Peer>⟧ p.peer.vtable).moves p.peer.value) (entries pool.new)) }
     ensures grows { IsPrefix (world_of engine.old.world).transcript (world_of engine.new.world).transcript }
+    ensures room { SameRoom engine.old engine.new }
 {
     loop {
         match step(engine, definition, pool)? {
@@ -79,7 +82,7 @@ pub(crate) fn run(
     definition: &Definition,
     pool: &mut PeerPool,
 ) -> Result<(), AllocError>
-    requires safe { ComesOfSafe definition.now (point_of definition.now (seen (λ p. (⟦<dyn Peer as Peer>⟧ p.peer.vtable).state p.peer.value) (entries pool.now)) engine.now) }
+    requires safe { ComesOfSafe definition.now (vec_capacity engine.now.stack.tasks) (point_of definition.now (seen (λ p. (⟦<dyn Peer as Peer>⟧ p.peer.vtable).state p.peer.value) (entries pool.now)) engine.now) }
     requires counted { Counts definition.now nothing engine.now }
     ensures counted { OnOk result (Counts definition.now nothing engine.new) }
     ensures ran { Ran result definition.now (relations (λ p. (⟦<dyn Peer as Peer>⟧ p.peer.vtable).moves p.peer.value) (entries pool.old))
@@ -87,6 +90,7 @@ pub(crate) fn run(
     ensures few { OnOk result (engine.old.counted ≤ most_steps → engine.new.counted ≤ most_steps) }
     ensures same { SameRelations (relations (λ p. (⟦<dyn Peer as Peer>⟧ p.peer.vtable).moves p.peer.value) (entries pool.old)) (relations (λ p. (⟦<dyn Peer as Peer>⟧ p.peer.vtable).moves p.peer.value) (entries pool.new)) }
     ensures grows { IsPrefix (world_of engine.old.world).transcript (world_of engine.new.world).transcript }
+    ensures room { SameRoom engine.old engine.new }
 {
     loop {
         if !advance(engine, definition, pool)? {
@@ -107,7 +111,7 @@ pub(crate) fn run_for(
     pool: &mut PeerPool,
     most: u64,
 ) -> Result<Option<u64>, AllocError>
-    requires safe { ComesOfSafe definition.now (point_of definition.now (seen (λ p. (⟦<dyn Peer as Peer>⟧ p.peer.vtable).state p.peer.value) (entries pool.now)) engine.now) }
+    requires safe { ComesOfSafe definition.now (vec_capacity engine.now.stack.tasks) (point_of definition.now (seen (λ p. (⟦<dyn Peer as Peer>⟧ p.peer.vtable).state p.peer.value) (entries pool.now)) engine.now) }
     requires counted { Counts definition.now nothing engine.now }
     ensures counted { OnOk result (Counts definition.now nothing engine.new) }
     ensures ran { RanFor result definition.now (relations (λ p. (⟦<dyn Peer as Peer>⟧ p.peer.vtable).moves p.peer.value) (entries pool.old))
@@ -116,6 +120,7 @@ pub(crate) fn run_for(
     ensures few { OnOk result (engine.old.counted ≤ most_steps → engine.new.counted ≤ most_steps) }
     ensures same { SameRelations (relations (λ p. (⟦<dyn Peer as Peer>⟧ p.peer.vtable).moves p.peer.value) (entries pool.old)) (relations (λ p. (⟦<dyn Peer as Peer>⟧ p.peer.vtable).moves p.peer.value) (entries pool.new)) }
     ensures grows { IsPrefix (world_of engine.old.world).transcript (world_of engine.new.world).transcript }
+    ensures room { SameRoom engine.old engine.new }
 {
     let mut left = most;
     'steps: while left > 0 {

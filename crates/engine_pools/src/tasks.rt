@@ -8,6 +8,7 @@ ghost use Rattle.ui_machine.specs.State.References.{in_task};
 ghost use Rattle.ui_machine.specs.Steps.{act};
 ghost use Rattle.engine_world.specs.KnownHandlers.{TakesKnownHandlers};
 ghost use Rattle.engine_world.specs.Quiet.{IsQuiet};
+ghost use Rattle.engine_world.specs.Room.{HasRoom, SameRoom};
 ghost use Rattle.engine_world.specs.View.{world_of};
 ghost use Rattle.engine_world.specs.TaskView.{task_in, agenda_of};
 ghost use Rattle.engine_world.specs.Counting.{Counts, in_subject};
@@ -55,6 +56,7 @@ pub(crate) fn act(
     requires numbers { (world_of engine.now.world).last_handler + to_connect (task_in definition.now engine.now task ∷ agenda_of definition.now engine.now) ≤ greatest_handler }
     requires begun { TakesKnownHandlers engine.now.world.handlers.last task }
     requires counted { Counts definition.now (λ o. in_task o (task_in definition.now engine.now task)) engine.now }
+    requires room { HasRoom 2 engine.now }
     ensures step { LeadsWithoutGone result
         (act definition.now (world_of engine.old.world) None
         (past_turns (world_of engine.old.world) (task_in definition.now engine.old task) ∷ agenda_of definition.now engine.old) engine.old.counted)
@@ -63,6 +65,7 @@ pub(crate) fn act(
     ensures counted { OnOk result (Counts definition.now (λ o. in_subject o (task_in definition.now engine.old task)) engine.new) }
     ensures closing { OnOk result (TaskLeaves definition.now (world_of engine.old.world) (task_in definition.now engine.old task) engine.old.closing engine.new.closing) }
     ensures made { IfOk result (λ made. IsOfKind made (task_in definition.now engine.old task)) }
+    ensures room { SameRoom engine.old engine.new }
 {
     // For the proof: what a task holds lives, and what is known of a definition's places.
     never_full(engine);
@@ -106,7 +109,7 @@ pub(crate) fn act(
             return Ok(StepKind::Counted);
         }
         Task::Thawing { object, slots } => {
-            notify_thawed(engine, definition, object, slots)?;
+            notify_thawed(engine, definition, object, slots);
             return Ok(StepKind::Uncounted);
         }
         Task::Constructing {

@@ -3,6 +3,7 @@
 ghost use Rattle.std.specs.Prelude.{◌≡◌, ◌<◌, ◌↔◌, IfOk, OnErr};
 ghost use Rattle.ui_machine.specs.Prefix.{IsPrefix};
 ghost use Rattle.engine_world.specs.Quiet.{IsQuiet};
+ghost use Rattle.engine_world.specs.Room.{SameRoom};
 ghost use Rattle.engine_world.specs.View.{world_of};
 ghost use Rattle.engine_pools.specs.Dispatched.{IsAtRest};
 ghost use Rattle.engine_pools.specs.TurnView.{TurnBegins};
@@ -29,6 +30,7 @@ pub fn begin_turn(
     ensures back { result ≡ Err TurnError.ClockBack → engine.new ≡ engine.old }
     ensures quiet { OnErr result (IsQuiet (world_of engine.old.world) (world_of engine.new.world)) }
     ensures grows { IsPrefix (world_of engine.old.world).transcript (world_of engine.new.world).transcript }
+    ensures room { SameRoom engine.old engine.new }
 {
     let batch = engine.world.context.iteration(moment)?;
     let line = Line::Turn { moment }.text(engine.alloc, definition.types())?;

@@ -1,5 +1,5 @@
 -- What the program of a turn is given, and how it begins in front of the rest of its emission.
-use Rattle.std.proofs.Common.{◌≡◌, ◌∙◌, refl, sym, ap, append_assoc, ℕ, suc, ◌+◌, ◌<◌, ◌≤◌, ◌++◌, ◌||◌, Bool, true, false, cond, not, List, [], ◌∷◌, length, map, drop, get_or, Option, None, Some, Ok, arith, add-one}
+use Rattle.std.proofs.Common.{◌≡◌, ◌∙◌, refl, sym, ap, append_assoc, ℕ, suc, ◌+◌, ◌<◌, ◌≤◌, ◌++◌, ◌||◌, Bool, true, false, cond, not, List, [], ◌∷◌, length, map, drop, get_or, Option, None, Some, option_map, Ok, arith, add-one}
 use Rattle.std.proofs.Math.Seq.{drop-cons}
 use Rattle.std.proofs.lemmas.List.{append-nil, length-drop, map-append, nil_from_length}
 use Rattle.ui_machine.specs.Definition.{Definition}
@@ -10,11 +10,12 @@ use Rattle.ui_machine.specs.State.Config.{Config, World, starts}
 use Rattle.ui_machine.specs.State.Handlers.{Handler}
 use Rattle.ui_machine.specs.Rules.Transfers.{transfer_for}
 use Rattle.ui_machine.specs.State.Bindings.{Binding, binding_of}
-use Rattle.ui_machine.specs.State.Tasks.{Emission, Emitting, PlanEntry, Task, Transferring}
+use Rattle.ui_machine.specs.State.Tasks.{Emission, Emitting, PlanEntry, Registers, Task, Transferring}
 use Rattle.ui_machine.specs.Outcome.{Answer}
 use Rattle.ui_machine.specs.Steps.{act, uncounted}
 use Rattle.g_values.specs.View.{value_view}
 use Rattle.g_values.specs.declared.value.Value.{Value}
+use Rattle.bytecode.specs.Computing.{registers_of}
 use Rattle.signal_core.specs.Connected.{Numbered}
 use Rattle.bindings.specs.Due.{entry_of, is_free}
 use Rattle.bindings.specs.declared.due.DueTransfer.{DueTransfer}
@@ -31,25 +32,40 @@ use Rattle.engine_tasks.specs.TurnView.{RunsProgram, given_by, program_of_turn}
 use Rattle.engine_tasks.proofs.ProgramStarts.{begins_before}
 use Rattle.engine_tasks.proofs.EmissionTurns.{GoesOn, IsNext, not_over, program_first}
 
--- ** values once more
+-- ** registers with values once more
 
-module _ (vs : List Value) (i : ℕ) (all : List values.Value) where
-  pub copies_on : (xs ys : List Value) (v w : Value) → i < length vs → v ≡ get_or vs i v → value_view w ≡ value_view v → ys ≡ xs ++ w ∷ []
-      → map value_view xs ++ map value_view (drop i vs) ≡ all → map value_view ys ++ map value_view (drop (i + 1) vs) ≡ all
+-- registers that hold values
+abbrev pub filled : List values.Value → Registers
+filled vs = map (λ v. Some v) vs
+
+module _ (vs : List Value) (i : ℕ) (all : Registers) where
+  pub copies_on : (xs ys : List (Option Value)) (v w : Value) → i < length vs → v ≡ get_or vs i v → value_view w ≡ value_view v → ys ≡ xs ++ Some w ∷ []
+      → registers_of xs ++ filled (map value_view (drop i vs)) ≡ all → registers_of ys ++ filled (map value_view (drop (i + 1) vs)) ≡ all
   copies_on xs ys v w lt is same more so =
-      let rest = map value_view (drop (i + 1) vs) in
+      let rest = filled (map value_view (drop (i + 1) vs)) in
       let e : drop i vs ≡ get_or vs i v ∷ drop (suc i) vs = drop-cons vs i v lt in
-      let next : map value_view (drop i vs) ≡ value_view v ∷ map value_view (drop (i + 1) vs) = rw (add-one, e, ← is) refl in
-      ap (λ (zs : List Value). map value_view zs ++ rest) more
-      ∙ ap (λ (l : List values.Value). l ++ rest) (map-append value_view xs (w ∷ []))
-      ∙ append_assoc (map value_view xs) (value_view w ∷ []) rest
-      ∙ ap (λ (x : values.Value). map value_view xs ++ x ∷ rest) same
-      ∙ ap (λ (l : List values.Value). map value_view xs ++ l) (sym next) ∙ so
+      let next : filled (map value_view (drop i vs)) ≡ Some (value_view v) ∷ rest = rw (add-one, e, ← is) refl in
+      ap (λ (zs : List (Option Value)). registers_of zs ++ rest) more
+      ∙ ap (λ (l : Registers). l ++ rest) (map-append (option_map value_view) xs (Some w ∷ []))
+      ∙ append_assoc (registers_of xs) (Some (value_view w) ∷ []) rest
+      ∙ ap (λ (x : values.Value). registers_of xs ++ Some x ∷ rest) same
+      ∙ ap (λ (l : Registers). registers_of xs ++ l) (sym next) ∙ so
 
-  pub copies_end : (xs : List Value) → length vs ≤ i → map value_view xs ++ map value_view (drop i vs) ≡ all → map value_view xs ≡ all
+  pub copies_end : (xs : List (Option Value)) → length vs ≤ i → registers_of xs ++ filled (map value_view (drop i vs)) ≡ all → registers_of xs ≡ all
   copies_end xs le so =
       let none : drop i vs ≡ [] = nil_from_length (drop i vs) (omega (arith, length-drop i vs)) in
-      sym (append-nil (map value_view xs)) ∙ ap (λ (l : List Value). map value_view xs ++ map value_view l) (sym none) ∙ so
+      sym (append-nil (registers_of xs)) ∙ ap (λ (l : List Value). registers_of xs ++ filled (map value_view l)) (sym none) ∙ so
+
+-- one register more
+pub one_filled : (xs : List (Option Value)) (w : Value) → registers_of (xs ++ Some w ∷ []) ≡ registers_of xs ++ filled (value_view w ∷ [])
+one_filled xs w = map-append (option_map value_view) xs (Some w ∷ [])
+
+-- what is put in one after the other
+pub filled_around : (before args behind : List values.Value) → (filled before ++ filled args) ++ filled behind ≡ filled (before ++ (args ++ behind))
+filled_around before args behind =
+    append_assoc (filled before) (filled args) (filled behind)
+    ∙ ap (λ (l : Registers). filled before ++ l) (sym (map-append (λ v. Some v) args behind))
+    ∙ sym (map-append (λ v. Some v) before (args ++ behind))
 
 -- ** what a program is given
 

@@ -15,6 +15,7 @@ ghost use Rattle.engine_world.specs.EngineView.{config_of};
 ghost use Rattle.engine_world.specs.Able.{Able, Leads};
 ghost use Rattle.engine_world.specs.Quiet.{IsQuiet};
 ghost use Rattle.engine_world.specs.TaskView.{agenda_of, binds_from, connects_from};
+ghost use Rattle.engine_world.specs.Room.{HasRoom, SameRoom};
 ghost use Rattle.engine_world.specs.View.{world_of};
 ghost use Rattle.engine_tasks.specs.BindView.{ends_at, ends_of};
 
@@ -83,14 +84,16 @@ fn new_binding(alloc: Global, bind: &Bind, ends: Ends) -> Result<Binding, AllocE
 }
 
 // With SYNC_CREATE the binding is to set its target at once.
-fn push_first_transfer(engine: &mut Engine, number: usize, bind: &Bind) -> Result<(), AllocError>
-    ensures agenda { OnOk result ((d : machine.Definition) → agenda_of d engine.new ≡ first_transfer number (bind_view bind.now) ++ agenda_of d engine.old) }
+fn push_first_transfer(engine: &mut Engine, number: usize, bind: &Bind)
+    requires room { HasRoom 1 engine.now }
+    ensures agenda { (d : machine.Definition) → agenda_of d engine.new ≡ first_transfer number (bind_view bind.now) ++ agenda_of d engine.old }
     ensures world { world_of engine.new.world ≡ world_of engine.old.world }
     ensures same { engine.new.counted ≡ engine.old.counted }
-    ensures counted { OnOk result ((d : machine.Definition) → KeepsCounts d engine.old engine.new) }
+    ensures counted { (d : machine.Definition) → KeepsCounts d engine.old engine.new }
+    ensures room { SameRoom engine.old engine.new }
 {
     if !bind.flags.contains(BindingFlags::SYNC_CREATE) {
-        return Ok(());
+        return;
     }
     push_task(
         engine,
@@ -98,7 +101,7 @@ fn push_first_transfer(engine: &mut Engine, number: usize, bind: &Bind) -> Resul
             number: number as u64,
             back: false,
         },
-    )
+    );
 }
 
 // A binding of the definition is made, under its number there.
@@ -141,11 +144,13 @@ pub fn bind_from_build(
     requires able { Able (uncounted (agenda_of definition.now engine.now) engine.now.counted (building definition.now (world_of engine.now.world) (binds_from definition.now number))) }
     requires connects { Connects definition.now engine.now }
     requires numbers { (world_of engine.now.world).last_handler + total is_connecting (connects_from definition.now 0 0) ≤ greatest_handler }
+    requires room { HasRoom 2 engine.now }
     ensures step { Leads result
         (uncounted (agenda_of definition.now engine.old) engine.old.counted (building definition.now (world_of engine.old.world) (binds_from definition.now number)))
         (config_of definition.now engine.new) }
     ensures quiet { OnErr result (IsQuiet (world_of engine.old.world) (world_of engine.new.world)) }
     ensures counted { OnOk result (KeepsCounts definition.now engine.old engine.new) }
+    ensures room { SameRoom engine.old engine.new }
 {
     if number >= definition.binding_count() {
         return connect_from_build(engine, definition, FIRST_PLACE, 0);
@@ -155,11 +160,11 @@ pub fn bind_from_build(
     };
     let ends = ends_of(engine, meant);
     let is_late = is_any_disposed(&engine.world.table, ends);
-    push_task(engine, Task::Binding { number: number + 1 })?;
+    push_task(engine, Task::Binding { number: number + 1 });
     if is_late {
         return Ok(());
     }
-    push_first_transfer(engine, number, meant)?;
+    push_first_transfer(engine, number, meant);
     bind(engine, definition, number, meant, ends)?;
     Ok(())
 }

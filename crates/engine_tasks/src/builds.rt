@@ -17,6 +17,7 @@ ghost use Rattle.g_values.specs.View.{value_view};
 ghost use Rattle.definition_format.specs.Meaning.{object_count};
 ghost use Rattle.engine_world.specs.Able.{Able, Leads, LeadsToLiving};
 ghost use Rattle.engine_world.specs.Quiet.{IsQuiet};
+ghost use Rattle.engine_world.specs.Room.{HasRoom, SameRoom};
 ghost use Rattle.engine_world.specs.View.{world_of};
 ghost use Rattle.engine_world.specs.TaskView.{task_of, agenda_of, build_from, build_behind, connects_from};
 ghost use Rattle.engine_world.specs.Counting.{Connects, IsCounted, KeepsCounts};
@@ -51,6 +52,7 @@ fn hold_made(
         (config_of definition.now engine.new) }
     ensures quiet { OnErr result (IsQuiet (world_of engine.old.world) (world_of engine.new.world)) }
     ensures counted { OnOk result (KeepsCounts definition.now engine.old engine.new) }
+    ensures room { SameRoom engine.old engine.new }
 {
     // For the proof: the clauses speak of the definition, and what lives may be held once more.
     let _ = definition;
@@ -81,6 +83,7 @@ fn end_construction(
         (config_of definition.now engine.new) }
     ensures quiet { OnErr result (IsQuiet (world_of engine.old.world) (world_of engine.new.world)) }
     ensures counted { OnOk result (KeepsCounts definition.now engine.old engine.new) }
+    ensures room { SameRoom engine.old engine.new }
 {
     if held {
         return hold_made(engine, definition, object);
@@ -96,14 +99,14 @@ fn thaw_constructed(
     object: ObjectId,
     steps: ConstructSteps,
     held: bool,
-) -> Result<(), AllocError>
+)
     requires able { Able (uncounted (agenda_of definition.now engine.now) engine.now.counted (thawing_made (world_of engine.now.world) object.0 steps held)) }
     requires counted { IsCounted definition.now engine.now }
-    ensures step { Leads result
-        (uncounted (agenda_of definition.now engine.old) engine.old.counted (thawing_made (world_of engine.old.world) object.0 steps held))
-        (config_of definition.now engine.new) }
-    ensures quiet { OnErr result (IsQuiet (world_of engine.old.world) (world_of engine.new.world)) }
-    ensures counted { OnOk result (KeepsCounts definition.now engine.old engine.new) }
+    requires room { HasRoom 2 engine.now }
+    ensures step { uncounted (agenda_of definition.now engine.old) engine.old.counted (thawing_made (world_of engine.old.world) object.0 steps held)
+        ≡ Ok (config_of definition.now engine.new) }
+    ensures counted { KeepsCounts definition.now engine.old engine.new }
+    ensures room { SameRoom engine.old engine.new }
 {
     // For the proof: the clauses speak of the definition.
     let _ = definition;
@@ -115,15 +118,14 @@ fn thaw_constructed(
             steps,
             held,
         },
-    )?;
+    );
     push_task(
         engine,
         Task::Thawing {
             object,
             slots: Slots::new(slots),
         },
-    )?;
-    Ok(())
+    );
 }
 
 // A set of a construction.
@@ -136,15 +138,15 @@ fn apply_construct_property(
     value: Value,
     steps: ConstructSteps,
     held: bool,
-) -> Result<(), AllocError>
+)
     requires able { Able (uncounted (agenda_of definition.now engine.now) engine.now.counted (apply_construct_property definition.now (world_of engine.now.world) object.0 slot (value_view value) (Constructing object.0 steps held ∷ []))) }
     requires live { IsSome (living engine.now.world.table.objects object.0) }
     requires counted { IsCounted definition.now engine.now }
-    ensures step { Leads result
-        (uncounted (agenda_of definition.now engine.old) engine.old.counted (apply_construct_property definition.now (world_of engine.old.world) object.0 slot (value_view value) (Constructing object.0 steps held ∷ [])))
-        (config_of definition.now engine.new) }
-    ensures quiet { OnErr result (IsQuiet (world_of engine.old.world) (world_of engine.new.world)) }
-    ensures counted { OnOk result (KeepsCounts definition.now engine.old engine.new) }
+    requires room { HasRoom 2 engine.now }
+    ensures step { uncounted (agenda_of definition.now engine.old) engine.old.counted (apply_construct_property definition.now (world_of engine.old.world) object.0 slot (value_view value) (Constructing object.0 steps held ∷ []))
+        ≡ Ok (config_of definition.now engine.new) }
+    ensures counted { KeepsCounts definition.now engine.old engine.new }
+    ensures room { SameRoom engine.old engine.new }
 {
     // For the proof: the clauses speak of the definition.
     let _ = definition;
@@ -155,7 +157,7 @@ fn apply_construct_property(
             steps,
             held,
         },
-    )?;
+    );
     push_task(
         engine,
         Task::Setting {
@@ -163,8 +165,7 @@ fn apply_construct_property(
             slot,
             value,
         },
-    )?;
-    Ok(())
+    );
 }
 
 // A program of a construction begins, which is given the object alone.
@@ -179,14 +180,16 @@ fn run_constructed(
     requires able { Able (uncounted (agenda_of definition.now engine.now) engine.now.counted (program_before definition.now (world_of engine.now.world) program (machine_values.object (Some object.0) ∷ []) (Constructing object.0 steps held ∷ []))) }
     requires live { IsSome (living engine.now.world.table.objects object.0) }
     requires counted { IsCounted definition.now engine.now }
+    requires room { HasRoom 2 engine.now }
     ensures step { Leads result
         (uncounted (agenda_of definition.now engine.old) engine.old.counted (program_before definition.now (world_of engine.old.world) program (machine_values.object (Some object.0) ∷ []) (Constructing object.0 steps held ∷ [])))
         (config_of definition.now engine.new) }
     ensures quiet { OnErr result (IsQuiet (world_of engine.old.world) (world_of engine.new.world)) }
     ensures counted { OnOk result (KeepsCounts definition.now engine.old engine.new) }
+    ensures room { SameRoom engine.old engine.new }
 {
-    let mut args = Vec::new(engine.alloc);
-    args.push(object_value(object))?;
+    let mut registers = engine.spare_registers.take(engine.alloc);
+    registers.push(Some(object_value(object)))?;
     push_task(
         engine,
         Task::Constructing {
@@ -194,8 +197,8 @@ fn run_constructed(
             steps,
             held,
         },
-    )?;
-    begin_program(engine, definition, program, args)
+    );
+    begin_program(engine, definition, program, registers)
 }
 
 /// The next step of a construction.
@@ -213,18 +216,20 @@ pub fn construct(
     requires able { Able (uncounted (agenda_of definition.now engine.now) engine.now.counted (constructing definition.now (world_of engine.now.world) object.0 steps held)) }
     requires live { IsSome (living engine.now.world.table.objects object.0) }
     requires counted { IsCounted definition.now engine.now }
+    requires room { HasRoom 2 engine.now }
     ensures step { Leads result
         (uncounted (agenda_of definition.now engine.old) engine.old.counted (constructing definition.now (world_of engine.old.world) object.0 steps held))
         (config_of definition.now engine.new) }
     ensures quiet { OnErr result (IsQuiet (world_of engine.old.world) (world_of engine.new.world)) }
     ensures counted { OnOk result (KeepsCounts definition.now engine.old engine.new) }
+    ensures room { SameRoom engine.old engine.new }
 {
     let Some(step) = steps.take() else {
         return end_construction(engine, definition, object, held);
     };
     match step {
         ConstructStep::Set { slot, value } => {
-            apply_construct_property(engine, definition, object, slot, value, steps, held)?;
+            apply_construct_property(engine, definition, object, slot, value, steps, held);
             return Ok(());
         }
         ConstructStep::Run { program } => {
@@ -232,7 +237,7 @@ pub fn construct(
             return Ok(());
         }
         ConstructStep::Thaw => {
-            thaw_constructed(engine, definition, object, steps, held)?;
+            thaw_constructed(engine, definition, object, steps, held);
             return Ok(());
         }
     }
@@ -249,11 +254,13 @@ fn make_from_build(
     requires counted { IsCounted definition.now engine.now }
     requires peer { IfSome peer (λ number. number < length engine.now.world.seats) }
     requires identity { length (world_of engine.now.world).objects < most_identities }
+    requires room { HasRoom 1 engine.now }
     ensures step { Leads result
         (uncounted (agenda_of definition.now engine.old) engine.old.counted (making definition.now (world_of engine.old.world) place.0 peer true))
         (config_of definition.now engine.new) }
     ensures quiet { OnErr result (IsQuiet (world_of engine.old.world) (world_of engine.new.world)) }
     ensures counted { OnOk result (KeepsCounts definition.now engine.old engine.new) }
+    ensures room { SameRoom engine.old engine.new }
 {
     let new = make(engine, definition, place, peer)?;
     begin_construction(engine, new, true)?;
@@ -278,11 +285,13 @@ pub fn build(
     requires connects { Connects definition.now engine.now }
     requires identity { place.0 < object_count definition.now → length (world_of engine.now.world).objects < most_identities }
     requires numbers { (world_of engine.now.world).last_handler + total is_connecting (connects_from definition.now 0 0) ≤ greatest_handler }
+    requires room { HasRoom 2 engine.now }
     ensures step { Leads result
         (uncounted (agenda_of definition.now engine.old) engine.old.counted (building definition.now (world_of engine.old.world) (build_from definition.now place.0 forwards)))
         (config_of definition.now engine.new) }
     ensures quiet { OnErr result (IsQuiet (world_of engine.old.world) (world_of engine.new.world)) }
     ensures counted { OnOk result (KeepsCounts definition.now engine.old engine.new) }
+    ensures room { SameRoom engine.old engine.new }
 {
     // For the proof: what is known of a definition's types.
     let _types = definition.types();
@@ -290,7 +299,7 @@ pub fn build(
         return set_forward_reference(engine, definition, place, forwards);
     }
     let peer = own_peer(engine, definition, place);
-    push_task(engine, behind(definition, place, forwards))?;
+    push_task(engine, behind(definition, place, forwards));
     make_from_build(engine, definition, place, peer)
 }
 

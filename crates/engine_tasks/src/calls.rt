@@ -18,6 +18,7 @@ ghost use Rattle.engine_world.specs.Able.{Able, Leads, LeadsToLiving};
 ghost use Rattle.engine_world.specs.Quiet.{IsQuiet};
 ghost use Rattle.engine_world.specs.SeatView.{HasKnownKinds};
 ghost use Rattle.engine_world.specs.TaskView.{agenda_of, call_of};
+ghost use Rattle.engine_world.specs.Room.{SameRoom};
 ghost use Rattle.engine_world.specs.View.{with_line, world_of};
 ghost use Rattle.engine_tasks.specs.CallView.{answered, conclusion_view, method_called, named_view, question_view, reply_of, unanswered};
 
@@ -177,11 +178,12 @@ fn conclude(
         (config_of definition.now engine.new) }
     ensures quiet { OnErr result (IsQuiet (world_of engine.old.world) (world_of engine.new.world)) }
     ensures counted { OnOk result (Counts definition.now (λ o. same o call.object.0) engine.new) }
+    ensures room { SameRoom engine.old engine.new }
 {
     // For the proof: what lives may be held once more.
     never_full(engine);
     let Conclusion { line, value } = conclusion;
-    pass_answer(engine, definition, call.to, value)?;
+    pass_answer(engine, definition, call.to, value);
     engine.world.say(line)?;
     let_go_values(&mut engine.world.table, call.args.as_slice());
     Ok(())
@@ -210,6 +212,7 @@ pub fn answer(
         (config_of definition.now engine.new) }
     ensures quiet { OnErr result (IsQuiet (world_of engine.old.world) (world_of engine.new.world)) }
     ensures counted { OnOk result (Counts definition.now (λ o. same o call.object.0) engine.new) }
+    ensures room { SameRoom engine.old engine.new }
 {
     if !is_asked(engine, call.peer) {
         return pass_over(engine, definition, call);
@@ -239,6 +242,7 @@ pub fn pass_over(
         (config_of definition.now engine.new) }
     ensures quiet { OnErr result (IsQuiet (world_of engine.old.world) (world_of engine.new.world)) }
     ensures counted { OnOk result (Counts definition.now (λ o. same o call.object.0) engine.new) }
+    ensures room { SameRoom engine.old engine.new }
 {
     let conclusion = unanswered(engine, definition, &call)?;
     conclude(engine, definition, call, conclusion)

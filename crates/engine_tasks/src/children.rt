@@ -5,6 +5,7 @@ ghost use Rattle.ui_machine.specs.Steps.{uncounted};
 ghost use Rattle.ui_machine.specs.Rules.Build.{building_child};
 ghost use Rattle.engine_world.specs.Able.{Able, Leads};
 ghost use Rattle.engine_world.specs.Quiet.{IsQuiet};
+ghost use Rattle.engine_world.specs.Room.{HasRoom, SameRoom};
 ghost use Rattle.engine_world.specs.View.{world_of};
 ghost use Rattle.engine_world.specs.KinView.{kin_of, kin_at};
 ghost use Rattle.engine_world.specs.TaskView.{agenda_of, build_from};
@@ -50,11 +51,13 @@ pub fn adopt_from_build(
 ) -> Result<(), AllocError>
     requires able { Able (uncounted (agenda_of definition.now engine.now) engine.now.counted (building_child definition.now (world_of engine.now.world) place.0 (build_from definition.now (suc place.0) forwards))) }
     requires counted { IsCounted definition.now engine.now }
+    requires room { HasRoom 1 engine.now }
     ensures step { Leads result
         (uncounted (agenda_of definition.now engine.old) engine.old.counted (building_child definition.now (world_of engine.old.world) place.0 (build_from definition.now (suc place.0) forwards)))
         (config_of definition.now engine.new) }
     ensures quiet { OnErr result (IsQuiet (world_of engine.old.world) (world_of engine.new.world)) }
     ensures counted { OnOk result (KeepsCounts definition.now engine.old engine.new) }
+    ensures room { SameRoom engine.old engine.new }
 {
     // For the proof: what is known of a definition's places.
     let _types = definition.types();
@@ -65,6 +68,6 @@ pub fn adopt_from_build(
             place: next_place(definition, place),
             forwards,
         },
-    )?;
+    );
     join(engine, definition, kin)
 }

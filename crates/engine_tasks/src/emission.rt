@@ -19,6 +19,7 @@ ghost use Rattle.g_values.specs.View.{kind_view, value_view};
 ghost use Rattle.definition_format.specs.Meaning.{IsKnownKind};
 ghost use Rattle.engine_world.specs.Able.{Able, Leads, LeadsToLiving};
 ghost use Rattle.engine_world.specs.Quiet.{IsQuiet};
+ghost use Rattle.engine_world.specs.Room.{HasRoom, SameRoom, TakesRoom};
 ghost use Rattle.engine_world.specs.View.{world_of, with_line};
 ghost use Rattle.engine_world.specs.KnownHandlers.{EndsWithoutTransfers};
 ghost use Rattle.engine_world.specs.TaskView.{new_of, emission_of, entries_to_come, agenda_of};
@@ -111,17 +112,19 @@ fn push_rest(
     args: Vec<Value>,
     by_event: bool,
     transfers: Transfers,
-) -> Result<(), AllocError>
+)
     requires may { MayBeHeld engine.now cursor.object }
     requires begun { cursor.greatest ≤ engine.now.world.handlers.last }
     requires ends { EndsWithoutTransfers cursor transfers }
-    ensures agenda { OnOk result ((d : machine.Definition) → agenda_of d engine.new
-        ≡ Emitting (emission_of cursor args.items by_event) (entries_to_come cursor engine.old.world.handlers.handlers transfers) ∷ agenda_of d engine.old) }
+    requires room { HasRoom 1 engine.now }
+    ensures agenda { (d : machine.Definition) → agenda_of d engine.new
+        ≡ Emitting (emission_of cursor args.items by_event) (entries_to_come cursor engine.old.world.handlers.handlers transfers) ∷ agenda_of d engine.old }
     ensures world { world_of engine.new.world ≡ world_of engine.old.world }
     ensures same { engine.new.counted ≡ engine.old.counted }
     ensures handlers { engine.new.world.handlers ≡ engine.old.world.handlers }
-    ensures counted { OnOk result ((d : machine.Definition) (taken : ℕ → ℕ)
-        → Counts d (λ o. taken o + in_emitted o (emission_of cursor args.items by_event)) engine.old → Counts d taken engine.new) }
+    ensures counted { (d : machine.Definition) (taken : ℕ → ℕ)
+        → Counts d (λ o. taken o + in_emitted o (emission_of cursor args.items by_event)) engine.old → Counts d taken engine.new }
+    ensures room { TakesRoom 1 engine.old engine.new }
 {
     // For the proof: what lives may be held once more.
     never_full(engine);
@@ -131,8 +134,7 @@ fn push_rest(
         args,
         by_event,
         transfers,
-    })?;
-    Ok(())
+    });
 }
 
 /// An emission begins that is counted already, with the transfers that it is to make. Its line is said, and what is connected later has no
@@ -146,6 +148,7 @@ pub(crate) fn start_emission(
     line: String,
 ) -> Result<(), AllocError>
     requires may { MayBeHeld engine.now emission.object.0 }
+    requires room { HasRoom 1 engine.now }
     ensures agenda { OnOk result ((d : machine.Definition) → agenda_of d engine.new
         ≡ Emitting (emission_of (begun emission engine.old.world.handlers.last) args.items by_event)
         (entries_to_come (begun emission engine.old.world.handlers.last) engine.old.world.handlers.handlers transfers)
@@ -155,9 +158,10 @@ pub(crate) fn start_emission(
     ensures same { engine.new.counted ≡ engine.old.counted }
     ensures counted { OnOk result ((d : machine.Definition) (taken : ℕ → ℕ)
         → Counts d (λ o. taken o + total (in_value o) (map value_view args.items)) engine.old → Counts d taken engine.new) }
+    ensures room { SameRoom engine.old engine.new }
 {
     let cursor = engine.world.handlers.begin_emission(emission);
-    push_rest(engine, cursor, args, by_event, transfers)?;
+    push_rest(engine, cursor, args, by_event, transfers);
     engine.world.say(line)?;
     Ok(())
 }
@@ -175,11 +179,13 @@ pub fn begin_emission(
 ) -> Result<(), AllocError>
     requires able { Able (counted (agenda_of definition.now engine.now) engine.now.counted (beginning_emission definition.now (world_of engine.now.world) (new_of emission))) }
     requires counted { Counts definition.now (λ o. in_task o (Beginning (new_of emission))) engine.now }
+    requires room { HasRoom 1 engine.now }
     ensures step { Leads result
         (counted (agenda_of definition.now engine.old) engine.old.counted (beginning_emission definition.now (world_of engine.old.world) (new_of emission)))
         (config_of definition.now engine.new) }
     ensures quiet { OnErr result (IsQuiet (world_of engine.old.world) (world_of engine.new.world)) }
     ensures counted { OnOk result (Counts definition.now (λ o. same o emission.object.0) engine.new) }
+    ensures room { SameRoom engine.old engine.new }
 {
     // For the proof: what is known of the numbers of handlers.
     let _last = engine.world.handlers.last();
@@ -261,6 +267,7 @@ fn end_emission(
         (config_of definition.now engine.new) }
     ensures quiet { OnErr result (IsQuiet (world_of engine.old.world) (world_of engine.new.world)) }
     ensures counted { OnOk result (Counts definition.now (λ o. same o cursor.object) engine.new) }
+    ensures room { SameRoom engine.old engine.new }
 {
     // For the proof: what is known of a definition's signals, and that what is held lives and may be held once more.
     let _types = definition.types();
@@ -277,6 +284,7 @@ fn end_emission(
     say_result_if(engine, definition, by_event, value)?;
     let_go_values(&mut engine.world.table, args.as_slice());
     let_go_any(&mut engine.world.table, held);
+    engine.spare_args.give_back(args);
     Ok(())
 }
 
@@ -298,19 +306,22 @@ fn take_turn(
     requires begun { cursor.greatest ≤ engine.now.world.handlers.last }
     requires ends { EndsWithoutTransfers cursor transfers }
     requires counted { Counts definition.now (λ o. same o cursor.object + in_emitted o (emission_of cursor args.items by_event)) engine.now }
+    requires room { HasRoom 2 engine.now }
     ensures step { Leads result
         (uncounted (Emitting (emission_of cursor args.items by_event) (entries_to_come cursor engine.old.world.handlers.handlers transfers) ∷ agenda_of definition.now engine.old) engine.old.counted
         (beginning_program definition.now (world_of engine.old.world) (program_of_turn turn) (given_by (emission_of cursor args.items by_event) turn)))
         (config_of definition.now engine.new) }
     ensures quiet { OnErr result (IsQuiet (world_of engine.old.world) (world_of engine.new.world)) }
     ensures counted { OnOk result (Counts definition.now (λ o. same o cursor.object) engine.new) }
+    ensures room { SameRoom engine.old engine.new }
 {
     // For the proof: what is held lives.
     never_full(engine);
     let runs = Invocation::new(turn, cursor.object());
-    let given = runs.given(engine.alloc, args.as_slice())?;
-    push_rest(engine, cursor, args, by_event, transfers)?;
-    begin_program(engine, definition, runs.program, given)
+    let mut registers = engine.spare_registers.take(engine.alloc);
+    runs.give(&mut registers, args.as_slice())?;
+    push_rest(engine, cursor, args, by_event, transfers);
+    begin_program(engine, definition, runs.program, registers)
 }
 
 // A transfer is due, in front of the rest of the emission. Its binding has not ended, and does not set.
@@ -322,32 +333,31 @@ fn take_transfer(
     args: Vec<Value>,
     by_event: bool,
     transfers: Transfers,
-) -> Result<(), AllocError>
+)
     requires able { Able (act definition.now (world_of engine.now.world) None
         (Emitting (emission_of cursor args.items by_event) (entry_of due ∷ entries_to_come cursor engine.now.world.handlers.handlers transfers) ∷ agenda_of definition.now engine.now) engine.now.counted) }
     requires free { is_free (binding_of due.number engine.now.world.bindings.bindings) ≡ true }
     requires begun { cursor.greatest ≤ engine.now.world.handlers.last }
     requires ends { EndsWithoutTransfers cursor transfers }
     requires counted { Counts definition.now (λ o. same o cursor.object + in_emitted o (emission_of cursor args.items by_event)) engine.now }
-    ensures step { Leads result
-        (act definition.now (world_of engine.old.world) None
-        (Emitting (emission_of cursor args.items by_event) (entry_of due ∷ entries_to_come cursor engine.old.world.handlers.handlers transfers) ∷ agenda_of definition.now engine.old) engine.old.counted)
-        (config_of definition.now engine.new) }
-    ensures quiet { OnErr result (IsQuiet (world_of engine.old.world) (world_of engine.new.world)) }
-    ensures counted { OnOk result (Counts definition.now (λ o. same o cursor.object) engine.new) }
+    requires room { HasRoom 2 engine.now }
+    ensures step { act definition.now (world_of engine.old.world) None
+        (Emitting (emission_of cursor args.items by_event) (entry_of due ∷ entries_to_come cursor engine.old.world.handlers.handlers transfers) ∷ agenda_of definition.now engine.old) engine.old.counted
+        ≡ Ok (config_of definition.now engine.new) }
+    ensures counted { Counts definition.now (λ o. same o cursor.object) engine.new }
+    ensures room { SameRoom engine.old engine.new }
 {
     // For the proof: the clauses speak of the definition, and what is held lives.
     let _ = definition;
     never_full(engine);
-    push_rest(engine, cursor, args, by_event, transfers)?;
+    push_rest(engine, cursor, args, by_event, transfers);
     push_task(
         engine,
         Task::Transferring {
             number: due.number,
             back: due.back,
         },
-    )?;
-    Ok(())
+    );
 }
 
 // An emission whose bindings have their turn makes the next of their transfers, and behind them takes the next turn of a program, or ends
@@ -368,17 +378,20 @@ fn emit_transfers(
     requires later { due_later transfers ≡ [] }
     requires begun { cursor.greatest ≤ engine.now.world.handlers.last }
     requires counted { Counts definition.now (λ o. same o cursor.object + in_emitted o (emission_of cursor args.items by_event)) engine.now }
+    requires room { HasRoom 2 engine.now }
     ensures step { Leads result
         (act definition.now (world_of engine.old.world) None
         (Emitting (emission_of cursor args.items by_event) (entries_due (world_of engine.old.world) (entries_to_come cursor engine.old.world.handlers.handlers transfers)) ∷ agenda_of definition.now engine.old) engine.old.counted)
         (config_of definition.now engine.new) }
     ensures quiet { OnErr result (IsQuiet (world_of engine.old.world) (world_of engine.new.world)) }
     ensures counted { OnOk result (Counts definition.now (λ o. same o cursor.object) engine.new) }
+    ensures room { SameRoom engine.old engine.new }
 {
     // For the proof: what is known of the numbers of handlers.
     let _last = engine.world.handlers.last();
     if let Some(due) = next_transfer(&engine.world.bindings, &mut transfers) {
-        return take_transfer(engine, definition, due, cursor, args, by_event, transfers);
+        take_transfer(engine, definition, due, cursor, args, by_event, transfers);
+        return Ok(());
     }
     let Some(turn) = engine.world.handlers.next(&mut cursor) else {
         return end_emission(engine, definition, cursor, args, by_event);
@@ -408,6 +421,7 @@ pub fn emit(
     requires begun { cursor.greatest ≤ engine.now.world.handlers.last }
     requires ends { EndsWithoutTransfers cursor transfers }
     requires counted { Counts definition.now (λ o. same o cursor.object + in_emitted o (emission_of cursor args.items by_event)) engine.now }
+    requires room { HasRoom 2 engine.now }
     ensures step { Leads result
         (act definition.now (world_of engine.old.world) None
         (past_turns (world_of engine.old.world) (Emitting (emission_of cursor args.items by_event) (entries_to_come cursor engine.old.world.handlers.handlers transfers))
@@ -415,11 +429,13 @@ pub fn emit(
         (config_of definition.now engine.new) }
     ensures quiet { OnErr result (IsQuiet (world_of engine.old.world) (world_of engine.new.world)) }
     ensures counted { OnOk result (Counts definition.now (λ o. same o cursor.object) engine.new) }
+    ensures room { SameRoom engine.old engine.new }
 {
     // For the proof: what is known of the numbers of handlers.
     let _last = engine.world.handlers.last();
     if let Some(due) = next_transfer(&engine.world.bindings, &mut transfers) {
-        return take_transfer(engine, definition, due, cursor, args, by_event, transfers);
+        take_transfer(engine, definition, due, cursor, args, by_event, transfers);
+        return Ok(());
     }
     let Some(turn) = engine.world.handlers.next(&mut cursor) else {
         return end_emission(engine, definition, cursor, args, by_event);

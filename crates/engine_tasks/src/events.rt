@@ -1,11 +1,12 @@
 //! What events do.
 
-ghost use Rattle.std.specs.Prelude.{map, option_map, OnOk, OnErr};
+ghost use Rattle.std.specs.Prelude.{map, option_map, OnOk, OnErr, ◌≡◌, Ok};
 ghost use Rattle.ui_machine.specs.Steps.{uncounted};
 ghost use Rattle.ui_machine.specs.Rules.Events.{request_step, set_from_event, get_from_event, emit_from_event, release_from_event};
 ghost use Rattle.definition_format.specs.Meaning.{given_view, request_of};
 ghost use Rattle.engine_world.specs.Able.{Able, Leads, LeadsToLiving};
 ghost use Rattle.engine_world.specs.Quiet.{IsQuiet};
+ghost use Rattle.engine_world.specs.Room.{HasRoom, SameRoom};
 ghost use Rattle.engine_world.specs.View.{world_of};
 ghost use Rattle.engine_world.specs.TaskView.{agenda_of};
 ghost use Rattle.engine_world.specs.Counting.{HoldsBuilt, IsCounted, KeepsCounts};
@@ -13,7 +14,7 @@ ghost use Rattle.engine_world.specs.EngineView.{config_of};
 
 use definition_format::{Given, Request};
 use definitions::Definition;
-use engine_world::arguments::{as_text, detail_in, operands};
+use engine_world::arguments::{add_operands, as_text, detail_in};
 use engine_world::builder::{BuilderEntry, set_builder_entry};
 use engine_world::engine::Engine;
 use engine_world::given::{held_object, operand};
@@ -33,15 +34,15 @@ fn set_from_event(
     place: Place,
     slot: Slot,
     given: Given,
-) -> Result<(), AllocError>
+)
     requires able { Able (uncounted (agenda_of definition.now engine.now) engine.now.counted (set_from_event definition.now (world_of engine.now.world) place.0 slot (given_view given))) }
     requires names { LeadsToLiving (uncounted (agenda_of definition.now engine.now) engine.now.counted (set_from_event definition.now (world_of engine.now.world) place.0 slot (given_view given))) }
     requires counted { IsCounted definition.now engine.now }
-    ensures step { Leads result
-        (uncounted (agenda_of definition.now engine.old) engine.old.counted (set_from_event definition.now (world_of engine.old.world) place.0 slot (given_view given)))
-        (config_of definition.now engine.new) }
-    ensures quiet { OnErr result (IsQuiet (world_of engine.old.world) (world_of engine.new.world)) }
-    ensures counted { OnOk result (KeepsCounts definition.now engine.old engine.new) }
+    requires room { HasRoom 1 engine.now }
+    ensures step { uncounted (agenda_of definition.now engine.old) engine.old.counted (set_from_event definition.now (world_of engine.old.world) place.0 slot (given_view given))
+        ≡ Ok (config_of definition.now engine.new) }
+    ensures counted { KeepsCounts definition.now engine.old engine.new }
+    ensures room { SameRoom engine.old engine.new }
 {
     let object = held_object(engine, place);
     let value = operand(engine, given);
@@ -52,8 +53,7 @@ fn set_from_event(
             slot,
             value,
         },
-    )?;
-    Ok(())
+    );
 }
 
 // A get by an event.
@@ -70,6 +70,7 @@ fn get_from_event(
         (config_of definition.now engine.new) }
     ensures quiet { OnErr result (IsQuiet (world_of engine.old.world) (world_of engine.new.world)) }
     ensures counted { OnOk result (KeepsCounts definition.now engine.old engine.new) }
+    ensures room { SameRoom engine.old engine.new }
 {
     let object = held_object(engine, place);
     let spec = spec_of(engine, definition, object, slot);
@@ -98,25 +99,28 @@ fn emit_from_event(
     requires able { Able (uncounted (agenda_of definition.now engine.now) engine.now.counted (emit_from_event definition.now (world_of engine.now.world) place.0 signal (map given_view args.now) (option_map (λ text. text.now) detail))) }
     requires names { LeadsToLiving (uncounted (agenda_of definition.now engine.now) engine.now.counted (emit_from_event definition.now (world_of engine.now.world) place.0 signal (map given_view args.now) (option_map (λ text. text.now) detail))) }
     requires counted { IsCounted definition.now engine.now }
+    requires room { HasRoom 1 engine.now }
     ensures step { Leads result
         (uncounted (agenda_of definition.now engine.old) engine.old.counted (emit_from_event definition.now (world_of engine.old.world) place.0 signal (map given_view args.now) (option_map (λ text. text.now) detail.entry)))
         (config_of definition.now engine.new) }
     ensures quiet { OnErr result (IsQuiet (world_of engine.old.world) (world_of engine.new.world)) }
     ensures counted { OnOk result (KeepsCounts definition.now engine.old engine.new) }
+    ensures room { SameRoom engine.old engine.new }
 {
     let object = held_object(engine, place);
     let detail = detail_in(engine, definition, object, signal, detail)?;
-    let args = operands(engine, args)?;
+    let mut values = engine.spare_args.take(engine.alloc);
+    add_operands(engine, args, &mut values)?;
     push_task(
         engine,
         Task::Beginning(NewEmission {
             object,
             signal,
             detail,
-            args,
+            args: values,
             by_event: true,
         }),
-    )?;
+    );
     Ok(())
 }
 
@@ -134,6 +138,7 @@ fn release_from_event(
         (config_of definition.now engine.new) }
     ensures quiet { OnErr result (IsQuiet (world_of engine.old.world) (world_of engine.new.world)) }
     ensures counted { OnOk result (KeepsCounts definition.now engine.old engine.new) }
+    ensures room { SameRoom engine.old engine.new }
 {
     let Some(entry) = entry_at(definition, place) else {
         unreachable!()
@@ -160,17 +165,19 @@ pub fn handle_event(
     requires names { LeadsToLiving (uncounted (agenda_of definition.now engine.now) engine.now.counted (request_step definition.now (world_of engine.now.world) (request_of request))) }
     requires counted { IsCounted definition.now engine.now }
     requires holds { HoldsBuilt engine.now }
+    requires room { HasRoom 1 engine.now }
     ensures step { Leads result
         (uncounted (agenda_of definition.now engine.old) engine.old.counted (request_step definition.now (world_of engine.old.world) (request_of request)))
         (config_of definition.now engine.new) }
     ensures quiet { OnErr result (IsQuiet (world_of engine.old.world) (world_of engine.new.world)) }
     ensures counted { OnOk result (KeepsCounts definition.now engine.old engine.new) }
+    ensures room { SameRoom engine.old engine.new }
 {
     match request {
-        Request::Set { place, slot, given } => set_from_event(
-            engine, definition, place, slot, given,
-        ),
-        Request::Get { place, slot } => get_from_event(engine, definition, place, slot),
+        Request::Set { place, slot, given } => {
+            set_from_event(engine, definition, place, slot, given);
+        }
+        Request::Get { place, slot } => get_from_event(engine, definition, place, slot)?,
         Request::Emit {
             place,
             signal,
@@ -183,7 +190,8 @@ pub fn handle_event(
             signal,
             args.as_slice(),
             as_text(&detail),
-        ),
-        Request::Release { place } => release_from_event(engine, definition, place),
+        )?,
+        Request::Release { place } => release_from_event(engine, definition, place)?,
     }
+    Ok(())
 }

@@ -11,6 +11,7 @@ ghost use Rattle.machine_laws.specs.GoneLaws.{pruned};
 ghost use Rattle.engine_world.specs.ClosingView.{closed_with, or_number};
 ghost use Rattle.engine_world.specs.Able.{Able, Leads};
 ghost use Rattle.engine_world.specs.Quiet.{IsQuiet};
+ghost use Rattle.engine_world.specs.Room.{SameRoom};
 ghost use Rattle.engine_world.specs.View.{world_of};
 ghost use Rattle.engine_world.specs.TaskView.{agenda_of};
 ghost use Rattle.engine_world.specs.Counting.{KeepsCounts};
@@ -49,6 +50,7 @@ pub fn finalise(
     ensures closing { OnOk result (engine.new.closing ≡ or_number (closed_with (world_of engine.old.world) object.0) engine.old.closing) }
     ensures grows { OnOk result (IsPrefix (world_of engine.old.world).transcript (world_of engine.new.world).transcript) }
     ensures counted { OnOk result (KeepsCounts definition.now engine.old engine.new) }
+    ensures room { SameRoom engine.old engine.new }
 {
     count(engine);
     let disposed = dispose_line(engine, definition, object)?;

@@ -9,6 +9,7 @@ ghost use Rattle.ui_machine.specs.Steps.{uncounted};
 ghost use Rattle.definition_format.specs.Meaning.{given_property, object_count};
 ghost use Rattle.engine_world.specs.Able.{Able, Leads, LeadsToLiving};
 ghost use Rattle.engine_world.specs.Quiet.{IsQuiet};
+ghost use Rattle.engine_world.specs.Room.{HasRoom, SameRoom};
 ghost use Rattle.engine_world.specs.View.{world_of};
 ghost use Rattle.engine_world.specs.TaskView.{agenda_of, connects_from, item_of, items_of, forwards_at, build_end};
 ghost use Rattle.engine_world.specs.Counting.{Connects, IsCounted, KeepsCounts};
@@ -113,11 +114,13 @@ pub(crate) fn set_forward_reference(
     requires past { object_count definition.now ≤ place.0 }
     requires connects { Connects definition.now engine.now }
     requires numbers { (world_of engine.now.world).last_handler + total is_connecting (connects_from definition.now 0 0) ≤ greatest_handler }
+    requires room { HasRoom 2 engine.now }
     ensures step { Leads result
         (uncounted (agenda_of definition.now engine.old) engine.old.counted (building definition.now (world_of engine.old.world) (build_end definition.now forwards)))
         (config_of definition.now engine.new) }
     ensures quiet { OnErr result (IsQuiet (world_of engine.old.world) (world_of engine.new.world)) }
     ensures counted { OnOk result (KeepsCounts definition.now engine.old engine.new) }
+    ensures room { SameRoom engine.old engine.new }
 {
     // For the proof: what is known of a definition's places.
     let _types = definition.types();
@@ -126,7 +129,7 @@ pub(crate) fn set_forward_reference(
     };
     let object = held_object(engine, forward.object);
     let value = held_value(engine, forward.to);
-    push_task(engine, Task::Building { place, forwards })?;
+    push_task(engine, Task::Building { place, forwards });
     push_task(
         engine,
         Task::Setting {
@@ -134,6 +137,6 @@ pub(crate) fn set_forward_reference(
             slot: forward.slot,
             value,
         },
-    )?;
+    );
     Ok(())
 }

@@ -1,12 +1,13 @@
 //! Notifications: how one begins, and those of a thaw.
 
-ghost use Rattle.std.specs.Prelude.{OnOk, OnErr, IsSome};
+ghost use Rattle.std.specs.Prelude.{OnOk, OnErr, IsSome, ◌≡◌, Ok};
 ghost use Rattle.ui_machine.specs.Rules.EmissionPlan.{notifying};
 ghost use Rattle.ui_machine.specs.Steps.{counted, uncounted};
 ghost use Rattle.ui_machine.specs.Rules.NotifyQueue.{thawing};
 ghost use Rattle.ui_machine.specs.State.Objects.{living};
 ghost use Rattle.engine_world.specs.Able.{Able, Leads};
 ghost use Rattle.engine_world.specs.Quiet.{IsQuiet};
+ghost use Rattle.engine_world.specs.Room.{HasRoom, SameRoom};
 ghost use Rattle.engine_world.specs.View.{world_of};
 ghost use Rattle.engine_world.specs.TaskView.{agenda_of};
 ghost use Rattle.engine_world.specs.Counting.{IsCounted, KeepsCounts};
@@ -39,11 +40,13 @@ pub fn notify(
 ) -> Result<(), AllocError>
     requires able { Able (counted (agenda_of definition.now engine.now) engine.now.counted (notifying definition.now (world_of engine.now.world) object.0 slot)) }
     requires counted { IsCounted definition.now engine.now }
+    requires room { HasRoom 1 engine.now }
     ensures step { Leads result
         (counted (agenda_of definition.now engine.old) engine.old.counted (notifying definition.now (world_of engine.old.world) object.0 slot))
         (config_of definition.now engine.new) }
     ensures quiet { OnErr result (IsQuiet (world_of engine.old.world) (world_of engine.new.world)) }
     ensures counted { OnOk result (KeepsCounts definition.now engine.old engine.new) }
+    ensures room { SameRoom engine.old engine.new }
 {
     // For the proof: what is known of the numbers of handlers.
     let _last = engine.world.handlers.last();
@@ -62,37 +65,32 @@ pub fn notify(
     };
     let line = told.text(engine.alloc, definition.types())?;
     let due = engine.world.bindings.due(engine.alloc, object, slot)?;
-    let args = Vec::new(engine.alloc);
+    let args = engine.spare_args.take(engine.alloc);
     start_emission(engine, emission, args, false, Transfers::Ahead(due), line)?;
     Ok(())
 }
 
 /// The next of the notifications that are left of a thaw.
-///
-/// # Errors
-///
-/// `AllocError` if no memory is found.
 pub fn notify_thawed(
     engine: &mut Engine,
     definition: &Definition,
     object: ObjectId,
     mut slots: Slots,
-) -> Result<(), AllocError>
+)
     requires able { Able (uncounted (agenda_of definition.now engine.now) engine.now.counted (thawing (world_of engine.now.world) object.0 slots)) }
     requires live { IsSome (living engine.now.world.table.objects object.0) }
     requires counted { IsCounted definition.now engine.now }
-    ensures step { Leads result
-        (uncounted (agenda_of definition.now engine.old) engine.old.counted (thawing (world_of engine.old.world) object.0 slots))
-        (config_of definition.now engine.new) }
-    ensures quiet { OnErr result (IsQuiet (world_of engine.old.world) (world_of engine.new.world)) }
-    ensures counted { OnOk result (KeepsCounts definition.now engine.old engine.new) }
+    requires room { HasRoom 2 engine.now }
+    ensures step { uncounted (agenda_of definition.now engine.old) engine.old.counted (thawing (world_of engine.old.world) object.0 slots)
+        ≡ Ok (config_of definition.now engine.new) }
+    ensures counted { KeepsCounts definition.now engine.old engine.new }
+    ensures room { SameRoom engine.old engine.new }
 {
     // For the proof: the clauses speak of the definition.
     let _ = definition;
     let Some(slot) = slots.take() else {
-        return Ok(());
+        return;
     };
-    push_task(engine, Task::Thawing { object, slots })?;
-    push_task(engine, Task::Notifying { object, slot })?;
-    Ok(())
+    push_task(engine, Task::Thawing { object, slots });
+    push_task(engine, Task::Notifying { object, slot });
 }

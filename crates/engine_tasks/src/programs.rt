@@ -1,13 +1,15 @@
 //! Programs: how one begins (GObject manual, Closures: `g_closure_invoke`).
 
-ghost use Rattle.std.specs.Prelude.{◌≡◌, map, OnOk, OnErr};
+ghost use Rattle.std.specs.Prelude.{◌≡◌, OnOk, OnErr};
 ghost use Rattle.ui_machine.specs.Rules.Programs.{beginning_program};
 ghost use Rattle.ui_machine.specs.Steps.{uncounted};
 ghost use Rattle.law_typing.specs.Good.Living.{NamesLiving};
 ghost use Rattle.law_typing.specs.Verdict.Accepted.{Each};
-ghost use Rattle.g_values.specs.View.{value_view};
+ghost use Rattle.bytecode.specs.Computing.{registers_of};
+ghost use Rattle.frames.specs.FrameView.{AreSet, set_values};
 ghost use Rattle.engine_world.specs.Able.{Able, Leads};
 ghost use Rattle.engine_world.specs.Quiet.{IsQuiet};
+ghost use Rattle.engine_world.specs.Room.{HasRoom, SameRoom};
 ghost use Rattle.engine_world.specs.View.{world_of};
 ghost use Rattle.engine_world.specs.TaskView.{agenda_of};
 ghost use Rattle.engine_world.specs.Counting.{IsCounted, KeepsCounts};
@@ -23,23 +25,26 @@ use g_values::Value;
 use std::alloc::AllocError;
 use ui_machine::ProgramId;
 
-/// The program of a number begins before the other tasks, with these values as its parameters. Its line is said, and what its registers
-/// name is held from then on.
+/// The program of a number begins before the other tasks. The values that its parameters are given are in its first registers already. Its line
+/// is said, and what its registers name is held from then on.
 pub(crate) fn begin_program(
     engine: &mut Engine,
     definition: &Definition,
     number: ProgramId,
-    args: Vec<Value>,
+    registers: Vec<Option<Value>>,
 ) -> Result<(), AllocError>
-    requires able { Able (uncounted (agenda_of definition.now engine.now) engine.now.counted (beginning_program definition.now (world_of engine.now.world) number (map value_view args.items))) }
+    requires able { Able (uncounted (agenda_of definition.now engine.now) engine.now.counted (beginning_program definition.now (world_of engine.now.world) number (set_values (registers_of registers.items)))) }
+    requires set { AreSet (registers_of registers.items) }
     requires counted { IsCounted definition.now engine.now }
-    requires names { Each (NamesLiving (world_of engine.now.world)) (map value_view args.items) }
+    requires names { Each (NamesLiving (world_of engine.now.world)) (set_values (registers_of registers.items)) }
+    requires room { HasRoom 1 engine.now }
     ensures step { Leads result
-        (uncounted (agenda_of definition.now engine.old) engine.old.counted (beginning_program definition.now (world_of engine.old.world) number (map value_view args.items)))
+        (uncounted (agenda_of definition.now engine.old) engine.old.counted (beginning_program definition.now (world_of engine.old.world) number (set_values (registers_of registers.items))))
         (config_of definition.now engine.new) }
     ensures quiet { OnErr result (IsQuiet (world_of engine.old.world) (world_of engine.new.world)) }
     ensures handlers { engine.new.world.handlers ≡ engine.old.world.handlers }
     ensures counted { OnOk result (KeepsCounts definition.now engine.old engine.new) }
+    ensures room { SameRoom engine.old engine.new }
 {
     let Some(program) = definition.program(number) else {
         unreachable!()
@@ -48,8 +53,8 @@ pub(crate) fn begin_program(
         program: program.name.as_str(),
     };
     let line = run.text(engine.alloc, definition.types())?;
-    let frame = Frame::new(engine.alloc, number, program, args)?;
-    push_task(engine, Task::Running(frame))?;
+    let frame = Frame::new(number, program, registers)?;
+    push_task(engine, Task::Running(frame));
     engine.world.say(line)?;
     Ok(())
 }

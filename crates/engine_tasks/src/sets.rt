@@ -13,6 +13,7 @@ ghost use Rattle.g_values.specs.View.{value_view};
 ghost use Rattle.param_specs.specs.View.{spec_view};
 ghost use Rattle.engine_world.specs.Able.{Able, Leads};
 ghost use Rattle.engine_world.specs.Quiet.{IsQuiet};
+ghost use Rattle.engine_world.specs.Room.{HasRoom, SameRoom};
 ghost use Rattle.engine_world.specs.View.{world_of, with_line};
 ghost use Rattle.engine_world.specs.TaskView.{agenda_of};
 ghost use Rattle.engine_world.specs.Counting.{IsCounted, KeepsCounts};
@@ -92,11 +93,13 @@ fn say_and_raise(
 ) -> Result<(), AllocError>
     requires able { Able (uncounted (agenda_of definition.now engine.now) engine.now.counted (raising_if is_told (with_line (string_bytes line) (world_of engine.now.world)) object.0 slot)) }
     requires counted { IsCounted definition.now engine.now }
+    requires room { HasRoom 1 engine.now }
     ensures step { Leads result
         (uncounted (agenda_of definition.now engine.old) engine.old.counted (raising_if is_told (with_line (string_bytes line) (world_of engine.old.world)) object.0 slot))
         (config_of definition.now engine.new) }
     ensures quiet { OnErr result (IsQuiet (world_of engine.old.world) (world_of engine.new.world)) }
     ensures counted { OnOk result (KeepsCounts definition.now engine.old engine.new) }
+    ensures room { SameRoom engine.old engine.new }
 {
     // For the proof: the clauses speak of the definition.
     let _ = definition;
@@ -105,7 +108,7 @@ fn say_and_raise(
         return Ok(());
     }
     if engine.world.table.add(object, slot)? {
-        push_task(engine, Task::Notifying { object, slot })?;
+        push_task(engine, Task::Notifying { object, slot });
         engine.world.say(line)?;
         return Ok(());
     }
@@ -151,11 +154,13 @@ fn write_and_notify(
     requires able { Able (uncounted (agenda_of definition.now engine.now) engine.now.counted (written definition.now (world_of engine.now.world) object.0 slot (spec_view spec.now) (value_view value))) }
     requires lives { lives (world_of engine.now.world).objects (value_view value) ≡ true }
     requires counted { IsCounted definition.now engine.now }
+    requires room { HasRoom 1 engine.now }
     ensures step { Leads result
         (uncounted (agenda_of definition.now engine.old) engine.old.counted (written definition.now (world_of engine.old.world) object.0 slot (spec_view spec.now) (value_view value)))
         (config_of definition.now engine.new) }
     ensures quiet { OnErr result (IsQuiet (world_of engine.old.world) (world_of engine.new.world)) }
     ensures counted { OnOk result (KeepsCounts definition.now engine.old engine.new) }
+    ensures room { SameRoom engine.old engine.new }
 {
     let told = Line::Set {
         object,
@@ -206,11 +211,13 @@ pub fn validate_and_set(
 ) -> Result<(), AllocError>
     requires able { Able (uncounted (agenda_of definition.now engine.now) engine.now.counted (setting definition.now (world_of engine.now.world) object.0 slot (value_view value))) }
     requires counted { IsCounted definition.now engine.now }
+    requires room { HasRoom 1 engine.now }
     ensures step { Leads result
         (uncounted (agenda_of definition.now engine.old) engine.old.counted (setting definition.now (world_of engine.old.world) object.0 slot (value_view value)))
         (config_of definition.now engine.new) }
     ensures quiet { OnErr result (IsQuiet (world_of engine.old.world) (world_of engine.new.world)) }
     ensures counted { OnOk result (KeepsCounts definition.now engine.old engine.new) }
+    ensures room { SameRoom engine.old engine.new }
 {
     let spec = spec_of(engine, definition, object, slot);
     let known = with_own_class(&engine.world.table, value);

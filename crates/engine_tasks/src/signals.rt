@@ -15,6 +15,7 @@ ghost use Rattle.engine_world.specs.EngineView.{config_of};
 ghost use Rattle.engine_world.specs.Able.{Able, Leads};
 ghost use Rattle.engine_world.specs.Quiet.{IsQuiet};
 ghost use Rattle.engine_world.specs.TaskView.{agenda_of, connects_from};
+ghost use Rattle.engine_world.specs.Room.{HasRoom, SameRoom};
 ghost use Rattle.engine_world.specs.View.{world_of};
 
 use definitions::Definition;
@@ -115,11 +116,13 @@ pub fn connect_from_build(
     requires able { Able (uncounted (agenda_of definition.now engine.now) engine.now.counted (building definition.now (world_of engine.now.world) (connects_from definition.now place.0 number))) }
     requires connects { Connects definition.now engine.now }
     requires numbers { (world_of engine.now.world).last_handler + total is_connecting (connects_from definition.now place.0 number) ≤ greatest_handler }
+    requires room { HasRoom 1 engine.now }
     ensures step { Leads result
         (uncounted (agenda_of definition.now engine.old) engine.old.counted (building definition.now (world_of engine.old.world) (connects_from definition.now place.0 number)))
         (config_of definition.now engine.new) }
     ensures quiet { OnErr result (IsQuiet (world_of engine.old.world) (world_of engine.new.world)) }
     ensures counted { OnOk result (KeepsCounts definition.now engine.old engine.new) }
+    ensures room { SameRoom engine.old engine.new }
 {
     let Some(at) = next_signal(definition, place, number) else {
         return Ok(());
@@ -131,7 +134,7 @@ pub fn connect_from_build(
             place: at.place,
             number: at.number + 1,
         },
-    )?;
+    );
     connect_signal(engine, definition, connection)?;
     Ok(())
 }

@@ -1,12 +1,13 @@
 //! Sources: how a due one runs (GLib manual, The Main Event Loop: `g_main_context_dispatch`).
 
-ghost use Rattle.std.specs.Prelude.{◌≡◌, map, IfOk, OnOk, OnErr};
+ghost use Rattle.std.specs.Prelude.{◌≡◌, [], map, Some, OnOk, OnErr};
 ghost use Rattle.ui_machine.specs.Rules.MainLoop.{source_data, sourcing};
 ghost use Rattle.ui_machine.specs.Steps.{uncounted};
-ghost use Rattle.g_values.specs.View.{value_view};
+ghost use Rattle.bytecode.specs.Computing.{registers_of};
 ghost use Rattle.instance_tables.specs.Store.{id_of};
 ghost use Rattle.engine_world.specs.Able.{Able, Leads, LeadsToLiving};
 ghost use Rattle.engine_world.specs.Quiet.{IsQuiet};
+ghost use Rattle.engine_world.specs.Room.{HasRoom, SameRoom};
 ghost use Rattle.engine_world.specs.View.{world_of};
 ghost use Rattle.engine_world.specs.TaskView.{agenda_of};
 ghost use Rattle.engine_world.specs.Counting.{IsCounted, KeepsCounts};
@@ -19,19 +20,19 @@ use engine_world::given::object_value;
 use engine_world::references::push_task;
 use engine_world::task::Task;
 use g_values::Value;
-use std::alloc::{AllocError, Global};
+use std::alloc::AllocError;
 use ui_machine::ObjectId;
 
-// What the program of a source is given: the source's data, if it has some.
-fn source_data(alloc: Global, arg: Option<ObjectId>) -> Result<Vec<Value>, AllocError>
-    ensures { IfOk result (λ given. map value_view given.items ≡ source_data (id_of arg)) }
+// Gives the program of a source its data, if it has some, in registers of which none is there yet.
+fn give_data(registers: &mut Vec<Option<Value>>, arg: Option<ObjectId>) -> Result<(), AllocError>
+    requires none { registers.now.items ≡ [] }
+    ensures given { OnOk result (registers_of registers.new.items ≡ map (λ v. Some v) (source_data (id_of arg))) }
 {
-    let mut given = Vec::new(alloc);
     let Some(arg) = arg else {
-        return Ok(given);
+        return Ok(());
     };
-    given.push(object_value(arg))?;
-    Ok(given)
+    registers.push(Some(object_value(arg)))?;
+    Ok(())
 }
 
 /// A due source runs: its program begins, with the source's data.
@@ -47,16 +48,19 @@ pub fn run_source(
     requires able { Able (uncounted (agenda_of definition.now engine.now) engine.now.counted (sourcing definition.now (world_of engine.now.world) source)) }
     requires names { LeadsToLiving (uncounted (agenda_of definition.now engine.now) engine.now.counted (sourcing definition.now (world_of engine.now.world) source)) }
     requires counted { IsCounted definition.now engine.now }
+    requires room { HasRoom 2 engine.now }
     ensures step { Leads result
         (uncounted (agenda_of definition.now engine.old) engine.old.counted (sourcing definition.now (world_of engine.old.world) source))
         (config_of definition.now engine.new) }
     ensures quiet { OnErr result (IsQuiet (world_of engine.old.world) (world_of engine.new.world)) }
     ensures counted { OnOk result (KeepsCounts definition.now engine.old engine.new) }
+    ensures room { SameRoom engine.old engine.new }
 {
     let Some(due) = engine.world.context.find(source) else {
         unreachable!()
     };
-    let args = source_data(engine.alloc, due.arg)?;
-    push_task(engine, Task::Answering { source })?;
-    begin_program(engine, definition, due.program, args)
+    let mut registers = engine.spare_registers.take(engine.alloc);
+    give_data(&mut registers, due.arg)?;
+    push_task(engine, Task::Answering { source });
+    begin_program(engine, definition, due.program, registers)
 }

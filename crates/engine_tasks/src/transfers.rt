@@ -10,6 +10,7 @@ ghost use Rattle.engine_world.specs.EngineView.{config_of};
 ghost use Rattle.engine_world.specs.Able.{Able, Leads};
 ghost use Rattle.engine_world.specs.Quiet.{IsQuiet};
 ghost use Rattle.engine_world.specs.TaskView.{agenda_of};
+ghost use Rattle.engine_world.specs.Room.{HasRoom, SameRoom};
 ghost use Rattle.engine_world.specs.View.{world_of};
 ghost use Rattle.engine_tasks.specs.TransferSteps.{carried_value, to_end};
 
@@ -44,25 +45,20 @@ fn carried_value(
 }
 
 // The value is set at the target, and the binding sets until all that this raises has ended. Without a value nothing is set.
-fn set_by(
-    engine: &mut Engine,
-    definition: &Definition,
-    transfer: Transfer,
-    value: Option<Value>,
-) -> Result<(), AllocError>
+fn set_by(engine: &mut Engine, definition: &Definition, transfer: Transfer, value: Option<Value>)
     requires able { Able (uncounted (agenda_of definition.now engine.now) engine.now.counted (set_by (world_of engine.now.world) transfer.number (to_end transfer) (option_map value_view value))) }
     requires live { IsSome (living engine.now.world.table.objects transfer.target.0) }
     requires counted { IsCounted definition.now engine.now }
-    ensures step { Leads result
-        (uncounted (agenda_of definition.now engine.old) engine.old.counted (set_by (world_of engine.old.world) transfer.number (to_end transfer) (option_map value_view value)))
-        (config_of definition.now engine.new) }
-    ensures quiet { OnErr result (IsQuiet (world_of engine.old.world) (world_of engine.new.world)) }
-    ensures counted { OnOk result (KeepsCounts definition.now engine.old engine.new) }
+    requires room { HasRoom 2 engine.now }
+    ensures step { uncounted (agenda_of definition.now engine.old) engine.old.counted (set_by (world_of engine.old.world) transfer.number (to_end transfer) (option_map value_view value))
+        ≡ Ok (config_of definition.now engine.new) }
+    ensures counted { KeepsCounts definition.now engine.old engine.new }
+    ensures room { SameRoom engine.old engine.new }
 {
     // For the proof: the clauses speak of the definition.
     let _ = definition;
     let Some(value) = value else {
-        return Ok(());
+        return;
     };
     engine.world.bindings.setting(transfer.number, true);
     push_task(
@@ -70,7 +66,7 @@ fn set_by(
         Task::Unsetting {
             number: transfer.number,
         },
-    )?;
+    );
     push_task(
         engine,
         Task::Setting {
@@ -78,8 +74,7 @@ fn set_by(
             slot: transfer.target_slot,
             value,
         },
-    )?;
-    Ok(())
+    );
 }
 
 /// A due transfer is made. It is counted. A binding that has ended makes none.
@@ -95,24 +90,28 @@ pub fn transfer(
 ) -> Result<(), AllocError>
     requires able { Able (counted (agenda_of definition.now engine.now) engine.now.counted (transferring definition.now (world_of engine.now.world) number back)) }
     requires counted { IsCounted definition.now engine.now }
+    requires room { HasRoom 2 engine.now }
     ensures step { Leads result
         (counted (agenda_of definition.now engine.old) engine.old.counted (transferring definition.now (world_of engine.old.world) number back))
         (config_of definition.now engine.new) }
     ensures quiet { OnErr result (IsQuiet (world_of engine.old.world) (world_of engine.new.world)) }
     ensures counted { OnOk result (KeepsCounts definition.now engine.old engine.new) }
+    ensures room { SameRoom engine.old engine.new }
 {
     count(engine);
     let Some(transfer) = engine.world.bindings.transfer(number, back) else {
         return Ok(());
     };
     let value = carried_value(engine, definition, transfer)?;
-    set_by(engine, definition, transfer, value)
+    set_by(engine, definition, transfer, value);
+    Ok(())
 }
 
 /// What a binding set has ended: it sets no longer.
 pub fn unset(engine: &mut Engine, definition: &Definition, number: u64)
     ensures step { uncounted (agenda_of definition.now engine.old) engine.old.counted (unsetting (world_of engine.old.world) number) ≡ Ok (config_of definition.now engine.new) }
     ensures counted { KeepsCounts definition.now engine.old engine.new }
+    ensures room { SameRoom engine.old engine.new }
 {
     // For the proof: the clauses speak of the definition.
     let _ = definition;

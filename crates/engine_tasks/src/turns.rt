@@ -1,8 +1,9 @@
 //! Turns of emissions: which program each runs, and what it is given (GObject manual, Closures: `g_cclosure_new_swap`).
 
-ghost use Rattle.std.specs.Prelude.{◌≡◌, ◌++◌, map, IfOk, OnOk};
+ghost use Rattle.std.specs.Prelude.{◌≡◌, ◌++◌, [], map, Some, OnOk};
 ghost use Rattle.ui_machine.specs.State.Tasks as config;
 ghost use Rattle.g_values.specs.View.{value_view};
+ghost use Rattle.bytecode.specs.Computing.{registers_of};
 ghost use Rattle.instance_tables.specs.Store.{id_of};
 ghost use Rattle.signal_core.specs.declared.turn.Turn.TheVariants as turns;
 ghost use Rattle.engine_tasks.specs.TurnView.{RunsProgram, given_around, given_by, program_of_turn, value_of};
@@ -10,7 +11,7 @@ ghost use Rattle.engine_tasks.specs.TurnView.{RunsProgram, given_around, given_b
 use engine_world::given::object_value;
 use g_values::Value;
 use signal_core::Turn;
-use std::alloc::{AllocError, Global};
+use std::alloc::AllocError;
 use ui_machine::{ObjectId, ProgramId};
 
 /// A program that a turn runs, and the objects that it is given beside the arguments.
@@ -23,24 +24,27 @@ pub(crate) struct Invocation {
     pub(crate) behind: Option<ObjectId>,
 }
 
-// Adds the same values once more.
-fn add_copies(given: &mut Vec<Value>, values: &[Value]) -> Result<(), AllocError>
-    ensures { OnOk result (map value_view given.new.items ≡ map value_view given.old.items ++ map value_view values.now) }
+// Adds registers with the same values once more.
+fn add_copies(registers: &mut Vec<Option<Value>>, values: &[Value]) -> Result<(), AllocError>
+    ensures { OnOk result (registers_of registers.new.items ≡ registers_of registers.old.items ++ map (λ v. Some v) (map value_view values.now)) }
 {
     for value in values {
-        given.push(value.copied()?)?;
+        registers.push(Some(value.copied()?))?;
     }
     Ok(())
 }
 
-// Adds an object, if there is one.
-fn add_object(given: &mut Vec<Value>, object: Option<ObjectId>) -> Result<(), AllocError>
-    ensures { OnOk result (map value_view given.new.items ≡ map value_view given.old.items ++ value_of (id_of object)) }
+// Adds a register with an object, if there is one.
+fn add_object(
+    registers: &mut Vec<Option<Value>>,
+    object: Option<ObjectId>,
+) -> Result<(), AllocError>
+    ensures { OnOk result (registers_of registers.new.items ≡ registers_of registers.old.items ++ map (λ v. Some v) (value_of (id_of object))) }
 {
     let Some(object) = object else {
         return Ok(());
     };
-    given.push(object_value(object))?;
+    registers.push(Some(object_value(object)))?;
     Ok(())
 }
 
@@ -90,14 +94,18 @@ impl Invocation {
         }
     }
 
-    /// What the program is given.
-    pub(crate) fn given(&self, alloc: Global, args: &[Value]) -> Result<Vec<Value>, AllocError>
-        ensures { IfOk result (λ given. map value_view given.items ≡ given_around self.now (map value_view args.now)) }
+    /// Gives the program its values, in registers of which none is there yet.
+    pub(crate) fn give(
+        &self,
+        registers: &mut Vec<Option<Value>>,
+        args: &[Value],
+    ) -> Result<(), AllocError>
+        requires none { registers.now.items ≡ [] }
+        ensures given { OnOk result (registers_of registers.new.items ≡ map (λ v. Some v) (given_around self.now (map value_view args.now))) }
     {
-        let mut given = Vec::new(alloc);
-        add_object(&mut given, self.before)?;
-        add_copies(&mut given, args)?;
-        add_object(&mut given, self.behind)?;
-        Ok(given)
+        add_object(registers, self.before)?;
+        add_copies(registers, args)?;
+        add_object(registers, self.behind)?;
+        Ok(())
     }
 }

@@ -1,7 +1,7 @@
 -- Room for what is held: no count comes to its end.
-use Rattle.std.proofs.Common.{◌≡◌, ℕ, ◌+◌, ◌-◌, ◌*◌, ◌<◌, ◌≤◌, ◌^◌, ◌&&◌, Bool, List, [], ◌∷◌, ◌++◌, true, false, is_some, length, map, nat_lt, reverse, Option, Some, None, IsSome, refl, ap, ◌∙◌, arith}
+use Rattle.std.proofs.Common.{◌≡◌, ℕ, ◌+◌, ◌-◌, ◌*◌, ◌<◌, ◌≤◌, ◌^◌, ◌&&◌, Bool, List, [], ◌∷◌, ◌++◌, true, false, is_some, length, map, nat_lt, reverse, Option, Some, None, IsSome, refl, sym, ap, ◌∙◌, vec_len, arith}
 use Rattle.std.proofs.lemmas.Bool.Decides.{nat_tests}
-use Rattle.std.proofs.lemmas.List.{length-map, reverse-append}
+use Rattle.std.proofs.lemmas.List.{length-map, length-reverse, reverse-append}
 use Rattle.std.specs.Option.{option_map}
 use Rattle.ui_machine.specs.Definition as machine
 use Rattle.ui_machine.specs.Definition.Values as values
@@ -136,6 +136,10 @@ agenda_most d hs s o =
       total_mapped (in_task o) (task_of d hs) s.tasks.items,
       total_tasks (λ t. in_task o (task_of d hs t)) (task_most d hs o) s.tasks.items,
     )
+
+-- as many tasks are left as lie in the stack
+pub tasks_counted : (d : machine.Definition) (hs : List Handler) (s : Stack) → length (tasks_of d hs s) ≡ vec_len s.tasks
+tasks_counted d hs s = length-reverse (map (task_of d hs) s.tasks.items) ∙ length-map s.tasks.items (task_of d hs) ∙ sym s.tasks.ok.0
 
 -- ** all that holds an object
 

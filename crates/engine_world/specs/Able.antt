@@ -25,7 +25,11 @@ abbrev pub Leads : {S X : Type 0} → Result X AllocError → Answer S → S →
 Leads (Ok x) answer new = answer ≡ Ok new
 Leads (Err _) answer new = ⊤
 
--- the same without the turns of handlers that are gone by then
+-- the machine's part leads there, but for the turns of handlers that are gone by then
+abbrev pub ComesWithoutGone : Answer Config → Config → Type 0
+ComesWithoutGone answer new = (e : Config) × (answer ≡ Ok e) × (without_gone e ≡ new)
+
+-- where memory is found, code leads to what the machine's part leads to, but for those turns
 abbrev pub LeadsWithoutGone : {X : Type 0} → Result X AllocError → Answer Config → Config → Type 0
-LeadsWithoutGone (Ok x) answer new = (e : Config) × (answer ≡ Ok e) × (without_gone e ≡ new)
+LeadsWithoutGone (Ok x) answer new = ComesWithoutGone answer new
 LeadsWithoutGone (Err _) answer new = ⊤

@@ -20,3 +20,4 @@ pub mod EngineView
 pub mod Standing
 pub mod Counting
 pub mod Able
+pub mod Room

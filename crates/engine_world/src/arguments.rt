@@ -1,6 +1,6 @@
 //! The arguments of emissions that an event gives, and the details of signals.
 
-ghost use Rattle.std.specs.Prelude.{◌≡◌, Ok, map, option_map, string_bytes, IfOk};
+ghost use Rattle.std.specs.Prelude.{◌≡◌, [], Ok, map, option_map, string_bytes, IfOk, OnOk};
 ghost use Rattle.ui_machine.specs.Rules.Connections.{detail_at, detail_in};
 ghost use Rattle.ui_machine.specs.Rules.Events.{given_values};
 ghost use Rattle.g_values.specs.View.{value_view};
@@ -17,23 +17,27 @@ use std::alloc::AllocError;
 use type_tree::TypeId;
 use ui_machine::{ObjectId, SignalId};
 
-/// The values that an event gives, and the objects of the builder, which it has.
+/// Adds the values that an event gives, and the objects of the builder, which it has, to an empty list.
 ///
 /// # Errors
 ///
 /// `AllocError` if no memory is found.
-pub fn operands(engine: &Engine, given: &[Given]) -> Result<Vec<Value>, AllocError>
+pub fn add_operands(
+    engine: &Engine,
+    given: &[Given],
+    values: &mut Vec<Value>,
+) -> Result<(), AllocError>
     requires able { Able (given_values (world_of engine.now.world) (map given_view given.now)) }
-    ensures { IfOk result (λ values. given_values (world_of engine.now.world) (map given_view given.now) ≡ Ok (map value_view values.items)) }
+    requires none { values.now.items ≡ [] }
+    ensures { OnOk result (given_values (world_of engine.now.world) (map given_view given.now) ≡ Ok (map value_view values.new.items)) }
 {
-    let mut values = Vec::new(engine.alloc);
     for one in given {
         let Some(value) = engine.world.given(one)? else {
             unreachable!()
         };
         values.push(value)?;
     }
-    Ok(values)
+    Ok(())
 }
 
 // The name of the property that a detail of a notification names.

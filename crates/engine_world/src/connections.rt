@@ -87,6 +87,7 @@ fn add_handler(
     ensures limit { (result ≡ Err ConnectError.HandlerLimit) ↔ (has_room engine.old.world.handlers (connection_of connection) ≡ false) }
     ensures err { OnErr result (engine.new ≡ engine.old) }
     ensures same { engine.new.counted ≡ engine.old.counted }
+    ensures stack { engine.new.stack ≡ engine.old.stack }
     ensures counted { OnOk result (KeepsCounts definition.now engine.old engine.new) }
 {
     // For the proof: the clauses speak of the definition.
@@ -114,6 +115,7 @@ pub fn connect_signal(
     ensures agenda { OnOk result (agenda_of definition.now engine.new ≡ agenda_of definition.now engine.old) }
     ensures quiet { OnErr result (IsQuiet (world_of engine.old.world) (world_of engine.new.world)) }
     ensures same { engine.new.counted ≡ engine.old.counted }
+    ensures stack { engine.new.stack ≡ engine.old.stack }
     ensures counted { OnOk result (KeepsCounts definition.now engine.old engine.new) }
 {
     if is_too_late(&engine.world.table, &connection) {
@@ -144,6 +146,7 @@ pub fn connect_handler(
     ensures agenda { OnOk result (agenda_of definition.now engine.new ≡ agenda_of definition.now engine.old) }
     ensures quiet { OnErr result (IsQuiet (world_of engine.old.world) (world_of engine.new.world)) }
     ensures same { engine.new.counted ≡ engine.old.counted }
+    ensures stack { engine.new.stack ≡ engine.old.stack }
     ensures counted { OnOk result (KeepsCounts definition.now engine.old engine.new) }
 {
     if is_too_late(&engine.world.table, &connection) {

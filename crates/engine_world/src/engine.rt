@@ -1,6 +1,6 @@
 //! The engine: the world, and the tasks that are left.
 
-ghost use Rattle.std.specs.Prelude.{◌≡◌, None, []};
+ghost use Rattle.std.specs.Prelude.{◌≡◌, None, [], vec_capacity, IfOk};
 ghost use Rattle.ui_machine.specs.Definition as machine;
 ghost use Rattle.ui_machine.specs.Runs.{first_world};
 ghost use Rattle.engine_world.specs.KnownHandlers.{AllTakeKnownHandlers};
@@ -8,14 +8,16 @@ ghost use Rattle.signal_core.specs.Connected.{none_connected};
 ghost use Rattle.engine_world.specs.View.{world_of};
 ghost use Rattle.engine_world.specs.TaskView.{agenda_of};
 
+use crate::reserves::{Room, Spare};
 use crate::seats::Seats;
 use crate::task::Stack;
 use crate::world::World;
 use bindings::Bindings;
+use g_values::Value;
 use instance_tables::{Table, WeakSlots};
 use main_context::Context;
 use signal_core::Handlers;
-use std::alloc::Global;
+use std::alloc::{AllocError, Global};
 use ui_machine::Limits;
 
 /// What a run changes.
@@ -23,6 +25,10 @@ use ui_machine::Limits;
 pub struct Engine {
     pub world: World,
     pub stack: Stack,
+    /// Registers for the programs that are to begin.
+    pub spare_registers: Spare<Option<Value>>,
+    /// Lists for the arguments of the emissions that are to begin.
+    pub spare_args: Spare<Value>,
     /// The counted steps of the dispatch.
     pub counted: u64,
     /// The peer that a step closed, by its number, for whoever has the peers to take.
@@ -40,24 +46,34 @@ pub enum StepKind {
 }
 
 impl Engine {
-    /// Nothing is built yet, there are these peers, so many of those of each place are known not to be left, and there is nothing to do.
+    /// Nothing is built yet, there are these peers, so many of those of each place are known not to be left, and there is nothing to do, with so
+    /// much room for what comes.
+    ///
+    /// # Errors
+    ///
+    /// `AllocError` if no memory is found for that room.
     pub fn new(
         alloc: Global,
         weak: WeakSlots,
         limits: Limits,
         seats: Seats,
         got_peers: Vec<usize>,
-    ) -> Self
-        ensures world { (d : machine.Definition) → world_of result.world ≡ first_world d seats }
-        ensures counts { result.world.table.counts ≡ [] }
-        ensures marks { result.world.weak ≡ weak }
-        ensures got { result.world.got_peers ≡ got_peers }
-        ensures handlers { result.world.handlers ≡ none_connected limits.handlers 0 }
-        ensures begun { AllTakeKnownHandlers 0 result.stack }
-        ensures closing { result.closing ≡ None }
-        ensures idle { (d : machine.Definition) → agenda_of d result ≡ [] }
+        room: Room,
+    ) -> Result<Self, AllocError>
+        ensures world { IfOk result (λ e. (d : machine.Definition) → world_of e.world ≡ first_world d seats) }
+        ensures counts { IfOk result (λ e. e.world.table.counts ≡ []) }
+        ensures marks { IfOk result (λ e. e.world.weak ≡ weak) }
+        ensures got { IfOk result (λ e. e.world.got_peers ≡ got_peers) }
+        ensures handlers { IfOk result (λ e. e.world.handlers ≡ none_connected limits.handlers 0) }
+        ensures begun { IfOk result (λ e. AllTakeKnownHandlers 0 e.stack) }
+        ensures closing { IfOk result (λ e. e.closing ≡ None) }
+        ensures idle { IfOk result (λ e. (d : machine.Definition) → agenda_of d e ≡ []) }
+        ensures room { IfOk result (λ e. vec_capacity e.stack.tasks ≡ room.tasks) }
     {
-        Engine {
+        let stack = Stack::new(alloc, room.tasks)?;
+        let spare_registers = Spare::new(alloc, room.frames, room.width)?;
+        let spare_args = Spare::new(alloc, room.frames, room.width)?;
+        Ok(Engine {
             world: World {
                 table: Table::new(alloc, limits.objects),
                 weak,
@@ -70,10 +86,12 @@ impl Engine {
                 transcript: Vec::new(alloc),
                 result: None,
             },
-            stack: Stack::new(alloc),
+            stack,
+            spare_registers,
+            spare_args,
             counted: 0,
             closing: None,
             alloc,
-        }
+        })
     }
 }

@@ -20,6 +20,7 @@ pub mod program_frames;
 pub mod properties;
 pub mod references;
 pub mod refusals;
+pub mod reserves;
 pub mod seats;
 pub mod sources;
 pub mod task;

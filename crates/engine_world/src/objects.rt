@@ -15,6 +15,7 @@ ghost use Rattle.g_values.specs.View.{value_view};
 ghost use Rattle.engine_world.specs.NewObjects.{Adds, before_lent, begun};
 ghost use Rattle.engine_world.specs.Quiet.{IsQuiet};
 ghost use Rattle.engine_world.specs.View.{world_of};
+ghost use Rattle.engine_world.specs.Room.{HasRoom, SameRoom};
 ghost use Rattle.engine_world.specs.TaskView.{agenda_of};
 ghost use Rattle.engine_world.specs.Counting.{KeepsCounts, MayBeHeld};
 
@@ -138,11 +139,13 @@ pub fn make(
 pub fn begin_construction(engine: &mut Engine, new: NewObject, held: bool) -> Result<(), AllocError>
     requires peer { IfSome new.peer (λ number. number < length engine.now.world.seats) }
     requires may { MayBeHeld engine.now new.object.0 }
+    requires room { HasRoom 1 engine.now }
     ensures agenda { OnOk result ((d : definition.Definition) → agenda_of d engine.new ≡ Constructing new.object.0 new.steps held ∷ agenda_of d engine.old) }
     ensures world { OnOk result (world_of engine.new.world ≡ begun new (world_of engine.old.world)) }
     ensures quiet { OnErr result (IsQuiet (world_of engine.old.world) (world_of engine.new.world)) }
     ensures same { engine.new.counted ≡ engine.old.counted }
     ensures counted { OnOk result ((d : definition.Definition) → KeepsCounts d engine.old engine.new) }
+    ensures room { SameRoom engine.old engine.new }
 {
     let NewObject {
         object,
@@ -157,7 +160,7 @@ pub fn begin_construction(engine: &mut Engine, new: NewObject, held: bool) -> Re
             steps,
             held,
         },
-    )?;
+    );
     engine.world.say(line)?;
     lend(&mut engine.world.seats, peer, object);
     Ok(())

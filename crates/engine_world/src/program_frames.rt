@@ -11,6 +11,7 @@ ghost use Rattle.g_values.specs.View.{value_view};
 ghost use Rattle.frames.specs.FrameView.{frame_view};
 ghost use Rattle.bytecode.specs.View.{number_of};
 ghost use Rattle.instance_tables.specs.Store.{count_of};
+ghost use Rattle.engine_world.specs.Room.{HasRoom, SameRoom, TakesRoom};
 ghost use Rattle.engine_world.specs.TaskView.{agenda_of};
 ghost use Rattle.engine_world.specs.Counting.{Counts, HoldsTasks, KeepsCounts, MayHold, OnlyCounts, OnlyTasks, in_frame};
 
@@ -40,41 +41,34 @@ pub fn put(table: &mut Table, frame: &mut Frame, to: Register, value: Option<Val
     let_go_any(table, register_named(&held));
 }
 
-/// Puts the rest of a program before the other tasks. It goes on to hold what its registers name.
-///
-/// # Errors
-///
-/// `AllocError` if memory is refused.
+/// Puts the rest of a program before the other tasks, in the room that is there. It goes on to hold what its registers name.
 #[inline(always)]
-pub fn push_frame(engine: &mut Engine, frame: Frame) -> Result<(), AllocError>
-    ensures agenda { OnOk result ((d : machine.Definition) → agenda_of d engine.new ≡ Running (frame_view frame) ∷ agenda_of d engine.old) }
+pub fn push_frame(engine: &mut Engine, frame: Frame)
+    requires room { HasRoom 1 engine.now }
+    ensures agenda { (d : machine.Definition) → agenda_of d engine.new ≡ Running (frame_view frame) ∷ agenda_of d engine.old }
     ensures beside { engine.new ≡ record engine.old { stack = engine.new.stack } }
-    ensures counted { OnOk result ((d : machine.Definition) (taken : ℕ → ℕ)
-        → Counts d (λ o. taken o + in_frame o (frame_view frame)) engine.old → Counts d taken engine.new) }
+    ensures counted { (d : machine.Definition) (taken : ℕ → ℕ)
+        → Counts d (λ o. taken o + in_frame o (frame_view frame)) engine.old → Counts d taken engine.new }
+    ensures room { TakesRoom 1 engine.old engine.new }
 {
-    engine.stack.push(Task::Running(frame))?;
-    Ok(())
+    engine.stack.push(Task::Running(frame));
 }
 
 // A program goes on with a result in the register that waited for it.
-fn receive(
-    engine: &mut Engine,
-    mut frame: Frame,
-    to: Register,
-    value: Value,
-) -> Result<(), AllocError>
+fn receive(engine: &mut Engine, mut frame: Frame, to: Register, value: Value)
     requires able { Able (with_register to.0 (Some (value_view value)) (frame_view frame).registers) }
     requires held { (o : ℕ) → in_frame o (frame_view frame) ≤ count_of engine.now.world.table.counts o }
     requires may { MayHold engine.now.world.table (λ o. in_value o (value_view value)) }
-    ensures agenda { (d : machine.Definition) → Leads result (received_by (frame_view frame) (agenda_of d engine.old) to.0 (Some (value_view value))) (agenda_of d engine.new) }
+    requires room { HasRoom 1 engine.now }
+    ensures agenda { (d : machine.Definition) → received_by (frame_view frame) (agenda_of d engine.old) to.0 (Some (value_view value)) ≡ Ok (agenda_of d engine.new) }
     ensures only { OnlyTasks engine.old engine.new }
-    ensures counted { OnOk result ((d : machine.Definition) (taken : ℕ → ℕ)
-        → Counts d (λ o. taken o + in_frame o (frame_view frame)) engine.old → Counts d taken engine.new) }
+    ensures counted { (d : machine.Definition) (taken : ℕ → ℕ)
+        → Counts d (λ o. taken o + in_frame o (frame_view frame)) engine.old → Counts d taken engine.new }
+    ensures room { SameRoom engine.old engine.new }
 {
     frame.into = None;
     put(&mut engine.world.table, &mut frame, to, Some(value));
-    push_frame(engine, frame)?;
-    Ok(())
+    push_frame(engine, frame);
 }
 
 // A program takes the result of the emission above it, if it waits for one.
@@ -82,38 +76,33 @@ fn pass_to(engine: &mut Engine, frame: Frame, value: &Option<Value>) -> Result<(
     requires able { Able (taken (option_map number_of frame.into) (frame_view frame) [] (option_map value_view value.now)) }
     requires held { (o : ℕ) → in_frame o (frame_view frame) ≤ count_of engine.now.world.table.counts o }
     requires may { MayHold engine.now.world.table (λ o. in_register o (option_map value_view value.now)) }
+    requires room { HasRoom 1 engine.now }
     ensures agenda { (d : machine.Definition)
         → Leads result (taken (option_map number_of frame.into) (frame_view frame) (agenda_of d engine.old) (option_map value_view value.now)) (agenda_of d engine.new) }
     ensures only { OnlyTasks engine.old engine.new }
     ensures counted { OnOk result ((d : machine.Definition) (taken : ℕ → ℕ)
         → Counts d (λ o. taken o + in_frame o (frame_view frame)) engine.old → Counts d taken engine.new) }
+    ensures room { SameRoom engine.old engine.new }
 {
     let Some(to) = frame.into else {
-        push_frame(engine, frame)?;
+        push_frame(engine, frame);
         return Ok(());
     };
     let Some(value) = value else { unreachable!() };
     let value = value.copied()?;
-    receive(engine, frame, to, value)
+    receive(engine, frame, to, value);
+    Ok(())
 }
 
 /// The answer of a peer goes to the task below its call: the program that called takes it.
-///
-/// # Errors
-///
-/// `AllocError` if no memory is found.
-pub fn pass_answer(
-    engine: &mut Engine,
-    definition: &Definition,
-    to: Register,
-    value: Value,
-) -> Result<(), AllocError>
+pub fn pass_answer(engine: &mut Engine, definition: &Definition, to: Register, value: Value)
     requires able { Able (received (agenda_of definition.now engine.now) to.0 (Some (value_view value))) }
     requires held { HoldsTasks definition.now engine.now }
     requires may { MayHold engine.now.world.table (λ o. in_value o (value_view value)) }
-    ensures agenda { Leads result (received (agenda_of definition.now engine.old) to.0 (Some (value_view value))) (agenda_of definition.now engine.new) }
+    ensures agenda { received (agenda_of definition.now engine.old) to.0 (Some (value_view value)) ≡ Ok (agenda_of definition.now engine.new) }
     ensures only { OnlyTasks engine.old engine.new }
-    ensures counted { OnOk result (KeepsCounts definition.now engine.old engine.new) }
+    ensures counted { KeepsCounts definition.now engine.old engine.new }
+    ensures room { SameRoom engine.old engine.new }
 {
     // For the proof: the clauses speak of the definition.
     let _ = definition;
@@ -123,7 +112,7 @@ pub fn pass_answer(
     let Task::Running(frame) = task else {
         unreachable!()
     };
-    receive(engine, frame, to, value)
+    receive(engine, frame, to, value);
 }
 
 /// The result of an emission goes to the task below it: a program that waits for it takes it.
@@ -142,6 +131,7 @@ pub fn pass_down(
     ensures agenda { Leads result (passed_down (agenda_of definition.now engine.old) (option_map value_view value.now)) (agenda_of definition.now engine.new) }
     ensures only { OnlyTasks engine.old engine.new }
     ensures counted { OnOk result (KeepsCounts definition.now engine.old engine.new) }
+    ensures room { SameRoom engine.old engine.new }
 {
     // For the proof: the clauses speak of the definition.
     let _ = definition;
@@ -149,7 +139,7 @@ pub fn pass_down(
         return Ok(());
     };
     let Task::Running(frame) = task else {
-        engine.stack.push(task)?;
+        engine.stack.push(task);
         return Ok(());
     };
     pass_to(engine, frame, value)

@@ -4,7 +4,7 @@
 //! built, and a task holds its object from when it comes before the others until it is done. An emission holds its arguments, and the value
 //! that it has accumulated, from its beginning to its end, and a program what its registers name.
 
-ghost use Rattle.std.specs.Prelude.{◌≡◌, ℕ, ◌+◌, ◌<◌, ◌≤◌, ◌^◌, List, ◌∷◌, map, option_map, None, true, IsSome, OnOk};
+ghost use Rattle.std.specs.Prelude.{◌≡◌, ℕ, ◌+◌, ◌<◌, ◌≤◌, ◌^◌, List, ◌∷◌, map, option_map, None, true, IsSome};
 ghost use Rattle.ui_machine.specs.Definition as machine;
 ghost use Rattle.ui_machine.specs.Seq.{total};
 ghost use Rattle.ui_machine.specs.State.Handlers.{Handler};
@@ -14,6 +14,7 @@ ghost use Rattle.g_values.specs.View.{value_view};
 ghost use Rattle.bytecode.specs.Computing.{registers_of};
 ghost use Rattle.instance_tables.specs.Store.{id_of, count_of, may_hold, named_by};
 ghost use Rattle.engine_world.specs.KnownHandlers.{TakesKnownHandlers};
+ghost use Rattle.engine_world.specs.Room.{HasRoom, TakesRoom};
 ghost use Rattle.engine_world.specs.View.{world_of};
 ghost use Rattle.engine_world.specs.TaskView.{task_of, task_in, agenda_of};
 ghost use Rattle.engine_world.specs.Counting.{Connects, IsCounted, MayHold, MayPush, OnlyCounts, KeepsCounts, in_given, in_subject};
@@ -23,7 +24,6 @@ use crate::task::Task;
 use g_values::Value;
 use instance_tables::Table;
 use signal_core::Cursor;
-use std::alloc::AllocError;
 use ui_machine::ObjectId;
 
 /// Holds an object, if there is one, once more. It lives, and may be held so.
@@ -203,25 +203,22 @@ pub fn never_full(engine: &Engine)
     engine.world.table.next_unheld();
 }
 
-/// Puts a task before the others, which holds its objects from then on: they live.
-///
-/// # Errors
-///
-/// `AllocError` if memory is refused.
-pub fn push_task(engine: &mut Engine, task: Task) -> Result<(), AllocError>
+/// Puts a task before the others, in the room that is there. It holds its objects from then on: they live.
+pub fn push_task(engine: &mut Engine, task: Task)
     requires begun { TakesKnownHandlers engine.now.world.handlers.last task }
     requires may { MayPush engine.now task }
-    ensures agenda { OnOk result ((d : machine.Definition) → agenda_of d engine.new ≡ task_in d engine.old task ∷ agenda_of d engine.old) }
+    requires room { HasRoom 1 engine.now }
+    ensures agenda { (d : machine.Definition) → agenda_of d engine.new ≡ task_in d engine.old task ∷ agenda_of d engine.old }
     ensures world { world_of engine.new.world ≡ world_of engine.old.world }
     ensures same { engine.new.counted ≡ engine.old.counted }
     ensures handlers { engine.new.world.handlers ≡ engine.old.world.handlers }
-    ensures counted { OnOk result ((d : machine.Definition) → KeepsCounts d engine.old engine.new) }
-    ensures connects { OnOk result ((d : machine.Definition) → Connects d engine.old → Connects d engine.new) }
+    ensures counted { (d : machine.Definition) → KeepsCounts d engine.old engine.new }
+    ensures connects { (d : machine.Definition) → Connects d engine.old → Connects d engine.new }
+    ensures room { TakesRoom 1 engine.old engine.new }
 {
     // For the proof: what lives may be held so often.
     never_full(engine);
     hold_any(&mut engine.world.table, task.object());
     hold_given(&mut engine.world.table, &task);
-    engine.stack.push(task)?;
-    Ok(())
+    engine.stack.push(task);
 }

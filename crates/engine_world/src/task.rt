@@ -1,6 +1,6 @@
 //! Tasks, and the stack of those that are left.
 
-ghost use Rattle.std.specs.Prelude.{◌≡◌, ℕ, List, [], ◌∷◌, reverse, map, IfSome, MatchOption, OnOk};
+ghost use Rattle.std.specs.Prelude.{◌≡◌, ◌+◌, ◌<◌, ℕ, List, [], ◌∷◌, reverse, map, vec_capacity, vec_len, IfOk, IfSome, MatchOption};
 ghost use Rattle.ui_machine.specs.Definition as machine;
 ghost use Rattle.ui_machine.specs.State.Tasks as config;
 ghost use Rattle.ui_machine.specs.State.Handlers.{Handler};
@@ -252,7 +252,7 @@ pub enum Task {
     },
 }
 
-/// The tasks that are left, the first on top.
+/// The tasks that are left, the first on top, in room that is reserved once.
 #[derive(Drop)]
 pub struct Stack {
     pub tasks: Vec<Task>,
@@ -265,27 +265,29 @@ impl Stack {
     ghost use Rattle.engine_world.specs.KnownHandlers.{AllTakeKnownHandlers, TakesKnownHandlers};
     ghost use Rattle.engine_world.specs.TaskView.{task_of, tasks_of};
 
-    /// Nothing to do.
-    pub fn new(alloc: Global) -> Self
-        ensures tasks { (d : machine.Definition) (hs : List Handler) → tasks_of d hs result ≡ [] }
-        ensures begun { (last : ℕ) → AllTakeKnownHandlers last result }
-    {
-        Stack {
-            tasks: Vec::new(alloc),
-        }
-    }
-
-    /// Puts a task before the others.
+    /// Nothing to do, and room for so many tasks.
     ///
     /// # Errors
     ///
-    /// `AllocError` if memory is refused.
-    pub fn push(&mut self, task: Task) -> Result<(), AllocError>
-        ensures tasks { OnOk result ((d : machine.Definition) (hs : List Handler) → tasks_of d hs self.new ≡ task_of d hs task ∷ tasks_of d hs self.old) }
-        ensures begun { OnOk result ((last : ℕ) → TakesKnownHandlers last task → AllTakeKnownHandlers last self.old → AllTakeKnownHandlers last self.new) }
+    /// `AllocError` if memory is refused. No other call asks for memory.
+    pub fn new(alloc: Global, most: usize) -> Result<Self, AllocError>
+        ensures tasks { IfOk result (λ s. (d : machine.Definition) (hs : List Handler) → tasks_of d hs s ≡ []) }
+        ensures begun { IfOk result (λ s. (last : ℕ) → AllTakeKnownHandlers last s) }
+        ensures room { IfOk result (λ s. vec_capacity s.tasks ≡ most) }
     {
-        self.tasks.push(task)?;
-        Ok(())
+        let tasks = Vec::with_capacity(alloc, most)?;
+        Ok(Stack { tasks })
+    }
+
+    /// Puts a task before the others, in the room that is there.
+    pub fn push(&mut self, task: Task)
+        requires room { vec_len self.now.tasks < vec_capacity self.now.tasks }
+        ensures tasks { (d : machine.Definition) (hs : List Handler) → tasks_of d hs self.new ≡ task_of d hs task ∷ tasks_of d hs self.old }
+        ensures begun { (last : ℕ) → TakesKnownHandlers last task → AllTakeKnownHandlers last self.old → AllTakeKnownHandlers last self.new }
+        ensures taken { vec_len self.new.tasks ≡ vec_len self.old.tasks + 1 }
+        ensures room { vec_capacity self.new.tasks ≡ vec_capacity self.old.tasks }
+    {
+        self.tasks.push_reserved(task);
     }
 
     /// The first task.
@@ -296,13 +298,16 @@ impl Stack {
         self.tasks.last()
     }
 
-    /// Takes the first task.
+    /// Takes the first task. Its room is there again.
     pub fn pop(&mut self) -> Option<Task>
         ensures tasks { (d : machine.Definition) (hs : List Handler) → MatchOption result
             ((tasks_of d hs self.old ≡ []) × (tasks_of d hs self.new ≡ []))
             (λ task. tasks_of d hs self.old ≡ task_of d hs task ∷ tasks_of d hs self.new) }
         ensures begun { (last : ℕ) → AllTakeKnownHandlers last self.old → AllTakeKnownHandlers last self.new }
         ensures first { IfSome result (λ task. (last : ℕ) → AllTakeKnownHandlers last self.old → TakesKnownHandlers last task) }
+        ensures given { MatchOption result (vec_len self.new.tasks ≡ vec_len self.old.tasks) (λ _. vec_len self.old.tasks ≡ vec_len self.new.tasks + 1) }
+        ensures free { IfSome result (λ _. vec_len self.new.tasks < vec_capacity self.new.tasks) }
+        ensures room { vec_capacity self.new.tasks ≡ vec_capacity self.old.tasks }
     {
         self.tasks.pop()
     }
@@ -311,6 +316,8 @@ impl Stack {
     pub fn clear(&mut self)
         ensures tasks { (d : machine.Definition) (hs : List Handler) → tasks_of d hs self.new ≡ [] }
         ensures begun { (last : ℕ) → AllTakeKnownHandlers last self.new }
+        ensures free { vec_len self.new.tasks ≡ 0 }
+        ensures room { vec_capacity self.new.tasks ≡ vec_capacity self.old.tasks }
     {
         self.tasks.clear();
     }

@@ -1,7 +1,7 @@
 -- The registers of a frame: as a program begins, as one is written, and as several are read.
-use Rattle.std.proofs.Common.{◌≡◌, ℕ, zero, suc, ◌+◌, ◌<◌, ◌≤◌, ◌++◌, List, [], ◌∷◌, Option, None, Some, option_map, map, length, drop, get_or, slice_set, IsSome, Ok, Err, refl, sym, ap, ◌∙◌, arith}
+use Rattle.std.proofs.Common.{◌≡◌, ℕ, zero, suc, ◌+◌, ◌<◌, ◌≤◌, ◌++◌, List, [], ◌∷◌, Option, None, Some, option_map, map, length, drop, get_or, slice_set, replicate, IsSome, Ok, Err, refl, sym, ap, ◌∙◌, arith}
 use Rattle.std.proofs.Math.Seq.{drop-cons}
-use Rattle.std.proofs.lemmas.List.{append-nil, append_assoc, drop_all}
+use Rattle.std.proofs.lemmas.List.{append-nil, append_assoc, drop_all, length-map}
 use Rattle.ui_machine.specs.Definition.Values as values
 use Rattle.ui_machine.specs.declared.arm.Arm.TheVariants as arms
 use Rattle.ui_machine.specs.State.Tasks.{Frame, Registers}
@@ -13,19 +13,35 @@ use Rattle.g_values.specs.declared.value.Value.{Value}
 use Rattle.bytecode.specs.declared.computations.Register.{Register}
 use Rattle.bytecode.specs.Computing.{registers_of}
 use Rattle.bytecode.specs.View.{number_of}
+use Rattle.frames.specs.FrameView.{AreSet, set_values}
 
--- one more value was given to a register
-pub set_more : (rs : List (Option Value)) (vs : List Value) (v : Value) → registers_of rs ≡ map (λ v. Some v) (map value_view vs)
-    → registers_of (rs ++ Some v ∷ []) ≡ map (λ v. Some v) (map value_view (vs ++ v ∷ []))
-set_more rs vs v h = pushed rs ∙ ap (λ l. l ++ Some (value_view v) ∷ []) h ∙ sym (given vs)
-  where
-    pushed : (rs : List (Option Value)) → registers_of (rs ++ Some v ∷ []) ≡ registers_of rs ++ Some (value_view v) ∷ []
-    pushed [] = refl
-    pushed (r ∷ rs) = ap (λ l. option_map value_view r ∷ l) (pushed rs)
+-- registers of which the first are set, and the others are not
+module _ (args : List values.Value) where
+  pub padded : (rs : List (Option Value)) (n : ℕ) → registers_of rs ≡ map (λ v. Some v) args → registers_of (rs ++ replicate n None) ≡ map (λ v. Some v) args ++ replicate n None
+  padded rs n same = both rs ∙ ap (λ (l : Registers). l ++ replicate n None) same
+    where
+      unset : (n : ℕ) → registers_of (replicate n None) ≡ replicate n None
+      unset zero = refl
+      unset (suc n) = ap (λ (l : Registers). None ∷ l) (unset n)
 
-    given : (vs : List Value) → map (λ v. Some v) (map value_view (vs ++ v ∷ [])) ≡ map (λ v. Some v) (map value_view vs) ++ Some (value_view v) ∷ []
-    given [] = refl
-    given (u ∷ us) = ap (λ l. Some (value_view u) ∷ l) (given us)
+      both : (rs : List (Option Value)) → registers_of (rs ++ replicate n None) ≡ registers_of rs ++ replicate n None
+      both [] = unset n
+      both (r ∷ rs) = ap (λ (l : Registers). option_map value_view r ∷ l) (both rs)
+
+  -- as many as are given
+  pub as_many : (rs : List (Option Value)) → registers_of rs ≡ map (λ v. Some v) args → length rs ≡ length args
+  as_many rs same = sym (length-map rs (option_map value_view)) ∙ ap (λ (l : Registers). length l) same ∙ length-map args (λ v. Some v)
+
+-- registers that hold values alone
+values_set : (args : List values.Value) → set_values (map (λ v. Some v) args) ≡ args
+values_set [] = refl
+values_set (v ∷ args) = ap (λ (vs : List values.Value). v ∷ vs) (values_set args)
+
+pub given_values : (rs : Registers) (args : List values.Value) → rs ≡ map (λ v. Some v) args → set_values rs ≡ args
+given_values rs args is = ap (λ (l : Registers). set_values l) is ∙ values_set args
+
+pub given_set : (rs : Registers) (args : List values.Value) → rs ≡ map (λ v. Some v) args → AreSet rs
+given_set rs args is = is ∙ ap (λ (vs : List values.Value). map (λ v. Some v) vs) (sym (given_values rs args is))
 
 -- what a register holds
 pub held_in : (rs : List (Option Value)) (i : ℕ) (r : Option Value) → i < length rs → r ≡ get_or rs i r → option_map value_view r ≡ read None (registers_of rs) i

@@ -1,7 +1,8 @@
 -- Programs that run, as the machine has them, and how they go on.
-use Rattle.std.specs.Prelude.{◌≡◌, ℕ, Option, None, Some, option_map, option_and_then, slice_get}
+use Rattle.std.specs.Prelude.{◌≡◌, ℕ, List, [], ◌∷◌, map, Option, None, Some, option_map, option_and_then, slice_get}
 use Rattle.ui_machine.specs.Definition.Programs.{passes_in}
 use Rattle.ui_machine.specs.Definition.Programs as words
+use Rattle.ui_machine.specs.Definition.Values.{Value}
 use Rattle.ui_machine.specs.State.Tasks as config
 use Rattle.ui_machine.specs.Instructions.Jumps.{in_pass, past}
 pub use Rattle.frames.specs.declared.frame.Frame.{Frame}
@@ -40,3 +41,15 @@ Takes (Some i) taken new = taken ≡ Some (record { instruction = i; frame = new
 -- the frame at the first instruction of a block
 abbrev pub at_block : ℕ → config.Frame → words.Block → config.Frame
 at_block to f b = record f { block = to; at = 0; passes = passes_in b }
+
+-- ** registers that a program begins with
+
+-- the values of those that are set
+abbrev pub set_values : config.Registers → List Value
+set_values [] = []
+set_values (None ∷ rs) = set_values rs
+set_values (Some v ∷ rs) = v ∷ set_values rs
+
+-- all of them are set
+abbrev pub AreSet : config.Registers → Type 0
+AreSet rs = rs ≡ map (λ v. Some v) (set_values rs)

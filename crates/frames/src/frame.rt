@@ -3,7 +3,8 @@
 //! A frame says to which instruction a program has come, and what its registers hold. It is the machine's frame. What the registers name is held
 //! by whoever keeps the frame: nothing is counted here, so that a register that is written gives back what it held.
 
-ghost use Rattle.std.specs.Prelude.{◌≡◌, ◌<◌, length, None, Some, option_map, map, slice_get, IfOk, IsSome};
+ghost use Rattle.std.specs.Prelude.{◌≡◌, ◌<◌, List, length, None, Some, option_map, map, slice_get, IfOk, IsSome};
+ghost use Rattle.ui_machine.specs.Definition.Values as values;
 ghost use Rattle.ui_machine.specs.Instructions.Jumps.{is_again};
 ghost use Rattle.ui_machine.specs.Rules.Programs.{first_frame, first_registers};
 ghost use Rattle.ui_machine.specs.Seq.{read, write};
@@ -14,7 +15,7 @@ ghost use Rattle.bytecode.specs.View.{block_view, instruction_view, program_view
 
 use bytecode::{Block, BlockNumber, Instruction, Program, Register};
 use g_values::Value;
-use std::alloc::{AllocError, Global};
+use std::alloc::AllocError;
 use std::mem;
 use ui_machine::ProgramId;
 
@@ -33,28 +34,14 @@ pub struct Frame {
     pub registers: Vec<Option<Value>>,
 }
 
-// Registers that have these values.
-#[tactic(auto, using(crate::proofs::FrameRegisters::set_more))]
-fn set_registers(alloc: Global, args: Vec<Value>) -> Result<Vec<Option<Value>>, AllocError>
-    ensures { IfOk result (λ rs. registers_of rs.items ≡ map (λ v. Some v) (map value_view args.items)) }
-{
-    let mut registers = Vec::new(alloc);
-    for arg in args {
-        registers.push(Some(arg))?;
-    }
-    Ok(registers)
-}
-
-// The registers of a program that begins: the first have these values, the others are unset.
+// The registers of a program that begins: beside those that are there, its others are unset.
 fn first_registers(
-    alloc: Global,
     program: &Program,
-    args: Vec<Value>,
+    mut registers: Vec<Option<Value>>,
 ) -> Result<Vec<Option<Value>>, AllocError>
-    ensures { IfOk result (λ rs. registers_of rs.items ≡ first_registers (program_view program.now) (map value_view args.items)) }
+    ensures { IfOk result (λ rs. (args : List values.Value) → registers_of registers.items ≡ map (λ v. Some v) args → registers_of rs.items ≡ first_registers (program_view program.now) args) }
 {
-    let unset = program.registers.saturating_sub(args.len());
-    let mut registers = set_registers(alloc, args)?;
+    let unset = program.registers.saturating_sub(registers.len());
     'filling: for _added in 0..unset {
         registers.push(None)?;
     }
@@ -62,20 +49,19 @@ fn first_registers(
 }
 
 impl Frame {
-    /// A program at its first instruction. Its parameters are given these values.
+    /// A program at its first instruction. The values that its parameters are given are in its first registers already.
     ///
     /// # Errors
     ///
-    /// `AllocError` if memory is refused.
+    /// `AllocError` if the registers have no room for all of the program's, and memory is refused.
     pub fn new(
-        alloc: Global,
         number: ProgramId,
         program: &Program,
-        args: Vec<Value>,
+        registers: Vec<Option<Value>>,
     ) -> Result<Frame, AllocError>
-        ensures { IfOk result (λ f. frame_view f ≡ first_frame number (program_view program.now) (map value_view args.items)) }
+        ensures { IfOk result (λ f. (args : List values.Value) → registers_of registers.items ≡ map (λ v. Some v) args → frame_view f ≡ first_frame number (program_view program.now) args) }
     {
-        let registers = first_registers(alloc, program, args)?;
+        let registers = first_registers(program, registers)?;
         Ok(Frame {
             program: number,
             block: BlockNumber(0),

@@ -11,4 +11,4 @@ mod operands;
 
 pub use computations::{MOST_TEXT_BYTES, compute};
 pub use frame::Frame;
-pub use operands::{identity_at, text_at, truth_at, value_at, values_at};
+pub use operands::{copy_values, identity_at, text_at, truth_at, value_at};

@@ -1,6 +1,6 @@
 //! The operands of instructions: registers that have to be set, with values of the kind that is asked for.
 
-ghost use Rattle.std.specs.Prelude.{◌≡◌, All, IfOk, IsOk, IsSome, None, Ok, map, option_map};
+ghost use Rattle.std.specs.Prelude.{◌≡◌, All, [], IsOk, IsSome, None, Ok, OnOk, map, option_map};
 ghost use Rattle.ui_machine.specs.Instructions.Registers.{values_in};
 ghost use Rattle.ui_machine.specs.Seq.{read};
 ghost use Rattle.ui_machine.specs.State.Tasks.{Frame};
@@ -12,7 +12,7 @@ ghost use Rattle.frames.specs.Operand.{identity_in};
 
 use bytecode::Register;
 use g_values::Value;
-use std::alloc::{AllocError, Global};
+use std::alloc::AllocError;
 use ui_machine::ObjectId;
 
 /// The value of a register, if it is set.
@@ -26,27 +26,27 @@ pub fn value_at(registers: &[Option<Value>], at: Register) -> Option<&Value>
     }
 }
 
-/// The values of some registers, which are all set.
+/// Copies the values of some registers, which are all set, into an empty list.
 ///
 /// # Errors
 ///
-/// `AllocError` where the list or a text can't be made or shared.
-pub fn values_at(
-    alloc: Global,
+/// `AllocError` where the list has no room and gets none, or a text can't be shared.
+pub fn copy_values(
     registers: &[Option<Value>],
     from: &[Register],
-) -> Result<Vec<Value>, AllocError>
+    values: &mut Vec<Value>,
+) -> Result<(), AllocError>
     requires set { All (λ r. IsSome (read None (registers_of registers.now) (number_of r))) from.now }
-    ensures { (f : Frame) → f.registers ≡ registers_of registers.now → IfOk result (λ vs. values_in f (map number_of from.now) ≡ Ok (map value_view vs.items)) }
+    requires none { values.now.items ≡ [] }
+    ensures { OnOk result ((f : Frame) → f.registers ≡ registers_of registers.now → values_in f (map number_of from.now) ≡ Ok (map value_view values.new.items)) }
 {
-    let mut values = Vec::new(alloc);
     for register in from {
         let Some(value) = value_at(registers, *register) else {
             unreachable!()
         };
         values.push(value.copied()?)?;
     }
-    Ok(values)
+    Ok(())
 }
 
 /// The truth value in a register, if it has one.

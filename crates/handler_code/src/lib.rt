@@ -12,6 +12,6 @@ pub use bytecode::{
     Register, RegisterKind,
 };
 pub use frames::{
-    Frame, MOST_TEXT_BYTES, compute, identity_at, text_at, truth_at, value_at, values_at,
+    Frame, MOST_TEXT_BYTES, compute, copy_values, identity_at, text_at, truth_at, value_at,
 };
 pub use reading::{Names, Scope, check_outline, read_instruction, read_program};

@@ -1,5 +1,6 @@
+use Rattle.engine_pools.specs.Promises.{IsRoomy}
 -- How the build begins: nothing lives, and objects are all that there is to make; and how the engine knows its pool there.
-use Rattle.std.proofs.Common.{◌≡◌, ℕ, zero, suc, List, [], ◌∷◌, ◌++◌, map, None, refl, sym, ap, subst, ◌∙◌, arith}
+use Rattle.std.proofs.Common.{◌≡◌, ℕ, zero, suc, List, [], ◌∷◌, ◌++◌, map, None, refl, sym, ap, subst, ◌∙◌, arith, vec_capacity}
 use Rattle.ui_machine.specs.Seq.{total}
 use Rattle.ui_machine.specs.State.References.{in_task, mentions}
 use Rattle.instance_tables.specs.Store.{count_of}
@@ -76,8 +77,9 @@ none_counted_with d peers e m knows passes connects marks counts world idle = re
 -- ** what a build begins with
 
 pub begun_at : (d : Definition) (pool : List Seen) (seats : List Peer) (b : Beginning) → mismatch d (as_peers pool) ≡ None → seats ≡ map forgotten (as_peers pool) → IsAtRest d b.engine
-    → world_of b.engine.world ≡ said d (first_world d seats) lines.build → map item_of b.forwards ≡ forward_items 0 d.places → IsBegun d pool b
-begun_at d pool seats b matches sat rests world forwards =
+    → world_of b.engine.world ≡ said d (first_world d seats) lines.build → map item_of b.forwards ≡ forward_items 0 d.places
+    → IsRoomy d (vec_capacity b.engine.stack.tasks) → IsBegun d pool b
+begun_at d pool seats b matches sat rests world forwards room =
     let there = world ∙ ap (λ (l : List Peer). said d (first_world d l) lines.build) sat in
     record {
       matches = matches;
@@ -85,4 +87,5 @@ begun_at d pool seats b matches sat rests world forwards =
       knows = known_first pool ∙ sym (ap (λ (w : World). map seen_of w.peers) there);
       world = ap (λ (w : World). world_at pool w) there ∙ ap (λ (l : List Peer). said d (first_world d l) lines.build) (seen_first pool);
       forwards = forwards;
+      room = room;
     }

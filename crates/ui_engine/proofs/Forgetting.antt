@@ -25,6 +25,7 @@ module _ (d : Definition) (e new : Engine) (is : new ≡ with_lines_of new e) (n
       subst (λ (x : Engine). IsKept d x phases.AtRest) (sym is) (
         record { counts = counts_on kept.0.counts; idle = kept.0.idle },
         subst (λ (lines : List (List ℕ)). Rests d (record (world_of e.world) { transcript = lines })) (sym (ap (map string_bytes) none)) (without_lines_rests d (world_of e.world) kept.1),
+        kept.2,
       )
-  kept_without_lines phases.UnderWay kept = subst (λ (x : Engine). IsKept d x phases.UnderWay) (sym is) (counts_on kept)
+  kept_without_lines phases.UnderWay kept = subst (λ (x : Engine). IsKept d x phases.UnderWay) (sym is) (counts_on kept.0, kept.1)
   kept_without_lines phases.Stopped kept = tt

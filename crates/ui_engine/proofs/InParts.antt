@@ -1,5 +1,7 @@
+use Rattle.law_typing.specs.Verdict.Accepted.{Accepted}
+use Rattle.engine_world.specs.Room.{SameRoom}
 -- How events go on in a session: what its engine comes to is what the session answers.
-use Rattle.std.proofs.Common.{◌≡◌, ◌<◌, ◌+◌, ℕ, Bool, true, false, nat_lt, List, [], ◌++◌, Option, None, Some, Result, Ok, Err, refl, sym, ap, subst, arith}
+use Rattle.std.proofs.Common.{◌≡◌, ◌<◌, ◌+◌, ℕ, Bool, true, false, nat_lt, List, [], ◌++◌, Option, None, Some, Result, Ok, Err, refl, sym, ap, subst, arith, vec_capacity}
 use Rattle.std.proofs.lemmas.Bool.Decides.{nat_tests}
 use Rattle.std.specs.declared.alloc.AllocError.{AllocError}
 use Rattle.ui_machine.specs.Definition.{Definition}
@@ -12,7 +14,6 @@ use Rattle.ui_machine.specs.State.Tasks as config
 use Rattle.native_peers.specs.Seen.{Relations, Seen}
 use Rattle.engine_world.specs.Counting.{Counts, nothing}
 use Rattle.engine_world.specs.EngineView.{config_of}
-use Rattle.engine_world.specs.Quiet.{IsQuiet}
 use Rattle.engine_world.specs.View.{world_of}
 use Rattle.engine_world.specs.declared.engine.Engine.{Engine}
 use Rattle.engine_pools.specs.declared.courses.Course.{Course}
@@ -20,56 +21,67 @@ use Rattle.engine_pools.specs.declared.courses.Progress.{Progress}
 use Rattle.engine_pools.specs.declared.courses.Progress.TheVariants as progress
 use Rattle.engine_pools.specs.declared.dispatches.Reply.{Reply}
 use Rattle.engine_pools.specs.CallPoints.{point_of}
-use Rattle.engine_pools.specs.Courses.{BeginsNext, GoesOn, HasCome, IfEnded, IfUnderWay, IsUnderWay, MayBegin, Proceeds, nothing_yet}
+use Rattle.engine_pools.specs.Courses.{BeginsNext, GoesOn, HasCome, IfGoesOn, IfHasEnded, IfUnderWay, IsUnderWay, MayBegin, Proceeds, nothing_yet}
 use Rattle.engine_pools.specs.Dispatched.{IsAtRest}
 use Rattle.engine_pools.specs.PoolView.{Knows, with_seen, world_at}
-use Rattle.engine_pools.specs.Promises.{Rests}
+use Rattle.engine_pools.specs.Promises.{Rests, IsRoomy}
 use Rattle.engine_pools.specs.TurnView.{TurnBegins}
 use Rattle.engine_pools.specs.Ways.{serving}
 use Rattle.engine_pools.proofs.Resting.{rests_here}
-use Rattle.engine_pools.proofs.UnderWay.{engine_begins, engine_handles, request_breaks}
+use Rattle.engine_pools.proofs.UnderWay.{engine_begins, engine_handles}
 use Rattle.ui_engine.specs.declared.cores.Phase.{Phase}
 use Rattle.ui_engine.specs.declared.cores.Phase.TheVariants as phases
 use Rattle.ui_engine.specs.declared.faults.SessionFault.{SessionFault}
 use Rattle.ui_engine.specs.declared.faults.SessionFault.TheVariants as faults
-use Rattle.ui_engine.specs.Phases.{IsKept, has_stopped, is_under_way, phase_of}
+use Rattle.ui_engine.specs.Phases.{IsKept, has_stopped, is_under_way, phase_of, HasAllRoom}
 use Rattle.ui_engine.specs.SessionView.{AnswersEvent, AnswersBy, BeginsBy, BeginsEvent, Comes, ComesOn, HasCourse, InCourse, SessionState, state_at}
 use Rattle.ui_engine.proofs.Ending.{session_at}
 
 -- ** what a session keeps
 
-pub kept_at_rest : (d : Definition) (e : Engine) (phase : Phase) → has_stopped phase ≡ false → IsKept d e phase → IsAtRest d e × Rests d (world_of e.world)
+pub kept_at_rest : (d : Definition) (e : Engine) (phase : Phase) → has_stopped phase ≡ false → IsKept d e phase → IsAtRest d e × Rests d (world_of e.world) × HasAllRoom d e
 kept_at_rest d e phases.AtRest goes_on kept = kept
 kept_at_rest d e phases.UnderWay goes_on kept = absurd (cc goes_on)
 kept_at_rest d e phases.Stopped goes_on kept = absurd (cc goes_on)
 
-pub kept_under_way : (d : Definition) (e : Engine) (phase : Phase) → is_under_way phase ≡ true → IsKept d e phase → Counts d nothing e
+pub kept_under_way : (d : Definition) (e : Engine) (phase : Phase) → is_under_way phase ≡ true → IsKept d e phase → Counts d nothing e × HasAllRoom d e
 kept_under_way d e phases.AtRest under_way kept = absurd (cc under_way)
 kept_under_way d e phases.UnderWay under_way kept = kept
 kept_under_way d e phases.Stopped under_way kept = absurd (cc under_way)
 
 -- where it has not stopped
-pub kept_on : (d : Definition) (e : Engine) (phase : Phase) → has_stopped phase ≡ false → IsAtRest d e × Rests d (world_of e.world) → IsKept d e phase
+pub kept_on : (d : Definition) (e : Engine) (phase : Phase) → has_stopped phase ≡ false → IsAtRest d e × Rests d (world_of e.world) × HasAllRoom d e → IsKept d e phase
 kept_on d e phases.AtRest goes_on rests = rests
 kept_on d e phases.UnderWay goes_on rests = absurd (cc goes_on)
 kept_on d e phases.Stopped goes_on rests = absurd (cc goes_on)
 
+-- the room is what it was
+pub room_on : (d : Definition) (e new : Engine) → SameRoom e new → HasAllRoom d e → HasAllRoom d new
+room_on d e new same roomy = subst (IsRoomy d) (sym same) roomy
+
+-- so that there is room for a task
+pub room_for_one : (d : Definition) (e : Engine) → Accepted d → HasAllRoom d e → 0 < vec_capacity e.stack.tasks
+room_for_one d e a roomy = let enough = roomy a in omega (arith, enough)
+
 -- where it has begun
-pub kept_begun : (d f : Definition) → f ≡ d → (e new : Engine) → IsAtRest d e × Rests d (world_of e.world) → (p : Progress) → IfUnderWay {E = AllocError} (Ok p) (λ _. Counts f nothing new)
-    → IfEnded {E = AllocError} (Ok p) (λ _. new ≡ e) → (phase : Phase) → phase ≡ phase_of p → IsKept d new phase
-kept_begun d f same e new rests (progress.UnderWay course) counts still phase is = subst (IsKept d new) (sym is) (subst (λ (x : Definition). Counts x nothing new) same counts)
-kept_begun d f same e new rests (progress.Ended reply) counts still phase is =
-    subst (IsKept d new) (sym is) (subst (λ (x : Engine). IsAtRest d x × Rests d (world_of x.world)) (sym still) rests)
+pub kept_begun : (d f : Definition) → f ≡ d → (e new : Engine) → SameRoom e new → IsAtRest d e × Rests d (world_of e.world) × HasAllRoom d e → (p : Progress) → IfGoesOn p (λ _. Counts f nothing new)
+    → IfHasEnded p (λ _. new ≡ e) → (phase : Phase) → phase ≡ phase_of p → IsKept d new phase
+kept_begun d f same e new room rests (progress.UnderWay course) counts still phase is =
+    subst (IsKept d new) (sym is) (subst (λ (x : Definition). Counts x nothing new) same counts, room_on d e new room rests.2)
+kept_begun d f same e new room rests (progress.Ended reply) counts still phase is =
+    subst (IsKept d new) (sym is) (subst (λ (x : Engine). IsAtRest d x × Rests d (world_of x.world) × HasAllRoom d x) (sym still) rests)
 
 -- where it was gone on with
-pub kept_advanced : (d f : Definition) → f ≡ d → (new : Engine) (pool : List Seen) (p : Progress) → IfUnderWay {E = AllocError} (Ok p) (λ _. Counts f nothing new)
-    → IfEnded {E = AllocError} (Ok p) (λ _. IsAtRest f new) → IfEnded {E = AllocError} (Ok p) (λ _. Knows (world_of new.world) pool)
-    → IfEnded {E = AllocError} (Ok p) (λ _. Rests f (world_at pool (world_of new.world))) → (phase : Phase) → phase ≡ phase_of p → IsKept d new phase
-kept_advanced d f same new pool (progress.UnderWay course) counts rests knows resting phase is = subst (IsKept d new) (sym is) (subst (λ (x : Definition). Counts x nothing new) same counts)
-kept_advanced d f same new pool (progress.Ended reply) counts rests knows resting phase is =
+pub kept_advanced : (d f : Definition) → f ≡ d → (e new : Engine) → SameRoom e new → HasAllRoom d e → (pool : List Seen) (p : Progress) → IfGoesOn p (λ _. Counts f nothing new)
+    → IfHasEnded p (λ _. IsAtRest f new) → IfHasEnded p (λ _. Knows (world_of new.world) pool)
+    → IfHasEnded p (λ _. Rests f (world_at pool (world_of new.world))) → (phase : Phase) → phase ≡ phase_of p → IsKept d new phase
+kept_advanced d f same e new room roomy pool (progress.UnderWay course) counts rests knows resting phase is =
+    subst (IsKept d new) (sym is) (subst (λ (x : Definition). Counts x nothing new) same counts, room_on d e new room roomy)
+kept_advanced d f same e new room roomy pool (progress.Ended reply) counts rests knows resting phase is =
     subst (IsKept d new) (sym is) (
       subst (λ (x : Definition). IsAtRest x new) same rests,
       rests_here d pool (world_of new.world) knows (subst (λ (x : Definition). Rests x (world_at pool (world_of new.world))) same resting),
+      room_on d e new room roomy,
     )
 
 -- ** what it answers
@@ -151,29 +163,17 @@ module _ (may : Relations) (d e : Definition) (same : e ≡ d) (pool : List Seen
         so_far = engine_handles d may pool (world_of engine.world) knows r new begins (subst (λ (x : Definition). config_of x new ≡ beginning (world_of engine.world) (Handling r)) same is);
       })
 
-  -- no memory is found for it
-  pub request_stops : (r : Request) → IsQuiet (world_of engine.world) (world_of new.world)
-      → ComesOn (Err faults.OutOfMemory) may d (config.request r) (world_at pool (world_of engine.world)) [] pool (session_at d new phases.Stopped)
-  request_stops r quiet =
-      comes_to_nothing d may (config.request r) (world_at pool (world_of engine.world)) [] pool new (request_breaks d may pool (world_of engine.world) knows r (world_of new.world) quiet)
-
-  -- the first source of a turn begins, if there is one, or no memory is found
+  -- the first source of a turn begins, if there is one
   module _ (event : Event) (w : World) (batch : List ℕ) (so_far : Reply) (none : so_far ≡ nothing_yet)
       (h : HasCome d may event w batch nothing_yet (world_at pool (world_of engine.world))) where
-    sources_so : (r : Result Progress AllocError) → IfEnded r (λ _. new ≡ engine) → BeginsNext r (record { left = Some batch; so_far = so_far }) (world_of engine.world) (config_of e new)
-        → Proceeds r d may event w [] (point_of d pool new)
-    sources_so r still begins =
-        engine_begins d may event w [] (record { left = Some batch; so_far = so_far }) pool engine new
-        (subst (λ (x : Reply). HasCome d may event w batch x (world_at pool (world_of engine.world))) (sym none) h) knows r still
-        (subst (λ (x : Definition). BeginsNext r (record { left = Some batch; so_far = so_far }) (world_of engine.world) (config_of x new)) same begins)
-
-    pub sources_begin : (p : Progress) → IfEnded {E = AllocError} (Ok p) (λ _. new ≡ engine) → BeginsNext (Ok p) (record { left = Some batch; so_far = so_far }) (world_of engine.world) (config_of e new)
+    pub sources_begin : (p : Progress) → IfHasEnded p (λ _. new ≡ engine) → BeginsNext p (record { left = Some batch; so_far = so_far }) (world_of engine.world) (config_of e new)
         → (phase : Phase) → phase ≡ phase_of p → ComesOn (Ok p) may d event w [] pool (session_at d new phase)
-    sources_begin p still begins phase is = comes_so_far d may event w [] pool new p (sources_so (Ok p) still begins) phase is
-
-    pub sources_stop : (fault : AllocError) → BeginsNext (Err fault) (record { left = Some batch; so_far = so_far }) (world_of engine.world) (config_of e new)
-        → ComesOn (Err faults.OutOfMemory) may d event w [] pool (session_at d new phases.Stopped)
-    sources_stop fault begins = comes_to_nothing d may event w [] pool new (sources_so (Err fault) tt begins)
+    sources_begin p still begins phase is =
+        comes_so_far d may event w [] pool new p
+        (engine_begins d may event w [] (record { left = Some batch; so_far = so_far }) pool engine new
+        (subst (λ (x : Reply). HasCome d may event w batch x (world_at pool (world_of engine.world))) (sym none) h) knows p still
+        (subst (λ (x : Definition). BeginsNext p (record { left = Some batch; so_far = so_far }) (world_of engine.world) (config_of x new)) same begins))
+        phase is
 
 -- ** an event that goes on
 

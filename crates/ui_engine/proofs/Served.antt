@@ -1,5 +1,5 @@
 -- What a session asks of a dispatch, and what it keeps after it. The definition is named twice, as the code has it and as the session does.
-use Rattle.std.proofs.Common.{◌≡◌, ◌≤◌, ℕ, List, None, Ok, length, sym, ap, subst, arith}
+use Rattle.std.proofs.Common.{◌≡◌, ◌≤◌, ℕ, List, None, Ok, length, sym, subst, arith}
 use Rattle.ui_machine.specs.Definition.{Definition}
 use Rattle.ui_machine.specs.Rules.Events.{refusal}
 use Rattle.ui_machine.specs.Rules.MainLoop.{turned}
@@ -20,7 +20,7 @@ use Rattle.engine_pools.specs.declared.dispatches.Reply.{Reply}
 use Rattle.engine_pools.specs.Courses.{MayBegin}
 use Rattle.engine_pools.specs.Dispatched.{Carried}
 use Rattle.engine_pools.specs.PoolView.{Knows, world_at}
-use Rattle.engine_pools.specs.Promises.{BuildKeeps, EventKeeps, IsNumberable, Rests}
+use Rattle.engine_pools.specs.Promises.{BuildKeeps, EventKeeps, IsNumberable, Rests, IsRoomy}
 use Rattle.engine_pools.specs.Safety.{IsSafe}
 use Rattle.law_lengths.proofs.LengthProofs.{denoted_are_short}
 use Rattle.engine_pools.proofs.Keeping.{build_promised, build_rests, build_safe, serve_keeps, turn_event_keeps, turn_rests}
@@ -43,9 +43,10 @@ module _ (d e : Definition) (same : e ≡ d) (from : IsDenoted e) where
     numberable : length e.places ≤ 512 → IsNumberable d
     numberable few = subst IsNumberable same (record { places = omega (arith, few); signals = (let signals = (denoted_are_short e from).signals in omega (arith, signals)) })
 
-    pub builds_safely : length e.places ≤ 512 → Accepted d → IsSafe e (of_build d (as_peers pool))
-    builds_safely few a =
-        subst (λ (x : Definition). IsSafe x (of_build d (as_peers pool))) (sym same) (build_safe d well (as_peers pool) (matched_is_ready d (as_peers pool) matches (all_free pool)) (numberable few) a)
+    pub builds_safely : (room : ℕ) → IsRoomy d room → length e.places ≤ 512 → Accepted d → IsSafe e room (of_build d (as_peers pool))
+    builds_safely room roomy few a =
+        subst (λ (x : Definition). IsSafe x room (of_build d (as_peers pool))) (sym same)
+        (build_safe d well (as_peers pool) (matched_is_ready d (as_peers pool) matches (all_free pool)) room roomy (numberable few) a)
 
     pub built_rests : length e.places ≤ 512 → (may : Relations) (reply : Reply) (left : List Seen) (new : World) → Carried (Ok reply) d may (of_build d (as_peers pool)) (world_at left new) → Knows new left → Rests d new
     built_rests few may reply left new carried knows =

@@ -1,6 +1,6 @@
 //! What a session is beside its pool: how its events are carried out.
 
-ghost use Rattle.std.specs.Prelude.{◌≡◌, ◌≤◌, ◌+◌, [], None, ℕ, List, map, string_bytes, false};
+ghost use Rattle.std.specs.Prelude.{◌≡◌, ◌≤◌, ◌+◌, [], None, Ok, ℕ, List, map, string_bytes, false};
 ghost use Rattle.ui_machine.specs.Prefix.{IsPrefix};
 ghost use Rattle.ui_machine.specs.Rules.Events.{refusal};
 ghost use Rattle.ui_machine.specs.State.Config.{World};
@@ -10,7 +10,7 @@ ghost use Rattle.law_typing.specs.Good.Requests.{RequestRead};
 ghost use Rattle.definition_format.specs.Meaning.{event_of, request_of};
 ghost use Rattle.native_peers.specs.Pool.{entries, relations, seen};
 ghost use Rattle.native_peers.specs.Seen.{SameRelations};
-ghost use Rattle.engine_pools.specs.Courses.{HasCome, IfEnded, IfUnderWay, nothing_yet};
+ghost use Rattle.engine_pools.specs.Courses.{HasCome, IfEnded, IfGoesOn, IfHasEnded, IfUnderWay, nothing_yet};
 ghost use Rattle.engine_pools.specs.PoolView.{Knows, world_at};
 ghost use Rattle.engine_pools.specs.Promises.{EventKeeps};
 ghost use Rattle.ui_engine.specs.Phases.{phase_of};
@@ -150,8 +150,7 @@ impl Core {
         let definition = self.verified.definition();
         // For the proof: some bytes denote the definition.
         let _types = definition.types();
-        self.phase = Phase::Stopped;
-        begin_dispatch(&mut self.engine, definition, Task::Handling(request))?;
+        begin_dispatch(&mut self.engine, definition, Task::Handling(request));
         self.phase = Phase::UnderWay;
         let so_far = Reply::none();
         Ok(Progress::UnderWay(Course { left: None, so_far }))
@@ -173,7 +172,7 @@ impl Core {
         // For the proof: some bytes denote the definition.
         let _types = definition.types();
         match begin_turn(&mut self.engine, definition, moment) {
-            Ok(batch) => self.begin_sources(pool, batch),
+            Ok(batch) => Ok(self.begin_sources(pool, batch)),
             Err(TurnError::ClockBack) => Err(SessionFault::ClockBack),
             Err(TurnError::OutOfMemory) => {
                 self.phase = Phase::Stopped;
@@ -183,14 +182,14 @@ impl Core {
     }
 
     // Begins the first source of a turn that has begun, if there is one.
-    fn begin_sources(&mut self, pool: &PeerPool, batch: Batch) -> Result<Progress, SessionFault>
+    fn begin_sources(&mut self, pool: &PeerPool, batch: Batch) -> Progress
         requires goes_on { self.now.stopped ≡ false }
         requires knows { Knows self.now.world (seen (λ p. (⟦<dyn Peer as Peer>⟧ p.peer.vtable).state p.peer.value) (entries pool.now)) }
         ensures comes { (event : config.Event) (w : World) → HasCome self.old.definition (relations (λ p. (⟦<dyn Peer as Peer>⟧ p.peer.vtable).moves p.peer.value) (entries pool.now)) event w batch nothing_yet (world_at (seen (λ p. (⟦<dyn Peer as Peer>⟧ p.peer.vtable).state p.peer.value) (entries pool.now)) self.old.world) →
-            ComesOn result (relations (λ p. (⟦<dyn Peer as Peer>⟧ p.peer.vtable).moves p.peer.value) (entries pool.now)) self.old.definition event w [] (seen (λ p. (⟦<dyn Peer as Peer>⟧ p.peer.vtable).state p.peer.value) (entries pool.now)) self.new }
+            ComesOn (Ok result) (relations (λ p. (⟦<dyn Peer as Peer>⟧ p.peer.vtable).moves p.peer.value) (entries pool.now)) self.old.definition event w [] (seen (λ p. (⟦<dyn Peer as Peer>⟧ p.peer.vtable).state p.peer.value) (entries pool.now)) self.new }
         ensures seated { IsSeated (seen (λ p. (⟦<dyn Peer as Peer>⟧ p.peer.vtable).state p.peer.value) (entries pool.now)) self.new }
-        ensures none { IfUnderWay result (λ course. course.so_far.steps + self.new.counted ≡ 0) }
-        ensures ended { IfEnded result (λ reply. reply ≡ nothing_yet) }
+        ensures none { IfGoesOn result (λ course. course.so_far.steps + self.new.counted ≡ 0) }
+        ensures ended { IfHasEnded result (λ reply. reply ≡ nothing_yet) }
         ensures grows { IsPrefix self.old.world.transcript self.new.world.transcript }
     {
         // For the proof: the clauses speak of the pool.
@@ -200,10 +199,9 @@ impl Core {
         let _types = definition.types();
         let left = Some(batch);
         let so_far = Reply::none();
-        self.phase = Phase::Stopped;
-        let progress = begin_next(&mut self.engine, definition, Course { left, so_far })?;
+        let progress = begin_next(&mut self.engine, definition, Course { left, so_far });
         self.phase = phase_at(&progress);
-        Ok(progress)
+        progress
     }
 
     /// Goes on with an event for at most so many counted steps, by the pool beside which it began.

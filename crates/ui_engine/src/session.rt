@@ -126,7 +126,8 @@ impl Session {
     {
         // For the proof: some bytes denote the definition.
         let _types = verified.definition().types();
-        match begin(alloc, verified.definition(), &pool) {
+        let depth = verified.depth();
+        match begin(alloc, verified.definition(), depth, &pool) {
             Ok(beginning) => Ok(build(verified, pool, beginning)),
             Err(fault) => Err(Refused {
                 fault,

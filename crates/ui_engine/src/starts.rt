@@ -1,6 +1,6 @@
 //! How sessions begin: the pool is matched, and an engine is made that knows it.
 
-ghost use Rattle.std.specs.Prelude.{◌≡◌, [], ◌∷◌, ◌++◌, codes, map, Some, IfErr, IfOk, OnOk};
+ghost use Rattle.std.specs.Prelude.{◌≡◌, ◌+◌, ◌*◌, [], ◌∷◌, ◌++◌, codes, map, vec_capacity, Some, IfErr, IfOk, OnOk};
 ghost use Rattle.ui_machine.specs.Output.Lines as lines;
 ghost use Rattle.ui_machine.specs.Runs.{first_world};
 ghost use Rattle.ui_machine.specs.State.Config.{said};
@@ -13,11 +13,13 @@ ghost use Rattle.engine_world.specs.View.{world_of};
 ghost use Rattle.engine_pools.specs.Dispatched.{IsAtRest};
 ghost use Rattle.ui_engine.specs.BuildBegins.{IsBegun};
 ghost use Rattle.ui_engine.specs.SessionView.{IsWhy};
+ghost use Rattle.verified.specs.Told.{IsDepth};
 
 use crate::faults::StartFault;
 use definitions::Definition;
 use engine_tasks::forward_references::forward_references;
 use engine_world::engine::Engine;
+use engine_world::reserves::Room;
 use engine_world::seats::Seats;
 use engine_world::task::ForwardReferences;
 use engine_world::weak_slots::weak_slots;
@@ -25,6 +27,7 @@ use native_peers::{MatchFault, Peer, PeerPool};
 use needed_peers::needs::needs;
 use needed_peers::seats::seats;
 use std::alloc::{AllocError, Global};
+use ui_machine::ProgramId;
 
 /// What a build begins with.
 #[derive(Drop)]
@@ -42,29 +45,62 @@ fn announce(engine: &mut Engine) -> Result<(), AllocError>
     engine.world.say(line)
 }
 
-// An engine that has built nothing, knows these peers, and has said the line with which the build begins.
-fn first_engine(alloc: Global, definition: &Definition, seats: Seats) -> Result<Engine, AllocError>
+// An engine that has built nothing, knows these peers, has so much room, and has said the line with which the build begins.
+fn first_engine(
+    alloc: Global,
+    definition: &Definition,
+    seats: Seats,
+    room: Room,
+) -> Result<Engine, AllocError>
     ensures rests { IfOk result (IsAtRest definition.now) }
     ensures world { IfOk result (λ engine. world_of engine.world ≡ said definition.now (first_world definition.now seats) lines.build) }
+    ensures room { IfOk result (λ engine. vec_capacity engine.stack.tasks ≡ room.tasks) }
 {
     let weak = weak_slots(alloc, definition)?;
     let got_peers = vec![in alloc; 0; definition.place_count()]?;
-    let mut engine = Engine::new(alloc, weak, definition.limits(), seats, got_peers);
+    let limits = definition.limits();
+    let mut engine = Engine::new(alloc, weak, limits, seats, got_peers, room)?;
     announce(&mut engine)?;
     Ok(engine)
 }
 
-// What a build begins with, with an engine that knows these peers.
+// How many registers a program has at most.
+fn most_registers(definition: &Definition) -> usize {
+    let mut most = 0;
+    for number in 0..ProgramId::MAX {
+        let Some(program) = definition.program(number) else {
+            return most;
+        };
+        most = most.max(program.registers);
+    }
+    most
+}
+
+// The room for runs of so many frames. Between two of them is one task at most, and a step puts two tasks where one was.
+fn room_for(definition: &Definition, depth: u32) -> Room
+    ensures { result.tasks ≡ 2 * depth + 4 }
+{
+    let frames = depth as usize;
+    Room {
+        tasks: 2 * frames + 4,
+        frames,
+        width: most_registers(definition),
+    }
+}
+
+// What a build begins with, with an engine that knows these peers and has so much room.
 fn first_beginning(
     alloc: Global,
     definition: &Definition,
     seats: Seats,
+    room: Room,
 ) -> Result<Beginning, AllocError>
     ensures rests { IfOk result (λ b. IsAtRest definition.now b.engine) }
     ensures world { IfOk result (λ b. world_of b.engine.world ≡ said definition.now (first_world definition.now seats) lines.build) }
     ensures forwards { IfOk result (λ b. map item_of b.forwards ≡ forward_items 0 definition.now.places) }
+    ensures room { IfOk result (λ b. vec_capacity b.engine.stack.tasks ≡ room.tasks) }
 {
-    let engine = first_engine(alloc, definition, seats)?;
+    let engine = first_engine(alloc, definition, seats, room)?;
     let forwards = forward_references(alloc, definition)?;
     Ok(Beginning { engine, forwards })
 }
@@ -93,7 +129,7 @@ fn fault_of(alloc: Global, fault: MatchFault<'_>) -> Result<StartFault, AllocErr
     }
 }
 
-/// What the build of a definition begins with, whose pool matches.
+/// What the build of a definition begins with, whose pool matches. So many are the most frames of its runs.
 ///
 /// # Errors
 ///
@@ -101,8 +137,10 @@ fn fault_of(alloc: Global, fault: MatchFault<'_>) -> Result<StartFault, AllocErr
 pub(crate) fn begin(
     alloc: Global,
     definition: &Definition,
+    depth: u32,
     pool: &PeerPool,
 ) -> Result<Beginning, StartFault>
+    requires depth { IsDepth definition.now depth }
     ensures begun { IfOk result (IsBegun definition.now (seen (λ p. (⟦<dyn Peer as Peer>⟧ p.peer.vtable).state p.peer.value) (entries pool.now))) }
     ensures why { IfErr result (λ fault. IsWhy fault (mismatch definition.now (as_peers (seen (λ p. (⟦<dyn Peer as Peer>⟧ p.peer.vtable).state p.peer.value) (entries pool.now))))) }
 {
@@ -111,6 +149,6 @@ pub(crate) fn begin(
         return Err(fault_of(alloc, fault)?);
     }
     let seats = seats(alloc, pool, needs.as_slice())?;
-    let beginning = first_beginning(alloc, definition, seats)?;
+    let beginning = first_beginning(alloc, definition, seats, room_for(definition, depth))?;
     Ok(beginning)
 }

@@ -58,7 +58,7 @@ returns-clause-step c =
     ∙ ap (λ (b : Bool). Emitting (emission_of (collects s.accumulator given w) args c.args.by_event) (entries_to_come (collects s.accumulator given w) hs (cond b (at.Due []) c.args.transfers)) ∷ agenda_of d e) (sym c.collect-is_last.ensures.last)
     ∙ ap (λ (u : Walk). Emitting (emission_of u args c.args.by_event) (entries_to_come u hs (cond c.collect-is_last.result (at.Due []) c.args.transfers)) ∷ agenda_of d e) (sym c.collect-is_last.ensures.taken)
     ∙ ap (λ (ts : Transfers). Emitting (emission_of c.collect-is_last.new.cursor args c.args.by_event) (entries_to_come c.collect-is_last.new.cursor hs ts) ∷ agenda_of d e) (sym c.unless_stopped-left.ensures)
-    ∙ sym (c.in_ok-push.ensures.tasks d hs))
+    ∙ sym (c.push.ensures.tasks d hs))
 
 pub returns-clause-counted : goal.returns-clause-counted
 returns-clause-counted c taken h =
@@ -71,8 +71,8 @@ returns-clause-counted c taken h =
     let given = option_map value_view c.args.given in
     let object = ap (λ (u : Walk). u.object) c.collect-is_last.ensures.taken ∙ collects_object w hs args c.args.by_event s.accumulator given in
     collected_counts d e c.collect-is_last.new.table c.push.new.self taken (emission_of w args c.args.by_event) (emission_of c.collect-is_last.new.cursor args c.args.by_event) _ c.collect-is_last.ensures.only
-    c.collect-is_last.ensures.counts object refl (c.in_ok-push.ensures.tasks d hs)
-    (c.in_ok-push.ensures.begun e.world.handlers.last (
+    c.collect-is_last.ensures.counts object refl (c.push.ensures.tasks d hs)
+    (c.push.ensures.begun e.world.handlers.last (
       still_begun e.world.handlers.last w (option_map accumulator_of c.in-Some.signal.accumulator) given c.collect-is_last.new.cursor c.collect-is_last.ensures.taken c.requires.begun,
       rw (c.unless_stopped-left.ensures, c.collect-is_last.ensures.taken, c.collect-is_last.ensures.last) (still_ends w hs args c.args.by_event c.args.transfers c.requires.ends s.accumulator given),
     )) h

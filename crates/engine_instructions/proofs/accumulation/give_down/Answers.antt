@@ -30,8 +30,8 @@ returns-in_default-clause-counted c =
     let none = c.in_default.ensures.tasks d c.args.engine.now.world.handlers.handlers in
     stack_same d c.args.engine.now c.pop.new.self (none.1 ∙ sym none.0) c.in_default.ensures.begun
 
-pub returns-in_ok-push-in_default-task-clause-step : goal.returns-in_ok-push-in_default-task-clause-step
-returns-in_ok-push-in_default-task-clause-step c =
+pub returns-in_default-task-clause-step : goal.returns-in_default-task-clause-step
+returns-in_default-task-clause-step c =
     let d = c.args.definition.now in
     let e = c.args.engine.now in
     let hs = e.world.handlers.handlers in
@@ -39,7 +39,7 @@ returns-in_ok-push-in_default-task-clause-step c =
     let rest = tasks_of d hs c.pop.new.self in
     let given = option_map value_view c.args.given in
     gives_nothing d (world_of e.world) given (agenda_of d e) _ (task_of d hs t ∷ rest)
-    (c.in-Some.ensures.tasks d hs) (c.in_ok-push-in_default-task.ensures.tasks d hs) (gives_other d hs (world_of e.world) rest t given (other t refl)) c.requires.able
+    (c.in-Some.ensures.tasks d hs) (c.push.ensures.tasks d hs) (gives_other d hs (world_of e.world) rest t given (other t refl)) c.requires.able
   where
     other : (t : code.Task) → c.in-Some.task ≡ t → TakesNone t
     other (tasks.Emitting cursor args by_event transfers) is = absurd (c.in_default-task.not-Emitting cursor args by_event transfers is)
@@ -60,13 +60,13 @@ returns-in_ok-push-in_default-task-clause-step c =
     other (tasks.Due source) is = tt
     other (tasks.Handling event) is = tt
 
-pub returns-in_ok-push-in_default-task-clause-counted : goal.returns-in_ok-push-in_default-task-clause-counted
-returns-in_ok-push-in_default-task-clause-counted c =
+pub returns-in_default-task-clause-counted : goal.returns-in_default-task-clause-counted
+returns-in_default-task-clause-counted c =
     let d = c.args.definition.now in
     let e = c.args.engine.now in
     let hs = e.world.handlers.handlers in
-    stack_same d e c.push.new.self (c.in_ok-push-in_default-task.ensures.tasks d hs ∙ sym (c.in-Some.ensures.tasks d hs))
-    (λ last h. c.in_ok-push-in_default-task.ensures.begun last (c.in-Some.ensures.first last h) (c.in-Some.ensures.begun last h))
+    stack_same d e c.push.new.self (c.push.ensures.tasks d hs ∙ sym (c.in-Some.ensures.tasks d hs))
+    (λ last h. c.push.ensures.begun last (c.in-Some.ensures.first last h) (c.in-Some.ensures.begun last h))
 
 pub accumulate-requires : goal.accumulate-requires
 accumulate-requires c =
@@ -86,6 +86,7 @@ accumulate-requires c =
           counted_may d e c.in-Emitting.cursor.value c.never_full.ensures.room c.never_full.ensures.dead c.requires.counted (λ o. omega (arith, c.requires.held.at o, first o, emission o));
       begun = known.0;
       ends = known.1;
+      room = let free = c.in-Some.ensures.free in omega (arith, free);
     }
 
 pub returns-in-Emitting-clause-step : goal.returns-in-Emitting-clause-step
@@ -96,8 +97,7 @@ returns-in-Emitting-clause-step c =
     let rest = tasks_of d hs c.pop.new.self in
     let given = option_map value_view c.args.given in
     let first = c.in-Some.ensures.tasks d hs ∙ ap (λ (t : code.Task). task_of d hs t ∷ rest) c.in-Emitting.is in
-    subst (λ (ts : List Task). Leads c.accumulate.result (given_down d (world_of e.world) ts given) (record { world = world_of c.accumulate.new.engine.world; agenda = agenda_of d c.accumulate.new.engine }))
-    (sym first) c.accumulate.ensures.step
+    ap (λ (ts : List Task). given_down d (world_of e.world) ts given) first ∙ c.accumulate.ensures.step
 
 pub returns-in-Emitting-clause-counted : goal.returns-in-Emitting-clause-counted
 returns-in-Emitting-clause-counted c =
@@ -107,7 +107,7 @@ returns-in-Emitting-clause-counted c =
     let rest = tasks_of d hs c.pop.new.self in
     let first = c.in-Some.ensures.tasks d hs ∙ ap (λ (t : code.Task). task_of d hs t ∷ rest) c.in-Emitting.is in
     let m = emission_of c.in-Emitting.cursor c.in-Emitting.args.items c.in-Emitting.by_event in
-    on_ok c.accumulate.result (λ f. record { at = λ taken h. f taken (popped_emission d e c.pop.new.self taken m (entries_to_come c.in-Emitting.cursor hs c.in-Emitting.transfers) first c.in-Some.ensures.begun h) }) c.accumulate.ensures.counted
+    record { at = λ taken h. c.accumulate.ensures.counted taken (popped_emission d e c.pop.new.self taken m (entries_to_come c.in-Emitting.cursor hs c.in-Emitting.transfers) first c.in-Some.ensures.begun h) }
 
 pub answer-requires-clause-able : goal.answer-requires-clause-able
 answer-requires-clause-able c =

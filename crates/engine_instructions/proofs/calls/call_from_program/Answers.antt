@@ -31,7 +31,7 @@ push_task-requires-clause-may c =
     let due = call_of c.in_ok-due.due in
     let f = frame_view c.args.frame in
     let names = begun_names e.counted (agenda_of d e) _ w (Calling due) f (calls d w f call.to.0 call.object.0 (string_bytes call.method) (map number_of call.args.items) due c.in_ok-due.ensures) c.requires.names in
-    pushes_living d b _ (all_counted d b (frame_held d e b f (c.in_ok-push_frame.ensures.counted d) c.requires.counted))
+    pushes_living d b _ (all_counted d b (frame_held d e b f (c.push_frame.ensures.counted d) c.requires.counted))
     (λ _ o held. lives_pushed d e b f c.push_frame.ensures.beside o (call_lives w due o names held))
 
 pub returns-clause-step : goal.returns-clause-step
@@ -46,11 +46,11 @@ returns-clause-step c =
     started_left e.counted (agenda_of d e) _ w (Calling due ∷ []) f _ _ _
     (calls d w f call.to.0 call.object.0 (string_bytes call.method) (map number_of call.args.items) due c.in_ok-due.ensures)
     (c.push_task.ensures.world ∙ world_pushed d e b f c.push_frame.ensures.beside)
-    (c.in_ok-push_task.ensures.agenda d ∙ ap (λ (ts : List Task). Calling due ∷ ts) (c.in_ok-push_frame.ensures.agenda d))
+    (c.push_task.ensures.agenda d ∙ ap (λ (ts : List Task). Calling due ∷ ts) (c.push_frame.ensures.agenda d))
     (c.push_task.ensures.same ∙ count_pushed d e b f c.push_frame.ensures.beside)
 
 pub returns-clause-counted : goal.returns-clause-counted
 returns-clause-counted c =
     let d = c.args.definition.now in
-    (c.in_ok-push_task.ensures.counted d).at nothing
-    (frame_held d c.args.engine.now c.push_frame.new.engine (frame_view c.args.frame) (c.in_ok-push_frame.ensures.counted d) c.requires.counted)
+    (c.push_task.ensures.counted d).at nothing
+    (frame_held d c.args.engine.now c.push_frame.new.engine (frame_view c.args.frame) (c.push_frame.ensures.counted d) c.requires.counted)

@@ -19,18 +19,18 @@ unreachable-requires c =
     c.object_in-object.result.0 c.object_in-object.ensures in
     no_arm _ _ able (sym (rw c.as_str-name.ensures.value at c.in_default.ensures.called))
 
-pub values_at-requires : goal.values_at-requires
-values_at-requires c =
+pub copy_values-requires-clause-set : goal.copy_values-requires-clause-set
+copy_values-requires-clause-set c =
     let f = frame_view c.args.frame.now in
     let call = c.args.call.now in
     let able = values_able c.args.definition.now (world_of c.args.engine.now.world) f call.to.0 call.object.0 (string_bytes call.method) (map number_of call.args.items) c.requires.able
     c.object_in-object.result.0 c.object_in-object.ensures (called_view c.in-Some.called) (rw c.as_str-name.ensures.value at c.in-Some.ensures.called) in
-    record { set = rw c.as_slice-from.ensures.value (all_set f call.args.items _ (ap registers_of (sym c.as_slice-registers.ensures.value)) able) }
+    rw c.as_slice-from.ensures.value (all_set f call.args.items _ (ap registers_of (sym c.as_slice-registers.ensures.value)) able)
 
 pub returns : goal.returns
 returns c =
     let f = frame_view c.args.frame.now in
     let call = c.args.call.now in
-    let read = rw c.as_slice-from.ensures.value at (c.in_ok-args.ensures f (ap registers_of (sym c.as_slice-registers.ensures.value))) in
+    let read = rw c.as_slice-from.ensures.value at (c.in_ok-copy_values.ensures f (ap registers_of (sym c.as_slice-registers.ensures.value))) in
     is_due c.args.definition.now (world_of c.args.engine.now.world) f call.to.0 call.object.0 (string_bytes call.method) (map number_of call.args.items) c.requires.able
     c.object_in-object.result.0 c.object_in-object.ensures (called_view c.in-Some.called) (rw c.as_str-name.ensures.value at c.in-Some.ensures.called) _ read

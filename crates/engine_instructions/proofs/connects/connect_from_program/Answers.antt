@@ -34,17 +34,8 @@ write_register-requires c =
           c.is_connected-is_connected.result c.is_connected-is_connected.ensures c.requires.able;
       names = refl;
       counted = c.in_ok-outcome.ensures.counted.at _ c.requires.counted;
+      room = rw c.connect_handler.ensures.stack c.requires.room;
     }
-
-pub returns-in_err-write_register-clause-quiet : goal.returns-in_err-write_register-clause-quiet
-returns-in_err-write_register-clause-quiet c =
-    let p = err_from_is_err_and c.from_residual-in_err-write_register.result c.from_residual-in_err-write_register.ensures.1 in
-    let w = world_of c.args.engine.now.world in
-    let m = world_of c.connect_handler.new.engine.world in
-    rw p.1
-    (quiet_on w m (world_of c.write_register.new.engine.world)
-    (subst (λ (v : World). IsQuiet w v) (sym c.in_ok-outcome.ensures.world) (left_quiet c.in_ok-outcome.outcome w (connection_of c.in_ok-connection.connection)))
-    c.in_err-write_register.ensures.quiet)
 
 pub returns-then-not-is_full-clause-step : goal.returns-then-not-is_full-clause-step
 returns-then-not-is_full-clause-step c =
@@ -57,9 +48,9 @@ returns-then-not-is_full-clause-step c =
     let o = c.in_ok-outcome.outcome in
     let quiet : is_full o ≡ false = sym c.if-not-is_full.ensures in
     let world = connect_world_behind d e m f c.args.to.0 c.args.object.0 k x o c.in_ok-connection.ensures.connection c.in_ok-outcome.ensures.outcome c.in_ok-outcome.ensures.agenda c.connect_handler.ensures.same
-    c.is_connected-is_connected.result c.is_connected-is_connected.ensures c.write_register.new.engine c.in_ok-write_register.ensures.step in
+    c.is_connected-is_connected.result c.is_connected-is_connected.ensures c.write_register.new.engine c.write_register.ensures.step in
     connect_written d e m f c.args.to.0 c.args.object.0 k x o c.in_ok-connection.ensures.connection c.in_ok-outcome.ensures.outcome c.in_ok-outcome.ensures.agenda c.connect_handler.ensures.same
-    c.is_connected-is_connected.result c.is_connected-is_connected.ensures c.write_register.new.engine c.write_register.new.engine c.in_ok-write_register.ensures.step
+    c.is_connected-is_connected.result c.is_connected-is_connected.ensures c.write_register.new.engine c.write_register.new.engine c.write_register.ensures.step
     (world ∙ c.in_ok-outcome.ensures.world ∙ sym (told_quietly d o (world_of e.world) x quiet)) refl refl
 
 pub returns-clause-step : goal.returns-clause-step
@@ -73,9 +64,9 @@ returns-clause-step c =
     let o = c.in_ok-outcome.outcome in
     let full : is_full o ≡ true = sym c.if-not-is_full.ensures in
     let world = connect_world_behind d e m f c.args.to.0 c.args.object.0 k x o c.in_ok-connection.ensures.connection c.in_ok-outcome.ensures.outcome c.in_ok-outcome.ensures.agenda c.connect_handler.ensures.same
-    c.is_connected-is_connected.result c.is_connected-is_connected.ensures c.write_register.new.engine c.in_ok-write_register.ensures.step in
+    c.is_connected-is_connected.result c.is_connected-is_connected.ensures c.write_register.new.engine c.write_register.ensures.step in
     connect_written d e m f c.args.to.0 c.args.object.0 k x o c.in_ok-connection.ensures.connection c.in_ok-outcome.ensures.outcome c.in_ok-outcome.ensures.agenda c.connect_handler.ensures.same
-    c.is_connected-is_connected.result c.is_connected-is_connected.ensures c.write_register.new.engine c.say_limit.new.engine c.in_ok-write_register.ensures.step
+    c.is_connected-is_connected.result c.is_connected-is_connected.ensures c.write_register.new.engine c.say_limit.new.engine c.write_register.ensures.step
     (c.in_ok-say_limit.ensures.ok ∙ ap (λ (w : World). said d w (lines.limit (codes "connect"))) (world ∙ c.in_ok-outcome.ensures.world) ∙ sym (told_full d o (world_of e.world) x full))
     (same_agenda d c.write_register.new.engine c.say_limit.new.engine c.say_limit.ensures.same.0 c.say_limit.ensures.handlers) c.say_limit.ensures.same.1
 
@@ -87,10 +78,10 @@ returns-in_err-say_limit-clause-quiet c =
     let x = connection_of c.in_ok-connection.connection in
     let o = c.in_ok-outcome.outcome in
     let world = connect_world_behind d e c.connect_handler.new.engine (frame_view c.args.frame) c.args.to.0 c.args.object.0 k x o c.in_ok-connection.ensures.connection c.in_ok-outcome.ensures.outcome c.in_ok-outcome.ensures.agenda c.connect_handler.ensures.same
-    c.is_connected-is_connected.result c.is_connected-is_connected.ensures c.write_register.new.engine c.in_ok-write_register.ensures.step in
+    c.is_connected-is_connected.result c.is_connected-is_connected.ensures c.write_register.new.engine c.write_register.ensures.step in
     let p = err_from_is_err_and c.from_residual-in_err-say_limit.result c.from_residual-in_err-say_limit.ensures.1 in
     rw p.1
     (subst (λ (v : World). IsQuiet (world_of e.world) v) (sym (c.in_err-say_limit.ensures.err ∙ world ∙ c.in_ok-outcome.ensures.world)) (left_quiet o (world_of e.world) x))
 
 pub returns-clause-counted : goal.returns-clause-counted
-returns-clause-counted c = c.in_ok-say_limit.ensures.counted.at nothing c.in_ok-write_register.ensures.counted
+returns-clause-counted c = c.in_ok-say_limit.ensures.counted.at nothing c.write_register.ensures.counted

@@ -16,7 +16,7 @@ pub new_emission-requires : goal.new_emission-requires
 new_emission-requires c =
     let d = c.args.definition.now in
     let e = c.args.engine.now in
-    record { able = emission_able d (world_of e.world) (frame_view c.args.frame) c.args.object.0 (emit_of c.args.emit) e.counted (agenda_of d e) c.requires.able }
+    record { able = emission_able d (world_of e.world) (frame_view c.args.frame) c.args.object.0 (emit_of c.args.emit) e.counted (agenda_of d e) c.requires.able; none = c.take-args.ensures }
 
 pub push_task-requires-clause-may : goal.push_task-requires-clause-may
 push_task-requires-clause-may c =
@@ -27,7 +27,7 @@ push_task-requires-clause-may c =
     let m = new_of c.in_ok-emission.emission in
     let f = record (frame_view c.args.frame) { into = (emit_of c.args.emit).into } in
     let names = begun_names e.counted (agenda_of d e) _ w (Beginning m) f (emission_begins d w (frame_view c.args.frame) c.args.object.0 (emit_of c.args.emit) m c.in_ok-emission.ensures) c.requires.names in
-    pushes_living d b _ (all_counted d b (frame_held d e b f (c.in_ok-push_frame.ensures.counted d) c.requires.counted))
+    pushes_living d b _ (all_counted d b (frame_held d e b f (c.push_frame.ensures.counted d) c.requires.counted))
     (λ _ o held. lives_pushed d e b f c.push_frame.ensures.beside o (emission_lives w o m names held))
 
 pub returns-clause-step : goal.returns-clause-step
@@ -41,12 +41,12 @@ returns-clause-step c =
     started_left e.counted (agenda_of d e) _ w (Beginning m ∷ []) f _ _ _
     (emission_begins d w (frame_view c.args.frame) c.args.object.0 (emit_of c.args.emit) m c.in_ok-emission.ensures)
     (c.push_task.ensures.world ∙ world_pushed d e b f c.push_frame.ensures.beside)
-    (c.in_ok-push_task.ensures.agenda d ∙ ap (λ (ts : List Task). Beginning m ∷ ts) (c.in_ok-push_frame.ensures.agenda d))
+    (c.push_task.ensures.agenda d ∙ ap (λ (ts : List Task). Beginning m ∷ ts) (c.push_frame.ensures.agenda d))
     (c.push_task.ensures.same ∙ count_pushed d e b f c.push_frame.ensures.beside)
 
 pub returns-clause-counted : goal.returns-clause-counted
 returns-clause-counted c =
     let d = c.args.definition.now in
     let f = record (frame_view c.args.frame) { into = (emit_of c.args.emit).into } in
-    (c.in_ok-push_task.ensures.counted d).at nothing
-    (frame_held d c.args.engine.now c.push_frame.new.engine f (c.in_ok-push_frame.ensures.counted d) c.requires.counted)
+    (c.push_task.ensures.counted d).at nothing
+    (frame_held d c.args.engine.now c.push_frame.new.engine f (c.push_frame.ensures.counted d) c.requires.counted)

@@ -19,13 +19,13 @@ detail_in-requires c =
     c.object_in-object.result.0 c.signal_in-signal.result c.object_in-object.ensures c.signal_in-signal.ensures in
     record { able = able }
 
-pub values_at-requires : goal.values_at-requires
-values_at-requires c =
+pub copy_values-requires-clause-set : goal.copy_values-requires-clause-set
+copy_values-requires-clause-set c =
     let f = frame_view c.args.frame.now in
     let told = c.in_ok-detail.ensures in
     let able = args_able c.args.definition.now (world_of c.args.engine.now.world) f c.args.object.0 (emit_of c.args.emit) c.requires.able
     c.object_in-object.result.0 c.signal_in-signal.result c.object_in-object.ensures c.signal_in-signal.ensures _ told in
-    record { set = all_set f c.args.emit.args.now _ (ap registers_of (sym c.as_slice-registers.ensures.value)) able }
+    all_set f c.args.emit.args.now _ (ap registers_of (sym c.as_slice-registers.ensures.value)) able
 
 pub returns : goal.returns
 returns c =
@@ -33,4 +33,4 @@ returns c =
     let told = c.in_ok-detail.ensures in
     emission_so c.args.definition.now (world_of c.args.engine.now.world) f c.args.object.0 (emit_of c.args.emit) c.requires.able
     c.object_in-object.result.0 c.signal_in-signal.result c.object_in-object.ensures c.signal_in-signal.ensures _ told _
-    (c.in_ok-args.ensures f (ap registers_of (sym c.as_slice-registers.ensures.value)))
+    (c.in_ok-copy_values.ensures f (ap registers_of (sym c.as_slice-registers.ensures.value)))

@@ -1,4 +1,4 @@
-use Rattle.std.proofs.Common.{Bool, List, Option, None, Some, true, false, ap, subst, sym, ◌∙◌}
+use Rattle.std.proofs.Common.{Bool, List, Option, None, Some, true, false, ap, sym, ◌∙◌}
 use Rattle.ui_machine.specs.Instructions.{in_front}
 use Rattle.ui_machine.specs.Outcome.{Answer}
 use Rattle.ui_machine.specs.Seq.{read}
@@ -8,11 +8,9 @@ use Rattle.g_values.specs.declared.value.Value.{Value}
 use Rattle.bytecode.specs.Computing.{registers_of}
 use Rattle.frames.specs.Computing.{of_one, truth_of}
 use Rattle.frames.specs.FrameView.{frame_view}
-use Rattle.engine_world.specs.EngineView.{config_of}
 use Rattle.engine_world.specs.TaskView.{agenda_of}
 use Rattle.engine_world.specs.View.{world_of}
 use Rattle.engine_instructions.proofs.Jumping.{branches, no_truth, stuck_left}
-use Rattle.engine_world.specs.Able.{Leads}
 use Rattle.engine_world.proofs.Ableness.{able_as, no_arm}
 use Rattle.engine_instructions.proofs.jumps.branch.Goals as goal
 
@@ -42,13 +40,11 @@ returns-then-truth-clause-step c =
     let d = c.args.definition.now in
     let e = c.args.engine.now in
     let some = ap (λ (rs : List (Option Value)). of_one truth_of (read None (registers_of rs) c.args.on.0)) (sym c.as_slice.ensures.value) ∙ sym c.in-Some.ensures ∙ ap (λ (b : Bool). Some b) c.if-truth.true in
-    subst (λ (a : Answer Started). Leads c.jump.result (left e.counted (in_front (agenda_of d e) a)) (config_of d c.jump.new.engine))
-    (sym (branches d (world_of e.world) (frame_view c.args.frame) c.args.on.0 c.args.then_to.0 c.args.else_to.0 true some)) c.jump.ensures.step
+    ap (λ (a : Answer Started). left e.counted (in_front (agenda_of d e) a)) (branches d (world_of e.world) (frame_view c.args.frame) c.args.on.0 c.args.then_to.0 c.args.else_to.0 true some) ∙ c.jump.ensures.step
 
 pub returns-clause-step : goal.returns-clause-step
 returns-clause-step c =
     let d = c.args.definition.now in
     let e = c.args.engine.now in
     let some = ap (λ (rs : List (Option Value)). of_one truth_of (read None (registers_of rs) c.args.on.0)) (sym c.as_slice.ensures.value) ∙ sym c.in-Some.ensures ∙ ap (λ (b : Bool). Some b) c.if-truth.false in
-    subst (λ (a : Answer Started). Leads c.jump-2.result (left e.counted (in_front (agenda_of d e) a)) (config_of d c.jump-2.new.engine))
-    (sym (branches d (world_of e.world) (frame_view c.args.frame) c.args.on.0 c.args.then_to.0 c.args.else_to.0 false some)) c.jump-2.ensures.step
+    ap (λ (a : Answer Started). left e.counted (in_front (agenda_of d e) a)) (branches d (world_of e.world) (frame_view c.args.frame) c.args.on.0 c.args.then_to.0 c.args.else_to.0 false some) ∙ c.jump-2.ensures.step

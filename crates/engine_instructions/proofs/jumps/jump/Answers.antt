@@ -28,7 +28,7 @@ returns-clause-counted c =
     let e = c.args.engine.now in
     let f = frame_view c.args.frame in
     let kept = jump_keeps c.args.to.0 f (frame_view c.jump.new.self) (slice_get (program_view c.args.program.now).blocks c.args.to.0) c.jump.ensures in
-    c.in_ok-push_frame.ensures.counted d nothing (taken_alike d e (λ o. in_frame o f) _ (λ o. omega (arith, ap (λ (rs : Registers). total (in_register o) rs) kept)) c.requires.counted)
+    c.push_frame.ensures.counted d nothing (taken_alike d e (λ o. in_frame o f) _ (λ o. omega (arith, ap (λ (rs : Registers). total (in_register o) rs) kept)) c.requires.counted)
 
 pub returns-clause-step : goal.returns-clause-step
 returns-clause-step c =
@@ -36,4 +36,4 @@ returns-clause-step c =
     let e = c.args.engine.now in
     goes_on_left d e c.push_frame.new.engine (frame_view c.jump.new.self) _
     (jumps d (world_of e.world) (frame_view c.args.frame) (program_view c.args.program.now) c.requires.program c.args.to.0 (frame_view c.jump.new.self) c.jump.ensures)
-    c.push_frame.ensures.beside (c.in_ok-push_frame.ensures.agenda d)
+    c.push_frame.ensures.beside (c.push_frame.ensures.agenda d)

@@ -30,7 +30,7 @@ returns-clause-step c =
     pruned_left e.counted (agenda_of d e) _ w f _ _ _
     (matched_goes d (world_of e.world) f c.args.object.0 c.args.program.now disconnected (matched_of c.matched_in-matched.result) c.matched_in-matched.ensures)
     (ap (λ (x : Engine). world_of x.world) beside ∙ c.disconnect.ensures.world)
-    (c.in_ok-push_frame.ensures.agenda d ∙ ap (λ (ts : List Task). Running f ∷ ts) (c.disconnect.ensures.agenda ∙ ap (λ (v : World). map (pruned (gone_handlers v)) (agenda_of d e)) c.disconnect.ensures.world))
+    (c.push_frame.ensures.agenda d ∙ ap (λ (ts : List Task). Running f ∷ ts) (c.disconnect.ensures.agenda ∙ ap (λ (v : World). map (pruned (gone_handlers v)) (agenda_of d e)) c.disconnect.ensures.world))
     (ap (λ (x : Engine). x.counted) beside ∙ c.disconnect.ensures.same)
 
 pub returns-clause-counted : goal.returns-clause-counted
@@ -38,5 +38,5 @@ returns-clause-counted c =
     let d = c.args.definition.now in
     let e = c.args.engine.now in
     let f = frame_view c.args.frame in
-    c.in_ok-push_frame.ensures.counted d nothing
+    c.push_frame.ensures.counted d nothing
     (taken_alike d c.disconnect.new.engine (λ o. in_frame o f) (λ o. nothing o + in_frame o f) (λ o. omega arith) (c.disconnect.ensures.counted.at _ c.requires.counted))

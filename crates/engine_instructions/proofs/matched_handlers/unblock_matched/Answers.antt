@@ -28,7 +28,7 @@ returns-clause-step c =
     going_left e.counted (agenda_of d e) _ _ f _ _ _
     (matched_goes d (world_of e.world) f c.args.object.0 c.args.program.now (with_handlers_on unblocked) (matched_of c.matched_in-matched.result) c.matched_in-matched.ensures)
     (ap (λ (x : Engine). world_of x.world) beside ∙ c.unblock.ensures.world)
-    (c.in_ok-push_frame.ensures.agenda d ∙ ap (λ (ts : List Task). Running f ∷ ts) c.unblock.ensures.agenda)
+    (c.push_frame.ensures.agenda d ∙ ap (λ (ts : List Task). Running f ∷ ts) c.unblock.ensures.agenda)
     (ap (λ (x : Engine). x.counted) beside ∙ c.unblock.ensures.same)
 
 pub returns-clause-counted : goal.returns-clause-counted
@@ -36,5 +36,5 @@ returns-clause-counted c =
     let d = c.args.definition.now in
     let e = c.args.engine.now in
     let f = frame_view c.args.frame in
-    c.in_ok-push_frame.ensures.counted d nothing
+    c.push_frame.ensures.counted d nothing
     (taken_alike d c.unblock.new.engine (λ o. in_frame o f) (λ o. nothing o + in_frame o f) (λ o. omega arith) (c.unblock.ensures.counted.at _ c.requires.counted))

@@ -70,6 +70,7 @@ create_at-requires c =
       peer = subst (λ (p : Option ℕ). IfSome p (λ number. number < length c.args.engine.now.world.seats)) (sym c.number.ensures) c.new_peer-peer.ensures.within;
       identity = identity_left d w (to_make (agenda_of d e)) there room;
       counted = c.requires.counted;
+      room = c.requires.room;
     }
 
 pub returns-clause-step : goal.returns-clause-step

@@ -1,4 +1,5 @@
-use Rattle.std.proofs.Common.{◌≡◌, ◌<◌, ℕ, IfSome, IsSome, List, Option, length, false, ap, subst, sym, ◌∙◌}
+use Rattle.engine_world.specs.declared.task.Stack.{Stack}
+use Rattle.std.proofs.Common.{◌≡◌, ◌<◌, ℕ, IfSome, IsSome, List, Option, length, false, ap, subst, sym, ◌∙◌, arith, vec_len, vec_capacity}
 use Rattle.std.proofs.lemmas.Result.{err_from_is_err_and}
 use Rattle.ui_machine.specs.Definition.Values as values
 use Rattle.ui_machine.specs.Definition.Values.{Value}
@@ -42,12 +43,8 @@ write_register-requires c =
           (c.object_value.ensures ∙ ap (λ n. values.object (Some n)) c.in_ok-new.ensures.identity) c.requires.able;
       names = subst (λ (v : Value). NamesLiving (world_of m.world) v) (sym c.object_value.ensures) c.in_ok-new.ensures.live;
       counted = c.in_ok-new.ensures.counted.at _ c.requires.counted;
+      room = rw c.make.ensures.same.0 (let has = c.requires.room in omega (arith, has));
     }
-
-pub returns-in_err-write_register-clause-quiet : goal.returns-in_err-write_register-clause-quiet
-returns-in_err-write_register-clause-quiet c =
-    let p = err_from_is_err_and c.from_residual-in_err-write_register.result c.from_residual-in_err-write_register.ensures.1 in
-    rw p.1 (quiet_on (world_of c.args.engine.now.world) (world_of c.make.new.engine.world) (world_of c.write_register.new.engine.world) c.make.ensures.quiet c.in_err-write_register.ensures.quiet)
 
 pub begin_construction-requires : goal.begin_construction-requires
 begin_construction-requires c =
@@ -57,13 +54,19 @@ begin_construction-requires c =
     let new = c.in_ok-new.new in
     let world = create_world d e m (frame_view c.args.frame) c.args.to.0 c.args.place.0 c.args.peer (begun new (world_of m.world)) (Constructing new.object.0 new.steps false)
     (value_view c.object_value.result) (c.in_ok-new.ensures.made false) (same_agenda d e m c.make.ensures.same.0 c.make.ensures.handlers) c.make.ensures.same.1
-    (c.object_value.ensures ∙ ap (λ n. values.object (Some n)) c.in_ok-new.ensures.identity) c.write_register.new.engine c.in_ok-write_register.ensures.step in
+    (c.object_value.ensures ∙ ap (λ n. values.object (Some n)) c.in_ok-new.ensures.identity) c.write_register.new.engine c.write_register.ensures.step in
     let seats : (world_of c.write_register.new.engine.world).peers ≡ (world_of e.world).peers = ap (λ (w : World). w.peers) world ∙ c.make.ensures.seats in
     record {
       peer =
           subst (λ (peer : Option ℕ). IfSome peer (λ number. number < length (world_of c.write_register.new.engine.world).peers)) (sym c.in_ok-new.ensures.peer)
           (subst (λ (ps : List Peer). IfSome c.args.peer (λ number. number < length ps)) (sym seats) c.requires.peer);
-      may = lives_held d c.write_register.new.engine new.object.0 c.in_ok-write_register.ensures.counted (subst (λ (w : World). IsSome (living w.objects new.object.0)) (sym world) c.in_ok-new.ensures.live);
+      room =
+          let stack = ap (λ (s : Stack). vec_len s.tasks) c.make.ensures.same.0 in
+          let same = ap (λ (s : Stack). vec_capacity s.tasks) c.make.ensures.same.0 in
+          let took = c.write_register.ensures.room in
+          let has = c.requires.room in
+          omega (arith, stack, same, took.0, took.1, has);
+      may = lives_held d c.write_register.new.engine new.object.0 c.write_register.ensures.counted (subst (λ (w : World). IsSome (living w.objects new.object.0)) (sym world) c.in_ok-new.ensures.live);
     }
 
 pub returns-clause-step : goal.returns-clause-step
@@ -79,8 +82,8 @@ returns-clause-step c =
     let t = Constructing new.object.0 new.steps false in
     let agenda = same_agenda d e m c.make.ensures.same.0 c.make.ensures.handlers in
     let names = c.object_value.ensures ∙ ap (λ n. values.object (Some n)) c.in_ok-new.ensures.identity in
-    let world = create_world d e m f c.args.to.0 c.args.place.0 c.args.peer u t v (c.in_ok-new.ensures.made false) agenda c.make.ensures.same.1 names mid c.in_ok-write_register.ensures.step in
-    create_written d e m f c.args.to.0 c.args.place.0 c.args.peer u t v (c.in_ok-new.ensures.made false) agenda c.make.ensures.same.1 names mid c.in_ok-write_register.ensures.step
+    let world = create_world d e m f c.args.to.0 c.args.place.0 c.args.peer u t v (c.in_ok-new.ensures.made false) agenda c.make.ensures.same.1 names mid c.write_register.ensures.step in
+    create_written d e m f c.args.to.0 c.args.place.0 c.args.peer u t v (c.in_ok-new.ensures.made false) agenda c.make.ensures.same.1 names mid c.write_register.ensures.step
     c.begin_construction.new.engine (c.in_ok-begin_construction.ensures.world ∙ ap (λ (w : World). begun new w) world) (c.in_ok-begin_construction.ensures.agenda d) c.begin_construction.ensures.same
 
 pub returns-in_err-begin_construction-clause-quiet : goal.returns-in_err-begin_construction-clause-quiet
@@ -91,7 +94,7 @@ returns-in_err-begin_construction-clause-quiet c =
     let new = c.in_ok-new.new in
     let world = create_world d e m (frame_view c.args.frame) c.args.to.0 c.args.place.0 c.args.peer (begun new (world_of m.world)) (Constructing new.object.0 new.steps false)
     (value_view c.object_value.result) (c.in_ok-new.ensures.made false) (same_agenda d e m c.make.ensures.same.0 c.make.ensures.handlers) c.make.ensures.same.1
-    (c.object_value.ensures ∙ ap (λ n. values.object (Some n)) c.in_ok-new.ensures.identity) c.write_register.new.engine c.in_ok-write_register.ensures.step in
+    (c.object_value.ensures ∙ ap (λ n. values.object (Some n)) c.in_ok-new.ensures.identity) c.write_register.new.engine c.write_register.ensures.step in
     let p = err_from_is_err_and c.from_residual-in_err-begin_construction.result c.from_residual-in_err-begin_construction.ensures.1 in
     rw p.1
     (quiet_on (world_of e.world) (world_of m.world) (world_of c.begin_construction.new.engine.world) c.make.ensures.quiet
@@ -99,4 +102,4 @@ returns-in_err-begin_construction-clause-quiet c =
     (quiet_same (world_of m.world) (world_of c.write_register.new.engine.world) world) c.in_err-begin_construction.ensures.quiet))
 
 pub returns-clause-counted : goal.returns-clause-counted
-returns-clause-counted c = (c.in_ok-begin_construction.ensures.counted c.args.definition.now).at nothing c.in_ok-write_register.ensures.counted
+returns-clause-counted c = (c.in_ok-begin_construction.ensures.counted c.args.definition.now).at nothing c.write_register.ensures.counted

@@ -55,8 +55,8 @@ join_objects-requires c = record {
       let e = c.args.engine.now in
       let f = frame_view c.args.frame in
       adopts_able d e c.write_register.new.engine f c.args.to.0 c.args.parent.0 c.args.child.0 c.object_in-parent.result.0 c.object_in-child.result.0 c.object_in-parent.ensures c.object_in-child.ensures
-      c.is_none-is_free.result (none_as _ c.is_none-is_free.result (ap is_some (sym c.refusal.ensures) ∙ c.is_none-is_free.ensures)) c.in_ok-write_register.ensures.step c.requires.able;
-  counted = record { taken = nothing; counts = c.in_ok-write_register.ensures.counted; little = λ o. omega arith };
+      c.is_none-is_free.result (none_as _ c.is_none-is_free.result (ap is_some (sym c.refusal.ensures) ∙ c.is_none-is_free.ensures)) c.write_register.ensures.step c.requires.able;
+  counted = record { taken = nothing; counts = c.write_register.ensures.counted; little = λ o. omega arith };
 }
 
 pub returns-clause-step : goal.returns-clause-step
@@ -65,7 +65,7 @@ returns-clause-step c =
     let e = c.args.engine.now in
     let f = frame_view c.args.frame in
     adopts_behind d e c.write_register.new.engine f c.args.to.0 c.args.parent.0 c.args.child.0 c.object_in-parent.result.0 c.object_in-child.result.0 c.object_in-parent.ensures c.object_in-child.ensures
-    c.is_none-is_free.result (none_as _ c.is_none-is_free.result (ap is_some (sym c.refusal.ensures) ∙ c.is_none-is_free.ensures)) c.in_ok-write_register.ensures.step
+    c.is_none-is_free.result (none_as _ c.is_none-is_free.result (ap is_some (sym c.refusal.ensures) ∙ c.is_none-is_free.ensures)) c.write_register.ensures.step
     c.join_objects.result c.join_objects.new.engine c.join_objects.ensures.joins c.join_objects.ensures.same c.join_objects.ensures.handlers
 
 pub returns-clause-quiet : goal.returns-clause-quiet
@@ -74,7 +74,7 @@ returns-clause-quiet c =
     let e = c.args.engine.now in
     let f = frame_view c.args.frame in
     let mid = world_written d e c.write_register.new.engine f c.args.to.0 c.args.parent.0 c.args.child.0 c.object_in-parent.result.0 c.object_in-child.result.0 c.object_in-parent.ensures c.object_in-child.ensures
-    c.is_none-is_free.result (none_as _ c.is_none-is_free.result (ap is_some (sym c.refusal.ensures) ∙ c.is_none-is_free.ensures)) c.in_ok-write_register.ensures.step in
+    c.is_none-is_free.result (none_as _ c.is_none-is_free.result (ap is_some (sym c.refusal.ensures) ∙ c.is_none-is_free.ensures)) c.write_register.ensures.step in
     subst (λ (w : World). OnErr c.join_objects.result (IsQuiet w (world_of c.join_objects.new.engine.world))) mid c.join_objects.ensures.quiet
 
 pub returns-clause-counted : goal.returns-clause-counted
@@ -82,5 +82,5 @@ returns-clause-counted c = on c.join_objects.result c.join_objects.ensures.count
   where
     on : (result : Result (Unit {0}) AllocError) → OnOk result (KeepsCounts c.args.definition.now c.write_register.new.engine c.join_objects.new.engine)
         → OnOk result (Counts c.args.definition.now nothing c.join_objects.new.engine)
-    on (Ok x) k = k.at nothing c.in_ok-write_register.ensures.counted
+    on (Ok x) k = k.at nothing c.write_register.ensures.counted
     on (Err halt) k = tt

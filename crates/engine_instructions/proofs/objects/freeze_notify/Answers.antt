@@ -47,7 +47,7 @@ returns-clause-step c =
     goes_on_left d (with_table e t) c.push_frame.new.engine f (freezing w f c.args.object.0)
     (freezes w f c.args.object.0 c.object_in-object.result.0 c.object_in-object.ensures t.objects c.freeze.ensures.changes
     ∙ ap (λ (v : World). goes_on v [] f) (sym (objects_world e t c.freeze.ensures.beside)))
-    c.push_frame.ensures.beside (c.in_ok-push_frame.ensures.agenda d)
+    c.push_frame.ensures.beside (c.push_frame.ensures.agenda d)
 
 pub returns-clause-counted : goal.returns-clause-counted
 returns-clause-counted c =
@@ -55,5 +55,5 @@ returns-clause-counted c =
     let e = c.args.engine.now in
     let f = frame_view c.args.frame in
     let t = c.freeze.new.self in
-    frame_held d (with_table e t) c.push_frame.new.engine f (c.in_ok-push_frame.ensures.counted d)
+    frame_held d (with_table e t) c.push_frame.new.engine f (c.push_frame.ensures.counted d)
     ((keeps_change d e t c.object_in-object.result.0 frozen_more tt (freeze_alike d) c.freeze.ensures.changes c.freeze.ensures.beside).at (λ o. in_frame o f) c.requires.counted)

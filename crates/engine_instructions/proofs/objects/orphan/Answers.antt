@@ -39,11 +39,11 @@ returns-clause-step c =
     started_left e.counted (agenda_of d e) (orphaning d w f c.args.object.0) (orphaned d w id (parent_in (living w.objects id))) [] f _ _ _
     (orphans d w f c.args.object.0 id c.object_in-object.ensures)
     (c.in_ok-leave.ensures.ok ∙ ap (λ (v : World). orphaned d v id (parent_in (living v.objects id))) (world_pushed d e b f c.push_frame.ensures.beside))
-    (same_agenda d b c.leave.new.engine c.leave.ensures.same.0 c.leave.ensures.handlers ∙ c.in_ok-push_frame.ensures.agenda d)
+    (same_agenda d b c.leave.new.engine c.leave.ensures.same.0 c.leave.ensures.handlers ∙ c.push_frame.ensures.agenda d)
     (c.leave.ensures.same.1 ∙ count_pushed d e b f c.push_frame.ensures.beside)
 
 pub returns-clause-counted : goal.returns-clause-counted
 returns-clause-counted c =
     let d = c.args.definition.now in
     c.in_ok-leave.ensures.counted.at nothing
-    (frame_held d c.args.engine.now c.push_frame.new.engine (frame_view c.args.frame) (c.in_ok-push_frame.ensures.counted d) c.requires.counted)
+    (frame_held d c.args.engine.now c.push_frame.new.engine (frame_view c.args.frame) (c.push_frame.ensures.counted d) c.requires.counted)

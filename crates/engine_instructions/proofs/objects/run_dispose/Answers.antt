@@ -46,12 +46,12 @@ returns-then-is_disposed-clause-step c =
     whole_so d b _
     (started_left e.counted (agenda_of d e) (disposing d w f c.args.object.0) w [] f _ _ _
     (disposes_nothing d w f c.args.object.0 id c.object_in-object.ensures so)
-    (world_pushed d e b f c.push_frame.ensures.beside) (c.in_ok-push_frame.ensures.agenda d) (count_pushed d e b f c.push_frame.ensures.beside))
+    (world_pushed d e b f c.push_frame.ensures.beside) (c.push_frame.ensures.agenda d) (count_pushed d e b f c.push_frame.ensures.beside))
 
 pub returns-then-is_disposed-clause-counted : goal.returns-then-is_disposed-clause-counted
 returns-then-is_disposed-clause-counted c =
     let d = c.args.definition.now in
-    frame_held d c.args.engine.now c.push_frame.new.engine (frame_view c.args.frame) (c.in_ok-push_frame.ensures.counted d) c.requires.counted
+    frame_held d c.args.engine.now c.push_frame.new.engine (frame_view c.args.frame) (c.push_frame.ensures.counted d) c.requires.counted
 
 pub dispose-requires : goal.dispose-requires
 dispose-requires c =
@@ -62,7 +62,7 @@ dispose-requires c =
     let first : is_disposed (living e.world.table.objects id) ≡ false =
     ap (λ (x : Engine). is_disposed (living x.world.table.objects id)) (sym c.push_frame.ensures.beside) ∙ sym c.is_disposed.ensures ∙ c.if-is_disposed.false in
     record {
-      able = disposes_able d e c.push_frame.new.engine c.push_frame.new.engine (frame_view c.args.frame) c.args.object.0 id c.object_in-object.ensures first c.push_frame.ensures.beside (c.in_ok-push_frame.ensures.agenda d) c.requires.able;
+      able = disposes_able d e c.push_frame.new.engine c.push_frame.new.engine (frame_view c.args.frame) c.args.object.0 id c.object_in-object.ensures first c.push_frame.ensures.beside (c.push_frame.ensures.agenda d) c.requires.able;
       live = subst (λ (x : Engine). IsSome (living x.world.table.objects id)) back (operand_lives (world_of e.world) (frame_view c.args.frame) c.args.object.0 id c.object_in-object.ensures);
       knows = subst (λ (x : Engine). Knows d x.world.weak) back c.requires.counted.knows;
     }
@@ -75,7 +75,7 @@ returns-clause-step c =
     let id = c.object_in-object.result.0 in
     let first : is_disposed (living e.world.table.objects id) ≡ false =
     ap (λ (x : Engine). is_disposed (living x.world.table.objects id)) (sym c.push_frame.ensures.beside) ∙ sym c.is_disposed.ensures ∙ c.if-is_disposed.false in
-    disposes_behind d e c.push_frame.new.engine c.dispose.new.engine f c.args.object.0 id c.object_in-object.ensures first c.push_frame.ensures.beside (c.in_ok-push_frame.ensures.agenda d)
+    disposes_behind d e c.push_frame.new.engine c.dispose.new.engine f c.args.object.0 id c.object_in-object.ensures first c.push_frame.ensures.beside (c.push_frame.ensures.agenda d)
     c.dispose.result c.dispose.ensures.step c.dispose.ensures.agenda c.dispose.ensures.same
 
 pub returns-clause-counted : goal.returns-clause-counted
@@ -83,7 +83,7 @@ returns-clause-counted c = on c.dispose.result c.dispose.ensures.counted
   where
     on : (result : Result (Unit {0}) AllocError) → OnOk result (KeepsCounts c.args.definition.now c.push_frame.new.engine c.dispose.new.engine)
         → OnOk result (Counts c.args.definition.now nothing c.dispose.new.engine)
-    on (Ok x) k = k.at nothing (frame_held c.args.definition.now c.args.engine.now c.push_frame.new.engine (frame_view c.args.frame) (c.in_ok-push_frame.ensures.counted c.args.definition.now) c.requires.counted)
+    on (Ok x) k = k.at nothing (frame_held c.args.definition.now c.args.engine.now c.push_frame.new.engine (frame_view c.args.frame) (c.push_frame.ensures.counted c.args.definition.now) c.requires.counted)
     on (Err halt) k = tt
 
 pub returns-then-is_disposed-clause-closing : goal.returns-then-is_disposed-clause-closing

@@ -35,7 +35,7 @@ returns-clause-step c =
     let id = c.object_in-object.result.0 in
     goes_on_left d (with_table e t) c.push_frame.new.engine f (sinking w f c.args.object.0)
     (sinks w f c.args.object.0 id c.object_in-object.ensures ∙ ap (λ (v : World). goes_on v [] f) (sym (sunk_world e t id c.sink.ensures)))
-    c.push_frame.ensures.beside (c.in_ok-push_frame.ensures.agenda d)
+    c.push_frame.ensures.beside (c.push_frame.ensures.agenda d)
 
 pub returns-clause-counted : goal.returns-clause-counted
 returns-clause-counted c =
@@ -43,5 +43,5 @@ returns-clause-counted c =
     let e = c.args.engine.now in
     let f = frame_view c.args.frame in
     let t = c.sink.new.self in
-    frame_held d (with_table e t) c.push_frame.new.engine f (c.in_ok-push_frame.ensures.counted d)
+    frame_held d (with_table e t) c.push_frame.new.engine f (c.push_frame.ensures.counted d)
     ((sunk_keeps d e t c.object_in-object.result.0 c.sink.ensures).at (λ o. in_frame o f) c.requires.counted)

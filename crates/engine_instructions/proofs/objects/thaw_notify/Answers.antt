@@ -53,7 +53,7 @@ push_task-requires-clause-may c =
     let changes = c.thaw-slots.ensures.changes in
     pushes_one b _ id (λ d o. refl)
     (lives_held d b id
-    (frame_held d m b f (c.in_ok-push_frame.ensures.counted d) ((keeps_change d e t id frozen_less _ (frozen_alike d) changes c.thaw-slots.ensures.beside).at (λ o. in_frame o f) c.requires.counted))
+    (frame_held d m b f (c.push_frame.ensures.counted d) ((keeps_change d e t id frozen_less _ (frozen_alike d) changes c.thaw-slots.ensures.beside).at (λ o. in_frame o f) c.requires.counted))
     (lives_pushed d m b f c.push_frame.ensures.beside id (lives_on e.world.table.objects id frozen_less _ changes)))
 
 pub returns-clause-step : goal.returns-clause-step
@@ -70,7 +70,7 @@ returns-clause-step c =
     started_left e.counted (agenda_of d e) (thaw_notify w f c.args.object.0) (with_objects w t.objects) (Thawing id slots ∷ []) f _ _ _
     (thaws w f c.args.object.0 id c.object_in-object.ensures t.objects slots c.thaw-slots.ensures.changes)
     (c.push_task.ensures.world ∙ world_pushed d m b f c.push_frame.ensures.beside ∙ objects_world e t c.thaw-slots.ensures.beside)
-    (c.in_ok-push_task.ensures.agenda d ∙ ap (λ ts. Thawing id c.new.result ∷ ts) (c.in_ok-push_frame.ensures.agenda d) ∙ ap (λ (l : List ℕ). Thawing id l ∷ Running f ∷ agenda_of d e) c.new.ensures)
+    (c.push_task.ensures.agenda d ∙ ap (λ ts. Thawing id c.new.result ∷ ts) (c.push_frame.ensures.agenda d) ∙ ap (λ (l : List ℕ). Thawing id l ∷ Running f ∷ agenda_of d e) c.new.ensures)
     (c.push_task.ensures.same ∙ count_pushed d m b f c.push_frame.ensures.beside)
 
 pub returns-clause-counted : goal.returns-clause-counted
@@ -79,6 +79,6 @@ returns-clause-counted c =
     let e = c.args.engine.now in
     let f = frame_view c.args.frame in
     let t = c.thaw-slots.new.self in
-    (c.in_ok-push_task.ensures.counted d).at nothing
-    (frame_held d (with_table e t) c.push_frame.new.engine f (c.in_ok-push_frame.ensures.counted d)
+    (c.push_task.ensures.counted d).at nothing
+    (frame_held d (with_table e t) c.push_frame.new.engine f (c.push_frame.ensures.counted d)
     ((keeps_change d e t c.object_in-object.result.0 frozen_less _ (frozen_alike d) c.thaw-slots.ensures.changes c.thaw-slots.ensures.beside).at (λ o. in_frame o f) c.requires.counted))

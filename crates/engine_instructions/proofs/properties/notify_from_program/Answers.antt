@@ -1,4 +1,4 @@
-use Rattle.std.proofs.Common.{◌≡◌, true, false, [], rules}
+use Rattle.std.proofs.Common.{◌≡◌, true, false, [], rules, arith}
 use Rattle.std.specs.Prelude.{OnOk, Result, Ok, Err}
 use Rattle.param_specs.specs.View.{spec_view}
 use Rattle.frames.specs.FrameView.{frame_view}
@@ -58,7 +58,8 @@ raise-requires c = record {
   counted =
       let d = c.args.definition.now in
       let b = c.push_frame.new.engine in
-      all_counted d b (frame_held d c.args.engine.now b (frame_view c.args.frame) (c.in_ok-push_frame.ensures.counted d) c.requires.counted);
+      all_counted d b (frame_held d c.args.engine.now b (frame_view c.args.frame) (c.push_frame.ensures.counted d) c.requires.counted);
+  room = (let took = c.push_frame.ensures.room in let has = c.requires.room in omega (arith, took.0, took.1, has));
 }
 
 pub returns-then-not-is_readable-clause-step : goal.returns-then-not-is_readable-clause-step
@@ -72,12 +73,12 @@ returns-then-not-is_readable-clause-step c =
     let unreadable : is_readable s ≡ false = search rules in
     started_left e.counted (agenda_of d e) (notify_from_program d w f c.args.object.0 c.args.property.now) w [] f _ _ _
     (tells_nothing d w f c.args.object.0 c.args.property.now c.object_in-object.result.0 c.object_in-object.ensures c.slot_at-slot.result c.slot_at-slot.ensures s c.spec_of-spec.ensures.spec unreadable)
-    (world_pushed d e b f c.push_frame.ensures.beside) (c.in_ok-push_frame.ensures.agenda d) (count_pushed d e b f c.push_frame.ensures.beside)
+    (world_pushed d e b f c.push_frame.ensures.beside) (c.push_frame.ensures.agenda d) (count_pushed d e b f c.push_frame.ensures.beside)
 
 pub returns-then-not-is_readable-clause-counted : goal.returns-then-not-is_readable-clause-counted
 returns-then-not-is_readable-clause-counted c =
     let d = c.args.definition.now in
-    frame_held d c.args.engine.now c.push_frame.new.engine (frame_view c.args.frame) (c.in_ok-push_frame.ensures.counted d) c.requires.counted
+    frame_held d c.args.engine.now c.push_frame.new.engine (frame_view c.args.frame) (c.push_frame.ensures.counted d) c.requires.counted
 
 pub returns-clause-step : goal.returns-clause-step
 returns-clause-step c =
@@ -90,12 +91,12 @@ returns-clause-step c =
     let s = spec_view c.spec_of-spec.result.now in
     let readable : is_readable s ≡ true = search rules in
     rw (tells d w f c.args.object.0 c.args.property.now id c.object_in-object.ensures slot c.slot_at-slot.ensures s c.spec_of-spec.ensures.spec readable)
-    (leads_before d e c.push_frame.new.engine f c.push_frame.ensures.beside c.raise.result (λ (v : World). raising v id slot) _ (c.in_ok-push_frame.ensures.agenda d) c.raise.ensures.step)
+    (leads_before d e c.push_frame.new.engine f c.push_frame.ensures.beside c.raise.result (λ (v : World). raising v id slot) _ (c.push_frame.ensures.agenda d) c.raise.ensures.step)
 
 pub returns-clause-counted : goal.returns-clause-counted
 returns-clause-counted c = on c.raise.result c.raise.ensures.counted
   where
     on : (result : Result (Unit {0}) AllocError) → OnOk result (KeepsCounts c.args.definition.now c.push_frame.new.engine c.raise.new.engine)
         → OnOk result (Counts c.args.definition.now nothing c.raise.new.engine)
-    on (Ok x) k = k.at nothing (frame_held c.args.definition.now c.args.engine.now c.push_frame.new.engine (frame_view c.args.frame) (c.in_ok-push_frame.ensures.counted c.args.definition.now) c.requires.counted)
+    on (Ok x) k = k.at nothing (frame_held c.args.definition.now c.args.engine.now c.push_frame.new.engine (frame_view c.args.frame) (c.push_frame.ensures.counted c.args.definition.now) c.requires.counted)
     on (Err halt) k = tt

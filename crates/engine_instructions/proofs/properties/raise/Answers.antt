@@ -30,18 +30,18 @@ push_task-requires-clause-may c =
       lives = lives_on e.world.table.objects id (raised c.args.slot) _ changes;
     })
 
-pub returns-in_ok-push_task-clause-step : goal.returns-in_ok-push_task-clause-step
+pub returns-then-branch-clause-step : goal.returns-then-branch-clause-step
 unfolding raising
-returns-in_ok-push_task-clause-step c =
-    let pushed = c.in_ok-push_task.ensures.agenda c.args.definition.now in
+returns-then-branch-clause-step c =
+    let pushed = c.push_task.ensures.agenda c.args.definition.now in
     let changes = c.in_ok-add.ensures.changes in
-    rw (c.in_ok-push_task.ensures.world, c.in_ok-push_task.ensures.same, pushed) (search rules)
+    rw (c.push_task.ensures.world, c.push_task.ensures.same, pushed) (search rules)
 
-pub returns-in_ok-push_task-clause-counted : goal.returns-in_ok-push_task-clause-counted
-returns-in_ok-push_task-clause-counted c =
+pub returns-then-branch-clause-counted : goal.returns-then-branch-clause-counted
+returns-then-branch-clause-counted c =
     let d = c.args.definition.now in
     keeps_on d _ _ _ (keeps_change d c.args.engine.now c.add.new.self c.args.object.0 (raised c.args.slot) _ (raised_alike d c.args.slot) c.in_ok-add.ensures.changes c.add.ensures.beside)
-    (c.in_ok-push_task.ensures.counted d)
+    (c.push_task.ensures.counted d)
 
 pub returns-else-branch-clause-counted : goal.returns-else-branch-clause-counted
 returns-else-branch-clause-counted c =

@@ -53,7 +53,7 @@ push_task-requires-clause-may c =
     let b = c.push_frame.new.engine in
     let id = c.object_in-object.result.0 in
     pushes_one b _ id (λ d o. refl)
-    (lives_held d b id (frame_held d e b f (c.in_ok-push_frame.ensures.counted d) c.requires.counted)
+    (lives_held d b id (frame_held d e b f (c.push_frame.ensures.counted d) c.requires.counted)
     (lives_pushed d e b f c.push_frame.ensures.beside id (operand_lives (world_of e.world) f c.args.object.0 id c.object_in-object.ensures)))
 
 pub returns-clause-step : goal.returns-clause-step
@@ -71,11 +71,11 @@ returns-clause-step c =
     started_left e.counted (agenda_of d e) (set_property d w f c.args.object.0 c.args.property.now c.args.from.0) w (Setting id slot v ∷ []) f _ _ _
     (sets d w f c.args.object.0 c.args.property.now c.args.from.0 id c.object_in-object.ensures slot is v c.in_ok-value.ensures)
     (c.push_task.ensures.world ∙ world_pushed d e b f c.push_frame.ensures.beside)
-    (c.in_ok-push_task.ensures.agenda d ∙ ap (λ ts. Setting id slot v ∷ ts) (c.in_ok-push_frame.ensures.agenda d))
+    (c.push_task.ensures.agenda d ∙ ap (λ ts. Setting id slot v ∷ ts) (c.push_frame.ensures.agenda d))
     (c.push_task.ensures.same ∙ count_pushed d e b f c.push_frame.ensures.beside)
 
 pub returns-clause-counted : goal.returns-clause-counted
 returns-clause-counted c =
     let d = c.args.definition.now in
-    (c.in_ok-push_task.ensures.counted d).at nothing
-    (frame_held d c.args.engine.now c.push_frame.new.engine (frame_view c.args.frame) (c.in_ok-push_frame.ensures.counted d) c.requires.counted)
+    (c.push_task.ensures.counted d).at nothing
+    (frame_held d c.args.engine.now c.push_frame.new.engine (frame_view c.args.frame) (c.push_frame.ensures.counted d) c.requires.counted)

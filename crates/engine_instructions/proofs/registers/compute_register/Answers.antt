@@ -38,8 +38,8 @@ write_register-requires-clause-names c =
     let there = ap (λ (a : Answer Left). left e.counted a) value in
     written_names e.counted rest w to (Some (value_view c.in-Value.value)) f (able_as there c.requires.able) (names_as there c.requires.names)
 
-pub returns-in-TooLong-clause-step : goal.returns-in-TooLong-clause-step
-returns-in-TooLong-clause-step c =
+pub returns-in_ok-write_null_and_say_limit-in-TooLong-clause-step : goal.returns-in_ok-write_null_and_say_limit-in-TooLong-clause-step
+returns-in_ok-write_null_and_say_limit-in-TooLong-clause-step c =
     let d = c.args.definition.now in
     let e = c.args.engine.now in
     let w = world_of e.world in
@@ -47,4 +47,4 @@ returns-in-TooLong-clause-step c =
     let rest = agenda_of d e in
     let comes = c.in_ok-computed.ensures.computed d w rest f c.args.to.0 (sym c.types-types.ensures.types) (ap (λ rs. registers_of rs) (sym c.as_slice-registers.ensures.value)) in
     let long = subst (λ (x : Computed). instruction_step d w rest f (instruction_of c.args.computation.now c.args.to.0) ≡ in_front rest (writes d w f c.args.to.0 x)) c.in-TooLong.is comes in
-    rw long c.write_null_and_say_limit.ensures.step
+    rw long c.in_ok-write_null_and_say_limit-in-TooLong.ensures.step

@@ -45,14 +45,14 @@ returns-clause-step c =
     going_left e.counted (agenda_of d e) (written_to w c.args.to.0 (Some (value_view c.args.value)) f) w new _ _ _
     (writes_register w f c.args.to.0 (Some (value_view c.args.value)) new.registers c.put.ensures.written ∙ ap (λ (x : Frame). goes_on w [] x) (sym c.put.ensures.beside))
     (c.in_ok-say_limit.ensures.ok ∙ ap (λ (v : World). said d v (lines.limit c.args.word.now)) world)
-    (same_agenda d b c.say_limit.new.engine c.say_limit.ensures.same.0 c.say_limit.ensures.handlers ∙ c.in_ok-push_frame.ensures.agenda d)
+    (same_agenda d b c.say_limit.new.engine c.say_limit.ensures.same.0 c.say_limit.ensures.handlers ∙ c.push_frame.ensures.agenda d)
     (c.say_limit.ensures.same.1 ∙ ap (λ (x : Engine). x.counted) c.push_frame.ensures.beside)
 
 pub returns-in_err-say_limit-clause-quiet : goal.returns-in_err-say_limit-clause-quiet
 returns-in_err-say_limit-clause-quiet c =
     let e = c.args.engine.now in
     let world = ap (λ (x : Engine). world_of x.world) c.push_frame.ensures.beside ∙ table_world e c.put.new.table c.put.ensures.only in
-    let p = err_from_is_err_and c.from_residual-in_err-say_limit.result c.from_residual-in_err-say_limit.ensures.1 in
+    let p = err_from_is_err_and c.from_residual.result c.from_residual.ensures.1 in
     rw p.1 (quiet_same (world_of e.world) (world_of c.say_limit.new.engine.world) (c.in_err-say_limit.ensures.err ∙ world))
 
 pub returns-clause-counted : goal.returns-clause-counted
@@ -62,6 +62,6 @@ returns-clause-counted c =
     let f = frame_view c.args.frame in
     let new = frame_view c.put.new.frame in
     c.in_ok-say_limit.ensures.counted.at nothing
-    (c.in_ok-push_frame.ensures.counted d nothing
+    (c.push_frame.ensures.counted d nothing
     (register_moved d e c.put.new.table nothing (λ o. in_frame o f) (λ o. in_frame o new) c.put.ensures.only c.put.ensures.counts
     (taken_alike d e (λ o. in_frame o f) (λ o. nothing o + in_frame o f) (λ o. omega arith) c.requires.counted)))

@@ -40,7 +40,7 @@ returns-clause-step c =
     (writes_register (world_of e.world) f c.args.to.0 v new.registers c.put.ensures.written
     ∙ ap (λ (x : Frame). goes_on (world_of e.world) [] x) (sym c.put.ensures.beside)
     ∙ ap (λ (w : World). goes_on w [] new) (sym (table_world e c.put.new.table c.put.ensures.only)))
-    c.push_frame.ensures.beside (c.in_ok-push_frame.ensures.agenda d)
+    c.push_frame.ensures.beside (c.push_frame.ensures.agenda d)
 
 pub returns-clause-counted : goal.returns-clause-counted
 returns-clause-counted c =
@@ -48,6 +48,6 @@ returns-clause-counted c =
     let e = c.args.engine.now in
     let f = frame_view c.args.frame in
     let new = frame_view c.put.new.frame in
-    c.in_ok-push_frame.ensures.counted d nothing
+    c.push_frame.ensures.counted d nothing
     (register_moved d e c.put.new.table nothing (λ o. in_frame o f) (λ o. in_frame o new) c.put.ensures.only c.put.ensures.counts
     (taken_alike d e (λ o. in_frame o f) (λ o. nothing o + in_frame o f) (λ o. omega arith) c.requires.counted))

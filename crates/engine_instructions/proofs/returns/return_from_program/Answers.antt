@@ -40,15 +40,10 @@ give_down-requires c =
       begun = c.requires.counted.connects.begun;
     }
 
-pub returns-in_err-give_down-clause-quiet : goal.returns-in_err-give_down-clause-quiet
-returns-in_err-give_down-clause-quiet c =
-    let p = err_from_is_err_and c.from_residual-in_err-give_down.result c.from_residual-in_err-give_down.ensures.1 in
-    rw p.1 c.in_err-give_down.ensures.quiet
-
 pub let_go_registers-requires : goal.let_go_registers-requires
 let_go_registers-requires c = record {
   held = λ o.
-      let kept = c.in_ok-give_down.ensures.counted.at _ c.requires.counted in
+      let kept = c.give_down.ensures.counted.at _ c.requires.counted in
       let slice = ap (λ rs. total (in_register o) (registers_of rs)) c.as_slice.ensures.value in
       omega (arith, kept.exact o, slice);
 }
@@ -61,12 +56,12 @@ returns-clause-step c =
     let f = frame_view c.args.frame in
     let from = option_map number_of c.args.from in
     left_kept e.counted _ (world_of b.world) (agenda_of d b) (world_of b.world) (agenda_of d b) b.counted
-    (returning_gives d (world_of e.world) f from (program_view c.args.program.now) c.requires.program (agenda_of d e) _ c.in_ok-given.ensures (in_left e.counted _ c.requires.able) ∙ c.in_ok-give_down.ensures.step) refl refl c.in_ok-give_down.ensures.same
+    (returning_gives d (world_of e.world) f from (program_view c.args.program.now) c.requires.program (agenda_of d e) _ c.in_ok-given.ensures (in_left e.counted _ c.requires.able) ∙ c.give_down.ensures.step) refl refl c.give_down.ensures.same
     ∙ ap (λ x. Ok x) (sym (config_same d b c.let_go_registers.new.table c.let_go_registers.ensures.only))
 
 pub returns-clause-counted : goal.returns-clause-counted
 returns-clause-counted c =
     let d = c.args.definition.now in
-    let kept = c.in_ok-give_down.ensures.counted.at _ c.requires.counted in
+    let kept = c.give_down.ensures.counted.at _ c.requires.counted in
     given_back d c.give_down.new.engine c.let_go_registers.new.table (λ o. in_frame o (frame_view c.args.frame)) c.let_go_registers.ensures.only
     (λ o. let slice = ap (λ rs. total (in_register o) (registers_of rs)) c.as_slice.ensures.value in omega (arith, c.let_go_registers.ensures.counts o, slice)) kept

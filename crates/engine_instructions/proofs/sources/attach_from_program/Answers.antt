@@ -1,4 +1,4 @@
-use Rattle.std.proofs.Common.{◌≡◌, Option, true, false, refl, subst, sym, ◌∙◌}
+use Rattle.std.proofs.Common.{◌≡◌, Option, true, false, refl, subst, sym, ◌∙◌, Ok}
 use Rattle.ui_machine.specs.Instructions.Sources.{with_source}
 use Rattle.ui_machine.specs.State.References.{in_option}
 use Rattle.ui_machine.specs.State.Sources.{has_room}
@@ -56,7 +56,7 @@ write_register-requires c =
     let world : world_of m.world ≡ with_source w a c.program_named-program.result (id_of c.data_in-arg.result) = c.in_ok-attach_source.ensures.world ∙ rw c.if-branch.true (c.source-source.ensures.attached w) in
     let same = attached_left d e m f c.args.to.0 a c.program_named-program.result c.program_named-program.ensures (id_of c.data_in-arg.result) c.data_in-arg.ensures
     (same_agenda d e m c.attach_source.ensures.same.0 c.attach_source.ensures.handlers) c.attach_source.ensures.same.1 room world in
-    record { able = able_as same c.requires.able; names = refl; counted = (c.in_ok-attach_source.ensures.counted d).at _ c.requires.counted }
+    record { able = able_as same c.requires.able; names = refl; counted = (c.in_ok-attach_source.ensures.counted d).at _ c.requires.counted; room = rw c.attach_source.ensures.same.0 c.requires.room }
 
 pub write_null_and_say_limit-requires : goal.write_null_and_say_limit-requires
 write_null_and_say_limit-requires c =
@@ -70,7 +70,7 @@ write_null_and_say_limit-requires c =
     let world : world_of m.world ≡ w = c.in_ok-attach_source.ensures.world ∙ rw c.if-branch.false refl in
     let same = unattached_left d e m f c.args.to.0 a c.program_named-program.result c.program_named-program.ensures (id_of c.data_in-arg.result) c.data_in-arg.ensures
     (same_agenda d e m c.attach_source.ensures.same.0 c.attach_source.ensures.handlers) c.attach_source.ensures.same.1 full world in
-    record { able = able_as same c.requires.able; names = refl; counted = (c.in_ok-attach_source.ensures.counted d).at _ c.requires.counted }
+    record { able = able_as same c.requires.able; names = refl; counted = (c.in_ok-attach_source.ensures.counted d).at _ c.requires.counted; room = rw c.attach_source.ensures.same.0 c.requires.room }
 
 pub returns-then-branch-clause-step : goal.returns-then-branch-clause-step
 returns-then-branch-clause-step c =
@@ -84,7 +84,7 @@ returns-then-branch-clause-step c =
     let world : world_of m.world ≡ with_source w a c.program_named-program.result (id_of c.data_in-arg.result) = c.in_ok-attach_source.ensures.world ∙ rw c.if-branch.true (c.source-source.ensures.attached w) in
     let same = attached_left d e m f c.args.to.0 a c.program_named-program.result c.program_named-program.ensures (id_of c.data_in-arg.result) c.data_in-arg.ensures
     (same_agenda d e m c.attach_source.ensures.same.0 c.attach_source.ensures.handlers) c.attach_source.ensures.same.1 room world in
-    leads_as c.write_register.result (config_of d c.write_register.new.engine) same c.write_register.ensures.step
+    leads_as {X = Unit {0}} (Ok tt) (config_of d c.write_register.new.engine) same c.write_register.ensures.step
 
 pub returns-clause-step : goal.returns-clause-step
 returns-clause-step c =

@@ -1,4 +1,4 @@
-use Rattle.std.proofs.Common.{◌≡◌, ◌≤◌, ◌∙◌, refl, sym, ap, subst, List, [], ◌∷◌}
+use Rattle.std.proofs.Common.{◌≡◌, ◌≤◌, ◌∙◌, refl, sym, ap, subst, List, [], ◌∷◌, arith}
 use Rattle.ui_machine.specs.Rules.Accumulation.{stopped}
 use Rattle.ui_machine.specs.State.Tasks.{Emission, Emitting, PlanEntry}
 use Rattle.signal_core.specs.Emission.{Walk}
@@ -22,9 +22,10 @@ returns-in_default-task c = record {
   agenda = λ d.
       let hs = c.args.engine.now.world.handlers.handlers in
       let first = c.in-Some.ensures.tasks d hs in
-      c.in_ok-push.ensures.tasks d hs ∙ sym (ap stopped first ∙ stops_none d hs c.in-Some.task (tasks_of d hs c.pop.new.self) (other c.in-Some.task refl));
+      c.push.ensures.tasks d hs ∙ sym (ap stopped first ∙ stops_none d hs c.in-Some.task (tasks_of d hs c.pop.new.self) (other c.in-Some.task refl));
   beside = refl;
-  begun = λ last h. c.in_ok-push.ensures.begun last (c.in-Some.ensures.first last h) (c.in-Some.ensures.begun last h);
+  room = (let given = c.in-Some.ensures.given in let taken = c.push.ensures.taken in omega (arith, given, taken), c.push.ensures.room ∙ c.pop.ensures.room);
+  begun = λ last h. c.push.ensures.begun last (c.in-Some.ensures.first last h) (c.in-Some.ensures.begun last h);
 }
   where
     other : (t : code.Task) → c.in-Some.task ≡ t → IsOther t
@@ -46,6 +47,9 @@ returns-in_default-task c = record {
     other (tasks.Due source) is = tt
     other (tasks.Handling event) is = tt
 
+pub returns-in_default-clause-room : goal.returns-in_default-clause-room
+returns-in_default-clause-room c = (let given = c.in_default.ensures.given in omega (arith, given), c.pop.ensures.room)
+
 pub returns-clause-agenda : goal.returns-clause-agenda
 returns-clause-agenda c d =
     let hs = c.args.engine.now.world.handlers.handlers in
@@ -56,7 +60,7 @@ returns-clause-agenda c d =
     let rest = tasks_of d hs c.pop.new.self in
     let first = c.in-Some.ensures.tasks d hs ∙ ap (λ (t : code.Task). task_of d hs t ∷ rest) c.in-Emitting.is in
     let known = subst (λ (t : code.Task). TakesKnownHandlers last t) c.in-Emitting.is (c.in-Some.ensures.first last c.requires.begun) in
-    c.in_ok-push-2.ensures.tasks d hs
+    c.push-2.ensures.tasks d hs
     ∙ ap (λ (x : Transfers). Emitting (emission_of c.stop.new.self args c.in-Emitting.by_event) (entries_to_come c.stop.new.self hs x) ∷ rest) c.new.ensures
     ∙ ap (λ (u : Walk). Emitting (emission_of u args c.in-Emitting.by_event) (entries_to_come u hs (at.Due [])) ∷ rest) c.stop.ensures
     ∙ ap (λ (e : Emission). Emitting e (entries_to_come (walks.stopped w) hs (at.Due [])) ∷ rest) (sym (stop_same w hs args c.in-Emitting.by_event))
@@ -66,4 +70,4 @@ returns-clause-agenda c d =
 pub returns-clause-begun : goal.returns-clause-begun
 returns-clause-begun c last h =
     let was = subst (λ (t : code.Task). TakesKnownHandlers last t) c.in-Emitting.is (c.in-Some.ensures.first last h) in
-    c.in_ok-push-2.ensures.begun last (subst (λ (u : Walk). u.greatest ≤ last) (sym c.stop.ensures) was.0, rw c.new.ensures (λ _. refl)) (c.in-Some.ensures.begun last h)
+    c.push-2.ensures.begun last (subst (λ (u : Walk). u.greatest ≤ last) (sym c.stop.ensures) was.0, rw c.new.ensures (λ _. refl)) (c.in-Some.ensures.begun last h)

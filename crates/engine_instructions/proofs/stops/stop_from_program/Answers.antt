@@ -18,15 +18,15 @@ returns-clause-step c =
     let new = c.push_frame.new.engine in
     left_kept e.counted _ (world_of e.world) _ _ _ _ refl
     (world_pushed d mid new f c.push_frame.ensures.beside ∙ ap (λ (x : Engine). world_of x.world) c.stop_emission.ensures.beside)
-    (c.in_ok-push_frame.ensures.agenda d ∙ ap (λ (ts : List Task). Running f ∷ ts) (c.in_ok-stop_emission.ensures.agenda d))
+    (c.push_frame.ensures.agenda d ∙ ap (λ (ts : List Task). Running f ∷ ts) (c.stop_emission.ensures.agenda d))
     (count_pushed d mid new f c.push_frame.ensures.beside ∙ ap (λ (x : Engine). x.counted) c.stop_emission.ensures.beside)
 
 pub returns-clause-counted : goal.returns-clause-counted
 returns-clause-counted c =
     let d = c.args.definition.now in
     let f = frame_view c.args.frame in
-    frame_held d c.stop_emission.new.engine c.push_frame.new.engine f (c.in_ok-push_frame.ensures.counted d)
-    (stop_counts d c.args.engine.now c.stop_emission.new.engine (λ o. in_frame o f) c.stop_emission.ensures.beside (c.in_ok-stop_emission.ensures.agenda d) c.in_ok-stop_emission.ensures.begun c.requires.counted)
+    frame_held d c.stop_emission.new.engine c.push_frame.new.engine f (c.push_frame.ensures.counted d)
+    (stop_counts d c.args.engine.now c.stop_emission.new.engine (λ o. in_frame o f) c.stop_emission.ensures.beside (c.stop_emission.ensures.agenda d) c.stop_emission.ensures.begun c.requires.counted)
 
 pub stop_emission-requires : goal.stop_emission-requires
 stop_emission-requires c = record { begun = c.requires.counted.connects.begun }

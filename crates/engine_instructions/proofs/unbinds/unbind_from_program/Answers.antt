@@ -22,12 +22,12 @@ returns-clause-step c =
     going_left e.counted (agenda_of d e) _ _ f _ _ _
     (unbinds d (world_of e.world) f c.args.name.now (instructed e.counted (agenda_of d e) _ c.requires.able))
     (ap (λ (x : Engine). world_of x.world) beside ∙ c.unbind.ensures.world)
-    (c.in_ok-push_frame.ensures.agenda d ∙ ap (λ (ts : List Task). Running f ∷ ts) (same_agenda d e m c.unbind.ensures.same.0 c.unbind.ensures.handlers))
+    (c.push_frame.ensures.agenda d ∙ ap (λ (ts : List Task). Running f ∷ ts) (same_agenda d e m c.unbind.ensures.same.0 c.unbind.ensures.handlers))
     (ap (λ (x : Engine). x.counted) beside ∙ c.unbind.ensures.same.1)
 
 pub returns-clause-counted : goal.returns-clause-counted
 returns-clause-counted c =
     let d = c.args.definition.now in
     let f = frame_view c.args.frame in
-    c.in_ok-push_frame.ensures.counted d nothing
+    c.push_frame.ensures.counted d nothing
     (taken_alike d c.unbind.new.engine (λ o. in_frame o f) (λ o. nothing o + in_frame o f) (λ o. omega arith) ((c.unbind.ensures.counted d).at _ c.requires.counted))

@@ -11,8 +11,8 @@ use Rattle.engine_pools.specs.Safety.{NoneUnheld}
 use Rattle.engine_pools.proofs.FirstCalls.{asked_first_so, asks_open, calls_only, none_asked}
 use Rattle.engine_pools.proofs.calls.take_call.Goals as goal
 
-pub returns-then-not-asks : goal.returns-then-not-asks
-returns-then-not-asks c = (refl, none_asked _ (sym c.if-not-asks.true ∙ c.asks.ensures))
+pub returns-then-not-asks-clause-taken : goal.returns-then-not-asks-clause-taken
+returns-then-not-asks-clause-taken c = (refl, none_asked _ (sym c.if-not-asks.true ∙ c.asks.ensures))
 
 pub unreachable-requires : goal.unreachable-requires
 unreachable-requires c =
@@ -32,8 +32,8 @@ unreachable-requires-in_default-task c =
     let calls = calls_only d hs (world_of e.world) c.in-Some.task (tasks_of d hs c.pop.new.self) (subst (λ (ts : List Task). IsSome (asked_first (world_of e.world) ts)) (c.in-Some.ensures.tasks d hs) asks.1) in
     c.in_default-task.not-Calling calls.0 calls.1
 
-pub returns : goal.returns
-returns c =
+pub returns-clause-taken : goal.returns-clause-taken
+returns-clause-taken c =
     let d = c.args.definition.now in
     let e = c.args.engine.now in
     let hs = e.world.handlers.handlers in

@@ -1,4 +1,4 @@
-use Rattle.std.proofs.Common.{◌≡◌, ◌+◌, ℕ, Option, refl, sym, ap, subst, Ok, Err, arith}
+use Rattle.std.proofs.Common.{◌≡◌, ◌+◌, ℕ, Option, refl, sym, ap, subst, Ok, Err, arith, ◌∙◌, vec_capacity}
 use Rattle.std.proofs.lemmas.Result.{err_from_is_err_and}
 use Rattle.ui_machine.proofs.Prefixes.{prefix_on, prefix_same}
 use Rattle.native_peers.specs.Pool.{entries, seen}
@@ -9,7 +9,7 @@ use Rattle.engine_pools.specs.declared.courses.Course.{Course}
 use Rattle.engine_pools.specs.Courses.{sources_left, steps_left}
 use Rattle.engine_pools.specs.PoolView.{world_at}
 use Rattle.engine_pools.specs.Promises.{Rests}
-use Rattle.engine_pools.proofs.Points.{breaks_before, cut_off, follows_before, same_here, same_on}
+use Rattle.engine_pools.proofs.Points.{breaks_before, cut_off, follows_before, same_here, same_on, safe_in}
 use Rattle.engine_pools.proofs.StepProofs.{ran_as}
 use Rattle.engine_pools.proofs.UnderWay.{ended_knows, ended_on, ended_rests, ends_longer, if_ended, if_under_way, next_fewer, next_steps, proceeds_as, under_way_breaks, under_way_on, under_way_safe}
 use Rattle.engine_pools.proofs.courses.advance.Goals as goal
@@ -19,6 +19,7 @@ dispatches-init g c = record {
   so = λ event w front u. u;
   same = same_here _;
   counts = c.requires.counted;
+  room = refl;
   grows = prefix_same (world_of c.args.engine.now.world).transcript;
   made = refl;
 }
@@ -26,7 +27,14 @@ dispatches-init g c = record {
 pub run_for-requires-clause-safe : goal.run_for-requires-clause-safe
 run_for-requires-clause-safe g c =
     let r = c.requires.goes_on in
-    under_way_safe c.args.definition.now _ r.event r.from r.front c.dispatches.course _ (c.dispatches.invariant.so r.event r.from r.front r.under_way) c.requires.well c.requires.accepted
+    safe_in c.args.definition.now c.dispatches.invariant.room
+    (under_way_safe c.args.definition.now _ r.event r.from r.front c.dispatches.course _ (c.dispatches.invariant.so r.event r.from r.front r.under_way) (vec_capacity c.args.engine.now.stack.tasks) c.requires.roomy c.requires.well c.requires.accepted)
+
+pub begin_next-requires-clause-room : goal.begin_next-requires-clause-room
+begin_next-requires-clause-room g c =
+    let enough = c.requires.roomy c.requires.accepted in
+    let same = c.end_dispatch.ensures.room ∙ c.run_for.ensures.room ∙ c.dispatches.invariant.room in
+    omega (arith, enough, same)
 
 pub returns-in_err-rest-clause-proceeds : goal.returns-in_err-rest-clause-proceeds
 returns-in_err-rest-clause-proceeds g c event w front u =
@@ -71,29 +79,16 @@ after-requires-clause-steps g c =
     let now = c.dispatches.invariant.so r.event r.from r.front r.under_way in
     omega (arith, now.dispatches, now.steps, c.in_ok-rest.ensures.few now.counted, c.in_ok-one.ensures.says.steps)
 
-pub returns-in_err-next-clause-proceeds : goal.returns-in_err-next-clause-proceeds
-returns-in_err-next-clause-proceeds g c event w front u =
-    let d = c.args.definition.now in
-    let p = err_from_is_err_and c.from_residual-in_err-next.result c.from_residual-in_err-next.ensures.1 in
-    let now = c.dispatches.invariant.so event w front u in
-    let ran = ran_as d _ _ _ c.in-Some.is c.in_ok-rest.ensures.ran in
-    let later = under_way_on d _ event w front c.dispatches.course _ now _ (follows_before d c.dispatches.invariant.same ran.0) (c.in_ok-rest.ensures.few now.counted) in
-    rw p.1
-    (ended_on d _ event w front c.dispatches.course _ later ran.1 c.in_ok-one.one c.end_dispatch.new.engine c.in_ok-one.ensures.says c.after.result c.after.ensures (Err c.in_err-next.field-0.0) c.begin_next.new.engine tt c.in_err-next.ensures.begins)
-
-pub returns-in_err-next-clause-same : goal.returns-in_err-next-clause-same
-returns-in_err-next-clause-same g c = same_on c.dispatches.invariant.same c.run_for.ensures.same
-
 pub dispatches-smaller : goal.dispatches-smaller
 dispatches-smaller g c =
     next_fewer c.dispatches.course c.after.result (world_of c.end_dispatch.new.engine.world) (config_of c.args.definition.now c.begin_next.new.engine) c.in-UnderWay.is
-    (ap (λ (x : Course). sources_left x.left) c.after.ensures) c.in_ok-next.ensures.begins
+    (ap (λ (x : Course). sources_left x.left) c.after.ensures) c.begin_next.ensures.begins
 
 pub dispatches-preserved : goal.dispatches-preserved
 dispatches-preserved g c =
     let d = c.args.definition.now in
     let ran = ran_as d _ _ _ c.in-Some.is c.in_ok-rest.ensures.ran in
-    let steps = next_steps c.after.result (world_of c.end_dispatch.new.engine.world) (config_of d c.begin_next.new.engine) c.in-UnderWay.is c.in_ok-next.ensures.begins in
+    let steps = next_steps c.after.result (world_of c.end_dispatch.new.engine.world) (config_of d c.begin_next.new.engine) c.in-UnderWay.is c.begin_next.ensures.begins in
     let sum : c.after.result.so_far.steps ≡ c.dispatches.course.so_far.steps + c.in_ok-one.one.steps = ap (λ (x : Course). x.so_far.steps) c.after.ensures in
     let rest : steps_left c.in_ok-rest.field-0 ≡ c.in-Some.rest = ap (λ (o : Option ℕ). steps_left o) c.in-Some.is in
     record {
@@ -101,12 +96,13 @@ dispatches-preserved g c =
           let now = c.dispatches.invariant.so event w front u in
           let later = under_way_on d _ event w front c.dispatches.course _ now _ (follows_before d c.dispatches.invariant.same ran.0) (c.in_ok-rest.ensures.few now.counted) in
           proceeds_as d _ event w front _ c.in-UnderWay.is
-          (ended_on d _ event w front c.dispatches.course _ later ran.1 c.in_ok-one.one c.end_dispatch.new.engine c.in_ok-one.ensures.says c.after.result c.after.ensures (Ok c.in_ok-next.field-0) c.begin_next.new.engine
-          c.in_ok-next.ensures.still c.in_ok-next.ensures.begins);
+          (ended_on d _ event w front c.dispatches.course _ later ran.1 c.in_ok-one.one c.end_dispatch.new.engine c.in_ok-one.ensures.says c.after.result c.after.ensures c.begin_next.result c.begin_next.new.engine
+          c.begin_next.ensures.still c.begin_next.ensures.begins);
       same = same_on c.dispatches.invariant.same c.run_for.ensures.same;
-      counts = if_under_way c.in-UnderWay.is c.in_ok-next.ensures.counted;
+      room = c.begin_next.ensures.room ∙ c.end_dispatch.ensures.room ∙ c.run_for.ensures.room ∙ c.dispatches.invariant.room;
+      counts = if_under_way c.in-UnderWay.is c.begin_next.ensures.counted;
       grows = prefix_on c.dispatches.invariant.grows (prefix_on c.run_for.ensures.grows (prefix_on
-          (ends_longer d c.in_ok-one.one (config_of d c.run_for.new.engine) (world_of c.end_dispatch.new.engine.world) c.in_ok-one.ensures.says) c.in_ok-next.ensures.grows));
+          (ends_longer d c.in_ok-one.one (config_of d c.run_for.new.engine) (world_of c.end_dispatch.new.engine.world) c.in_ok-one.ensures.says) c.begin_next.ensures.grows));
       made = omega (arith, c.dispatches.invariant.made, c.in_ok-rest.ensures.made, rest, steps.0, steps.1, sum, c.in_ok-one.ensures.says.steps);
     }
 
@@ -117,7 +113,7 @@ returns-in-Ended-clause-knows g c =
     let now = c.dispatches.invariant.so r.event r.from r.front r.under_way in
     let ran = ran_as d _ _ _ c.in-Some.is c.in_ok-rest.ensures.ran in
     let later = under_way_on d _ r.event r.from r.front c.dispatches.course _ now _ (follows_before d c.dispatches.invariant.same ran.0) (c.in_ok-rest.ensures.few now.counted) in
-    let still = if_ended c.in-Ended.is c.in_ok-next.ensures.still in
+    let still = if_ended c.in-Ended.is c.begin_next.ensures.still in
     rw still (ended_knows d _ r.event r.from r.front c.dispatches.course _ later ran.1 c.in_ok-one.one c.end_dispatch.new.engine c.in_ok-one.ensures.says c.after.result c.after.ensures)
 
 pub returns-in-Ended-clause-resting : goal.returns-in-Ended-clause-resting
@@ -127,7 +123,7 @@ returns-in-Ended-clause-resting g c =
     let now = c.dispatches.invariant.so r.event r.from r.front r.under_way in
     let ran = ran_as d _ _ _ c.in-Some.is c.in_ok-rest.ensures.ran in
     let later = under_way_on d _ r.event r.from r.front c.dispatches.course _ now _ (follows_before d c.dispatches.invariant.same ran.0) (c.in_ok-rest.ensures.few now.counted) in
-    let still = if_ended c.in-Ended.is c.in_ok-next.ensures.still in
+    let still = if_ended c.in-Ended.is c.begin_next.ensures.still in
     let rests = ended_rests d _ r.event r.from r.front c.dispatches.course _ later ran.1 c.in_ok-one.one c.end_dispatch.new.engine c.in_ok-one.ensures.says c.after.result c.after.ensures c.requires.well in
     subst (λ (e : Engine). Rests d (world_at (seen (λ p. (g.dyn-1.0.entry p.peer.vtable).1.state p.peer.value) (entries c.run_for.new.pool)) (world_of e.world))) (sym still) rests
 
@@ -138,8 +134,8 @@ returns-in-Ended-clause-proceeds g c event w front u =
     let ran = ran_as d _ _ _ c.in-Some.is c.in_ok-rest.ensures.ran in
     let later = under_way_on d _ event w front c.dispatches.course _ now _ (follows_before d c.dispatches.invariant.same ran.0) (c.in_ok-rest.ensures.few now.counted) in
     proceeds_as d _ event w front _ c.in-Ended.is
-    (ended_on d _ event w front c.dispatches.course _ later ran.1 c.in_ok-one.one c.end_dispatch.new.engine c.in_ok-one.ensures.says c.after.result c.after.ensures (Ok c.in_ok-next.field-0) c.begin_next.new.engine
-    c.in_ok-next.ensures.still c.in_ok-next.ensures.begins)
+    (ended_on d _ event w front c.dispatches.course _ later ran.1 c.in_ok-one.one c.end_dispatch.new.engine c.in_ok-one.ensures.says c.after.result c.after.ensures c.begin_next.result c.begin_next.new.engine
+    c.begin_next.ensures.still c.begin_next.ensures.begins)
 
 pub returns-in-Ended-clause-same : goal.returns-in-Ended-clause-same
 returns-in-Ended-clause-same g c = same_on c.dispatches.invariant.same c.run_for.ensures.same

@@ -5,6 +5,7 @@ use Rattle.ui_machine.specs.State.Tasks.{Event}
 use Rattle.native_peers.specs.Pool.{entries, relations, seen}
 use Rattle.native_peers.specs.Seen.{SameRelations}
 use Rattle.engine_world.specs.Counting.{Counts, nothing}
+use Rattle.engine_world.specs.Room.{SameRoom}
 use Rattle.engine_world.specs.View.{world_of}
 use Rattle.engine_pools.specs.CallPoints.{point_of}
 use Rattle.engine_pools.specs.Courses.{IsUnderWay, sources_left}
@@ -20,6 +21,7 @@ invariant-dispatches g l =
           → IsUnderWay l.definition may event w front l.course (point_of l.definition now l.engine);
       same : SameRelations may (relations (λ p. (g.dyn-1.0.entry p.peer.vtable).1.moves p.peer.value) (entries l.pool));
       counts : Counts l.definition nothing l.engine;
+      room : SameRoom l.fn.engine l.engine;
       grows : IsPrefix (world_of l.fn.engine.world).transcript (world_of l.engine.world).transcript;
       made : l.course.so_far.steps + l.engine.counted + l.most ≡ l.fn.course.so_far.steps + l.fn.engine.counted + l.fn.most;
     }

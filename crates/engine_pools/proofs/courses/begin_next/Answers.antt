@@ -17,8 +17,8 @@ returns-clause-begins c =
       next = f.1;
       left = c.next_due.ensures.left;
       so_far = refl;
-      view_is = c.in_ok-begin_dispatch.ensures.ok ∙ ap (λ n. beginning w (Due n)) (sym f.2);
+      view_is = c.begin_dispatch.ensures.ok ∙ ap (λ n. beginning w (Due n)) (sym f.2);
     }
 
 pub returns-clause-counted : goal.returns-clause-counted
-returns-clause-counted c = c.in_ok-begin_dispatch.ensures.counted.at nothing c.requires.rests.counts
+returns-clause-counted c = c.begin_dispatch.ensures.counted.at nothing c.requires.rests.counts

@@ -62,6 +62,7 @@ execute-requires c =
     ∙ ap (λ (g : Engine). left g.counted (instruction_step d (world_of g.world) (agenda_of d g) t.frame t.instruction)) (sym is) in
     let same = keeps_same d e b (ap (λ (g : Engine). g.world.table) is) (ap (λ (g : Engine). g.world.weak) is) (subst (λ (g : Engine). PassesGot d g) (sym is)) (ap (λ (g : Engine). g.world.context) is) (ap (λ (g : Engine). g.world.builder) is) (ap (λ (g : Engine). g.stack) is) (ap (λ (g : Engine). g.world.handlers) is) in
     record {
+      room = rw is c.requires.room;
       program = ap (program_at d) kept.1 ∙ sym c.in-Some.ensures.program;
       result = c.in-Some.ensures.known.2;
       known = taken_known d.types c.in-Some.program.now (frame_view c.args.frame) (frame_view c.take.new.self) c.in-Some-take.instruction.now

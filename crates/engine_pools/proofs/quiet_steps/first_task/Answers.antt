@@ -1,4 +1,4 @@
-use Rattle.std.proofs.Common.{Ok, ◌∙◌, ◌+◌, ◌≤◌, ap, length, sym, subst, arith}
+use Rattle.std.proofs.Common.{Ok, ◌∙◌, ◌+◌, ◌≤◌, ap, length, sym, subst, vec_capacity, arith}
 use Rattle.ui_machine.specs.Rules.Build.{to_connect, to_make}
 use Rattle.ui_machine.specs.Rules.Connections.{greatest_handler}
 use Rattle.ui_machine.specs.State.Objects.{most_identities}
@@ -14,10 +14,11 @@ use Rattle.engine_world.specs.TaskView.{task_in, tasks_of}
 use Rattle.engine_pools.proofs.LeftClosings.{task_known}
 use Rattle.engine_world.proofs.Ableness.{none_stops}
 use Rattle.engine_world.specs.EngineView.{config_of}
+use Rattle.engine_world.proofs.Rooms.{tasks_counted}
 use Rattle.engine_world.proofs.Counts.{config_same, taken_off, given_back, same_tasks}
 use Rattle.engine_world.specs.View.{world_of}
 use Rattle.engine_pools.proofs.Standing.{first_none}
-use Rattle.engine_pools.proofs.Stepping.{first_can, first_names_so, first_stepped, first_grows, view_numbers}
+use Rattle.engine_pools.proofs.Stepping.{first_can, first_names_so, first_stepped, first_grows, view_few, view_numbers}
 use Rattle.engine_pools.proofs.quiet_steps.first_task.Goals as goal
 
 pub sink_first_floating-requires-clause-none : goal.sink_first_floating-requires-clause-none
@@ -68,6 +69,14 @@ act-requires c = record {
       let d = c.args.definition.now in
       let e = c.args.engine.now in
       subst (λ (ts : List Task). (world_of e.world).last_handler + to_connect ts ≤ greatest_handler) (c.in-Some.ensures.tasks d e.world.handlers.handlers) (view_numbers d (config_of d e) c.requires.safe).handlers;
+  room =
+      let d = c.args.definition.now in
+      let e = c.args.engine.now in
+      let hs = e.world.handlers.handlers in
+      let few = view_few d (vec_capacity e.stack.tasks) (config_of d e) c.requires.safe in
+      let first = ap (λ (ts : List Task). length ts) (c.in-Some.ensures.tasks d hs) in
+      let same = c.pop.ensures.room in
+      omega (arith, few, first, tasks_counted d hs c.pop.new.self, same);
   begun = c.in-Some.ensures.first c.args.engine.now.world.handlers.last c.requires.counted.connects.begun;
   counted =
       let d = c.args.definition.now in

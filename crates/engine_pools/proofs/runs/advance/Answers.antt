@@ -2,12 +2,12 @@ use Rattle.std.proofs.Common.{refl, ◌∙◌}
 use Rattle.std.proofs.lemmas.Result.{err_from_is_err_and}
 use Rattle.ui_machine.proofs.Prefixes.{prefix_on, prefix_same}
 use Rattle.engine_world.specs.View.{world_of}
-use Rattle.engine_pools.proofs.Points.{breaks_before, breaks_on, follows_before, follows_here, follows_on, safe_on, same_here, same_on}
+use Rattle.engine_pools.proofs.Points.{breaks_before, breaks_on, follows_before, follows_here, follows_on, safe_in, safe_on, same_here, same_on}
 use Rattle.engine_pools.proofs.StepProofs.{counts_so, nothing_left, stepped_as}
 use Rattle.engine_pools.proofs.runs.advance.Goals as goal
 
 pub loop-init : goal.loop-init
-loop-init g c = record { follows = follows_here c.args.definition.now _ _; safe = c.requires.safe; same = same_here _; counts = c.requires.counted; grows = prefix_same (world_of c.args.engine.now.world).transcript; counted = refl }
+loop-init g c = record { follows = follows_here c.args.definition.now _ _; safe = c.requires.safe; room = refl; same = same_here _; counts = c.requires.counted; grows = prefix_same (world_of c.args.engine.now.world).transcript; counted = refl }
 
 pub loop-preserved : goal.loop-preserved
 loop-preserved g c =
@@ -15,7 +15,8 @@ loop-preserved g c =
     let s = stepped_as d _ _ _ c.in-Uncounted.is c.in_ok-step.ensures.stepped in
     record {
       follows = follows_on d c.loop.invariant.follows (follows_before d c.loop.invariant.same s.0);
-      safe = safe_on d c.loop.invariant.safe s.0;
+      safe = safe_in d c.step.ensures.room (safe_on d c.loop.invariant.safe s.0);
+      room = c.step.ensures.room ∙ c.loop.invariant.room;
       same = same_on c.loop.invariant.same c.step.ensures.same;
       counts = c.in_ok-step.ensures.counted;
       grows = prefix_on c.loop.invariant.grows c.step.ensures.grows;

@@ -1,8 +1,8 @@
-use Rattle.std.proofs.Common.{refl, arith}
+use Rattle.std.proofs.Common.{refl, arith, ◌∙◌}
 use Rattle.std.proofs.lemmas.Result.{err_from_is_err_and}
 use Rattle.ui_machine.proofs.Prefixes.{prefix_on, prefix_same}
 use Rattle.engine_world.specs.View.{world_of}
-use Rattle.engine_pools.proofs.Points.{breaks_before, breaks_on, follows_before, follows_here, follows_on, safe_on, same_here, same_on}
+use Rattle.engine_pools.proofs.Points.{breaks_before, breaks_on, follows_before, follows_here, follows_on, safe_in, safe_on, same_here, same_on}
 use Rattle.engine_pools.proofs.StepProofs.{advanced_as}
 use Rattle.engine_pools.proofs.runs.run_for.Goals as goal
 
@@ -10,6 +10,7 @@ pub steps-init : goal.steps-init
 steps-init g c = record {
   follows = follows_here c.args.definition.now _ _;
   safe = c.requires.safe;
+  room = refl;
   same = same_here _;
   counts = c.requires.counted;
   grows = prefix_same (world_of c.args.engine.now.world).transcript;
@@ -47,7 +48,8 @@ steps-preserved g c =
     let a = advanced_as d _ _ _ c.if-not-branch.false c.in_ok-advance.ensures.advanced in
     record {
       follows = follows_on d c.steps.invariant.follows (follows_before d c.steps.invariant.same a.0);
-      safe = safe_on d c.steps.invariant.safe a.0;
+      safe = safe_in d c.advance.ensures.room (safe_on d c.steps.invariant.safe a.0);
+      room = c.advance.ensures.room ∙ c.steps.invariant.room;
       same = same_on c.steps.invariant.same c.advance.ensures.same;
       counts = c.in_ok-advance.ensures.counted;
       grows = prefix_on c.steps.invariant.grows c.advance.ensures.grows;

@@ -1,9 +1,10 @@
-use Rattle.std.proofs.Common.{◌≡◌, ◌≤◌, ◌+◌}
+use Rattle.std.proofs.Common.{◌≡◌, ◌≤◌, ◌+◌, vec_capacity}
 use Rattle.ui_machine.specs.Steps.{most_steps}
 use Rattle.ui_machine.specs.Prefix.{IsPrefix}
 use Rattle.native_peers.specs.Pool.{entries, relations, seen}
 use Rattle.native_peers.specs.Seen.{SameRelations}
 use Rattle.engine_world.specs.Counting.{Counts, nothing}
+use Rattle.engine_world.specs.Room.{SameRoom}
 use Rattle.engine_world.specs.View.{world_of}
 use Rattle.engine_pools.specs.CallPoints.{point_of}
 use Rattle.engine_pools.specs.Following.{Follows}
@@ -17,7 +18,8 @@ invariant-steps g l =
     let may = relations (λ p. (g.dyn-1.0.entry p.peer.vtable).1.moves p.peer.value) (entries l.fn.pool) in
     record {
       follows : Follows l.definition may (point_of l.definition old l.fn.engine) (point_of l.definition now l.engine);
-      safe : ComesOfSafe l.definition (point_of l.definition now l.engine);
+      room : SameRoom l.fn.engine l.engine;
+      safe : ComesOfSafe l.definition (vec_capacity l.engine.stack.tasks) (point_of l.definition now l.engine);
       same : SameRelations may (relations (λ p. (g.dyn-1.0.entry p.peer.vtable).1.moves p.peer.value) (entries l.pool));
       counts : Counts l.definition nothing l.engine;
       grows : IsPrefix (world_of l.fn.engine.world).transcript (world_of l.engine.world).transcript;

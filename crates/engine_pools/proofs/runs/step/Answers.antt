@@ -13,30 +13,30 @@ use Rattle.engine_pools.proofs.runs.step.Goals as goal
 pub returns-in_default-answer_call-clause-stepped : goal.returns-in_default-answer_call-clause-stepped
 returns-in_default-answer_call-clause-stepped g c =
     let d = c.args.definition.now in
-    call_breaks d _ _ (config_of d c.args.engine.now) c.take_call.new.engine c.in-Some.call c.in-Some.ensures.first _ _ c.in_default-answer_call.ensures.breaks
+    call_breaks d _ _ (config_of d c.args.engine.now) c.take_call.new.engine c.in-Some.call c.in-Some.ensures.taken.first _ _ c.in_default-answer_call.ensures.breaks
 
 pub returns-in-Some-clause-stepped : goal.returns-in-Some-clause-stepped
 returns-in-Some-clause-stepped g c =
     let d = c.args.definition.now in
-    call_stepped d _ _ (config_of d c.args.engine.now) c.take_call.new.engine c.in-Some.call c.in-Some.ensures.first _ c.in-Ok.ensures.follows c.in-Ok.ensures.concludes
+    call_stepped d _ _ (config_of d c.args.engine.now) c.take_call.new.engine c.in-Some.call c.in-Some.ensures.taken.first _ c.in-Ok.ensures.follows c.in-Ok.ensures.concludes
 
 pub returns-in-Some-clause-grows : goal.returns-in-Some-clause-grows
 returns-in-Some-clause-grows g c =
     let d = c.args.definition.now in
-    call_grows d (λ k s m args answer t. ⊥) [] (config_of d c.args.engine.now) c.take_call.new.engine c.in-Some.call c.in-Some.ensures.first (config_of d c.answer_call.new.engine) c.in-Ok.ensures.concludes
+    call_grows d (λ k s m args answer t. ⊥) [] (config_of d c.args.engine.now) c.take_call.new.engine c.in-Some.call c.in-Some.ensures.taken.first (config_of d c.answer_call.new.engine) c.in-Ok.ensures.concludes
 
 pub returns-in_err-made-clause-stepped : goal.returns-in_err-made-clause-stepped
 returns-in_err-made-clause-stepped g c =
     let d = c.args.definition.now in
     let r = err_from_is_err_and c.from_residual.result c.from_residual.ensures.1 in
     let new = world_of c.step_quietly.new.engine.world in
-    let quiet = subst (λ (e : Engine). IsQuiet (world_of e.world) new) c.in_default.ensures.0 c.in_err-made.ensures.stepped in
+    let quiet = subst (λ (e : Engine). IsQuiet (world_of e.world) new) c.in_default.ensures.taken.0 c.in_err-made.ensures.stepped in
     rw r.1 (cut_off d _ (point_of d _ c.args.engine.now) _ new refl quiet)
 
 pub returns-clause-stepped : goal.returns-clause-stepped
 returns-clause-stepped g c =
     let d = c.args.definition.now in
-    let same = c.in_default.ensures.0 in
+    let same = c.in_default.ensures.taken.0 in
     let new = c.step_quietly.new.engine in
     let known = subst (λ (e : Engine). LeavesKnown (world_of e.world) (world_of new.world) new.closing) same c.in_ok-made.ensures.known in
     let stepped = subst (λ (e : Engine). QuietlyStepped (Ok c.in_ok-made.made) d (config_of d e) (config_of d new)) same c.in_ok-made.ensures.stepped in

@@ -23,12 +23,14 @@ pub validate_and_set-requires : goal.validate_and_set-requires
 validate_and_set-requires c = record {
   able = rw c.in-Setting.is at c.requires.able;
   counted = task_counted c.args.definition.now c.args.engine.now c.args.task c.requires.counted;
+  room = let has = c.requires.room in omega (arith, has);
 }
 
 pub notify-requires : goal.notify-requires
 notify-requires c = record {
   able = rw c.in-Notifying.is at c.requires.able;
   counted = task_counted c.args.definition.now c.args.engine.now c.args.task c.requires.counted;
+  room = let has = c.requires.room in omega (arith, has);
 }
 
 pub begin_emission-requires-clause-able : goal.begin_emission-requires-clause-able
@@ -44,6 +46,7 @@ pub transfer-requires : goal.transfer-requires
 transfer-requires c = record {
   able = rw c.in-Transferring.is at c.requires.able;
   counted = task_counted c.args.definition.now c.args.engine.now c.args.task c.requires.counted;
+  room = c.requires.room;
 }
 
 pub run_program-requires-clause-able : goal.run_program-requires-clause-able
@@ -61,6 +64,7 @@ notify_thawed-requires c = record {
       counted_lives d _ e c.never_full.ensures.dead c.requires.counted c.in-Thawing.object.0
       (let one = ap (λ (t : code.Task). in_task c.in-Thawing.object.0 (task_in d e t)) c.in-Thawing.is in omega (arith, one, same_self c.in-Thawing.object.0));
   counted = task_counted c.args.definition.now c.args.engine.now c.args.task c.requires.counted;
+  room = c.requires.room;
 }
 
 pub construct-requires : goal.construct-requires
@@ -72,6 +76,7 @@ construct-requires c = record {
       counted_lives d _ e c.never_full.ensures.dead c.requires.counted c.in-Constructing.object.0
       (let one = ap (λ (t : code.Task). in_task c.in-Constructing.object.0 (task_in d e t)) c.in-Constructing.is in omega (arith, one, same_self c.in-Constructing.object.0));
   counted = task_counted c.args.definition.now c.args.engine.now c.args.task c.requires.counted;
+  room = c.requires.room;
 }
 
 pub build-requires-clause-able : goal.build-requires-clause-able
@@ -95,6 +100,7 @@ pub adopt_from_build-requires : goal.adopt_from_build-requires
 adopt_from_build-requires c = record {
   able = rw c.in-Adopting.is at c.requires.able;
   counted = task_counted c.args.definition.now c.args.engine.now c.args.task c.requires.counted;
+  room = let has = c.requires.room in omega (arith, has);
 }
 
 pub bind_from_build-requires-clause-able : goal.bind_from_build-requires-clause-able
@@ -137,6 +143,7 @@ run_source-requires c = record {
   able = rw c.in-Due.is at c.requires.able;
   names = rw c.in-Due.is at c.requires.names;
   counted = task_counted c.args.definition.now c.args.engine.now c.args.task c.requires.counted;
+  room = c.requires.room;
 }
 
 pub handle_event-requires-clause-able : goal.handle_event-requires-clause-able
@@ -163,7 +170,7 @@ returns-in-Notifying-clause-counted c =
 
 pub returns-in-Thawing-clause-counted : goal.returns-in-Thawing-clause-counted
 returns-in-Thawing-clause-counted c =
-    done_plain c.args.definition.now c.args.engine.now c.notify_thawed.new.engine c.args.task _ c.in-Thawing.is (λ o. refl) c.in_ok-notify_thawed-in-Thawing.ensures.counted c.requires.counted
+    done_plain c.args.definition.now c.args.engine.now c.notify_thawed.new.engine c.args.task _ c.in-Thawing.is (λ o. refl) c.notify_thawed.ensures.counted c.requires.counted
 
 pub returns-in-Constructing-clause-counted : goal.returns-in-Constructing-clause-counted
 returns-in-Constructing-clause-counted c =
@@ -194,7 +201,7 @@ pub returns-in-Emitting-clause-step : goal.returns-in-Emitting-clause-step
 returns-in-Emitting-clause-step c = rw c.in-Emitting.is (leads_whole c.args.definition.now c.emit.new.engine done _ c.in_ok-emit-in-Emitting.ensures.step)
 
 pub returns-in-Thawing-clause-step : goal.returns-in-Thawing-clause-step
-returns-in-Thawing-clause-step c = rw c.in-Thawing.is (leads_whole c.args.definition.now c.notify_thawed.new.engine done _ c.in_ok-notify_thawed-in-Thawing.ensures.step)
+returns-in-Thawing-clause-step c = rw c.in-Thawing.is (leads_whole c.args.definition.now c.notify_thawed.new.engine done _ c.notify_thawed.ensures.step)
 
 pub returns-in-Constructing-clause-step : goal.returns-in-Constructing-clause-step
 returns-in-Constructing-clause-step c = rw c.in-Constructing.is (leads_whole c.args.definition.now c.construct.new.engine done _ c.in_ok-construct-in-Constructing.ensures.step)

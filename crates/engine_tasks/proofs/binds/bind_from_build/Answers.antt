@@ -36,13 +36,13 @@ returns-then-is_late-clause-step c =
     let within : number < length d.bindings = omega (arith, c.binding_count.ensures, c.if-number-binding_count.false) in
     let found = sym c.binding.ensures ∙ ap (option_map (λ b. bind_view b.now)) c.in-Some.is in
     let late = sym c.is_any_disposed-is_late.ensures ∙ c.if-is_late.true in
-    let agenda = c.in_ok-push_task.ensures.agenda d ∙ ap (λ (n : ℕ). Building (binds_from d n) ∷ agenda_of d e) (let more : number + 1 ≡ suc number = omega arith in more) in
+    let agenda = c.push_task.ensures.agenda d ∙ ap (λ (n : ℕ). Building (binds_from d n) ∷ agenda_of d e) (let more : number + 1 ≡ suc number = omega arith in more) in
     ap (λ (its : List Item). uncounted (agenda_of d e) e.counted (building d w its)) (next_there d number within)
     ∙ ap (uncounted (agenda_of d e) e.counted) (too_late d w number items (bind_view c.in-Some.meant.now) found (ends_of c.ends_of-ends.result) c.ends_of-ends.ensures late)
     ∙ rw (c.push_task.ensures.world, c.push_task.ensures.same, agenda) refl
 
 pub returns-then-is_late-clause-counted : goal.returns-then-is_late-clause-counted
-returns-then-is_late-clause-counted c = c.in_ok-push_task.ensures.counted c.args.definition.now
+returns-then-is_late-clause-counted c = c.push_task.ensures.counted c.args.definition.now
 
 pub returns-clause-step : goal.returns-clause-step
 returns-clause-step c =
@@ -56,9 +56,9 @@ returns-clause-step c =
     let within : number < length d.bindings = omega (arith, c.binding_count.ensures, c.if-number-binding_count.false) in
     let found = sym c.binding.ensures ∙ ap (option_map (λ b. bind_view b.now)) c.in-Some.is in
     let early = sym c.is_any_disposed-is_late.ensures ∙ c.if-is_late.false in
-    let pushed = c.in_ok-push_task.ensures.agenda d ∙ ap (λ (n : ℕ). Building (binds_from d n) ∷ agenda_of d e) (let more : number + 1 ≡ suc number = omega arith in more) in
+    let pushed = c.push_task.ensures.agenda d ∙ ap (λ (n : ℕ). Building (binds_from d n) ∷ agenda_of d e) (let more : number + 1 ≡ suc number = omega arith in more) in
     let agenda = same_agenda d c.push_first_transfer.new.engine c.bind.new.engine c.bind.ensures.same.0 c.bind.ensures.handlers
-    ∙ c.in_ok-push_first_transfer.ensures.agenda d ∙ ap (λ (ts : List Task). first_transfer number b ++ ts) pushed in
+    ∙ c.push_first_transfer.ensures.agenda d ∙ ap (λ (ts : List Task). first_transfer number b ++ ts) pushed in
     let world = c.in_ok-bind.ensures.world ∙ ap (λ (v : World). with_binding v (new_binding number b ends.source.0 ends.target.0)) (c.push_first_transfer.ensures.world ∙ c.push_task.ensures.world) in
     let count = c.bind.ensures.same.1 ∙ c.push_first_transfer.ensures.same ∙ c.push_task.ensures.same in
     ap (λ (its : List Item). uncounted (agenda_of d e) e.counted (building d w its)) (next_there d number within)
@@ -68,4 +68,4 @@ returns-clause-step c =
 pub returns-clause-counted : goal.returns-clause-counted
 returns-clause-counted c =
     let d = c.args.definition.now in
-    keeps_on d _ _ _ (c.in_ok-push_task.ensures.counted d) (keeps_on d _ _ _ (c.in_ok-push_first_transfer.ensures.counted d) c.bind.ensures.counted)
+    keeps_on d _ _ _ (c.push_task.ensures.counted d) (keeps_on d _ _ _ (c.push_first_transfer.ensures.counted d) c.bind.ensures.counted)

@@ -1,4 +1,4 @@
-use Rattle.std.proofs.Common.{◌≡◌, true, List, ◌++◌, ap, sym, ◌∙◌}
+use Rattle.std.proofs.Common.{◌≡◌, true, List, ◌++◌, ap, sym, ◌∙◌, arith}
 use Rattle.ui_machine.specs.Definition.Properties.{has_flags}
 use Rattle.ui_machine.specs.State.Tasks.{Task}
 use Rattle.definition_format.specs.Meaning.{bind_view}
@@ -8,6 +8,6 @@ use Rattle.engine_tasks.proofs.Binding.{first_on}
 use Rattle.engine_tasks.proofs.binds.push_first_transfer.Goals as goal
 
 pub returns-clause-agenda : goal.returns-clause-agenda
-returns-clause-agenda c =
+returns-clause-agenda c d =
     let on : has_flags 2 c.args.bind.now.flags.0 ≡ true = sym (c.if-not-contains.ensures tt) in
-    on_ok c.push_task.result (λ f d. f d ∙ ap (λ (ts : List Task). ts ++ agenda_of d c.args.engine.now) (sym (first_on c.args.number (bind_view c.args.bind.now) on))) c.push_task.ensures.agenda
+    c.push_task.ensures.agenda d ∙ ap (λ (ts : List Task). ts ++ agenda_of d c.args.engine.now) (sym (first_on c.args.number (bind_view c.args.bind.now) on))

@@ -35,20 +35,20 @@ push_task-requires-2-clause-may c =
     let e = c.args.engine.now in
     let b = c.push_task.new.engine in
     pushes_one b _ c.args.object.0 (λ d o. refl)
-    (may_on d e b c.args.object.0 c.requires.counted (c.in_ok-push_task.ensures.counted d) (lives_still e b c.args.object.0 c.push_task.ensures.world c.requires.live))
+    (may_on d e b c.args.object.0 c.requires.counted (c.push_task.ensures.counted d) (lives_still e b c.args.object.0 c.push_task.ensures.world c.requires.live))
 
 pub returns-clause-step : goal.returns-clause-step
 returns-clause-step c =
     let d = c.args.definition.now in
     let e = c.args.engine.now in
     let tasks = Constructing c.args.object.0 c.args.steps c.args.held ∷ [] in
-    let first = c.in_ok-push_task.ensures.agenda d in
-    let second = c.in_ok-push_task-2.ensures.agenda d in
+    let first = c.push_task.ensures.agenda d in
+    let second = c.push_task-2.ensures.agenda d in
     ap (uncounted (agenda_of d e) e.counted)
     (applies d (world_of e.world) c.args.object.0 c.args.slot (value_view c.args.value) tasks (in_uncounted _ _ _ c.requires.able))
-    ∙ rw (c.in_ok-push_task-2.ensures.world, c.in_ok-push_task.ensures.world, c.in_ok-push_task-2.ensures.same, c.in_ok-push_task.ensures.same, second, first) refl
+    ∙ rw (c.push_task-2.ensures.world, c.push_task.ensures.world, c.push_task-2.ensures.same, c.push_task.ensures.same, second, first) refl
 
 pub returns-clause-counted : goal.returns-clause-counted
 returns-clause-counted c =
     let d = c.args.definition.now in
-    keeps_on d _ _ _ (c.in_ok-push_task.ensures.counted d) (c.in_ok-push_task-2.ensures.counted d)
+    keeps_on d _ _ _ (c.push_task.ensures.counted d) (c.push_task-2.ensures.counted d)

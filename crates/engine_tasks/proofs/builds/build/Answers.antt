@@ -1,4 +1,4 @@
-use Rattle.std.proofs.Common.{◌≡◌, true, List, ◌∷◌, sym, ap, subst, ◌∙◌}
+use Rattle.std.proofs.Common.{◌≡◌, true, List, ◌∷◌, sym, ap, subst, ◌∙◌, arith}
 use Rattle.std.specs.Prelude.{◌<◌, IfSome, length}
 use Rattle.ui_machine.specs.State.Objects.{most_identities}
 use Rattle.ui_machine.specs.State.Peers.{Peer}
@@ -26,6 +26,7 @@ use Rattle.engine_tasks.proofs.builds.build.Goals as goal
 pub push_task-requires : goal.push_task-requires
 push_task-requires c = record {
   begun = c.behind.ensures.begun c.args.engine.now.world.handlers.last;
+  room = let has = c.requires.room in omega (arith, has);
   may =
       let d = c.args.definition.now in
       let e = c.args.engine.now in
@@ -42,7 +43,7 @@ returns-clause-step c =
     let fs = c.args.forwards in
     let there = object_within d c.types-types.ensures.basic c.args.place.0 (c.is_object.ensures.within c.if-not-is_object.false) in
     let next = builds_next d c.types-types.ensures.basic w c.args.place.0 there.0 there.1 there.2 fs rest n c.own_peer-peer.result c.own_peer-peer.ensures.own in
-    let pushed = c.in_ok-push_task.ensures.agenda d ∙ ap (λ (t : Task). t ∷ rest) (c.behind.ensures.task c.args.engine.now.world.handlers.handlers) in
+    let pushed = c.push_task.ensures.agenda d ∙ ap (λ (t : Task). t ∷ rest) (c.behind.ensures.task c.args.engine.now.world.handlers.handlers) in
     let world : world_of c.push_task.new.engine.world ≡ w = c.push_task.ensures.world in
     let same : c.push_task.new.engine.counted ≡ n = c.push_task.ensures.same in
     let made =
@@ -73,13 +74,14 @@ make_from_build-requires c = record {
       let n = c.args.engine.now.counted in
       let there = object_within d c.types-types.ensures.basic c.args.place.0 (c.is_object.ensures.within c.if-not-is_object.false) in
       let next = builds_next d c.types-types.ensures.basic w c.args.place.0 there.0 there.1 there.2 c.args.forwards rest n c.own_peer-peer.result c.own_peer-peer.ensures.own in
-      let pushed = c.in_ok-push_task.ensures.agenda d ∙ ap (λ (t : Task). t ∷ rest) (c.behind.ensures.task c.args.engine.now.world.handlers.handlers) in
+      let pushed = c.push_task.ensures.agenda d ∙ ap (λ (t : Task). t ∷ rest) (c.behind.ensures.task c.args.engine.now.world.handlers.handlers) in
       rw (pushed, c.push_task.ensures.world, c.push_task.ensures.same) (able_as next c.requires.able);
   peer =
       subst (λ (peers : List Peer). IfSome c.own_peer-peer.result (λ number. number < length peers)) (sym (ap (λ (w : World). w.peers) c.push_task.ensures.world)) c.own_peer-peer.ensures.within;
   identity =
       subst (λ (w : World). length w.objects < most_identities) (sym c.push_task.ensures.world) (c.requires.identity (c.is_object.ensures.within c.if-not-is_object.false));
-  counted = still_counted c.args.definition.now c.args.engine.now c.push_task.new.engine (c.in_ok-push_task.ensures.counted c.args.definition.now) c.requires.counted;
+  counted = still_counted c.args.definition.now c.args.engine.now c.push_task.new.engine (c.push_task.ensures.counted c.args.definition.now) c.requires.counted;
+  room = (let took = c.push_task.ensures.room in let has = c.requires.room in omega (arith, took.0, took.1, has));
 }
 
 pub set_forward_reference-requires-clause-names : goal.set_forward_reference-requires-clause-names
@@ -112,4 +114,4 @@ returns-then-not-is_object-clause-step c =
 pub returns-clause-counted : goal.returns-clause-counted
 returns-clause-counted c =
     let d = c.args.definition.now in
-    on_ok c.make_from_build.result (λ k. keeps_on d _ _ _ (c.in_ok-push_task.ensures.counted d) k) c.make_from_build.ensures.counted
+    on_ok c.make_from_build.result (λ k. keeps_on d _ _ _ (c.push_task.ensures.counted d) k) c.make_from_build.ensures.counted

@@ -31,18 +31,18 @@ push_task-requires-2-clause-may c =
     let id = c.args.object.0 in
     pushes_one g _ id (λ d o. refl)
     (may_on d e g id c.requires.counted
-    (keeps_on d e b g (keeps_change d e c.thaw-slots.new.self id frozen_less _ (frozen_alike d) c.thaw-slots.ensures.changes c.thaw-slots.ensures.beside) (c.in_ok-push_task.ensures.counted d))
+    (keeps_on d e b g (keeps_change d e c.thaw-slots.new.self id frozen_less _ (frozen_alike d) c.thaw-slots.ensures.changes c.thaw-slots.ensures.beside) (c.push_task.ensures.counted d))
     (lives_still b g id c.push_task.ensures.world (lives_on e.world.table.objects id frozen_less _ c.thaw-slots.ensures.changes)))
 
 pub returns-clause-step : goal.returns-clause-step
 unfolding thawing_made
 returns-clause-step c =
-    let first = c.in_ok-push_task.ensures.agenda c.args.definition.now in
-    let second = c.in_ok-push_task-2.ensures.agenda c.args.definition.now in
-    rw (c.in_ok-push_task-2.ensures.world, c.in_ok-push_task.ensures.world, c.in_ok-push_task-2.ensures.same, c.in_ok-push_task.ensures.same, second, first, c.thaw-slots.ensures.changes) (search rules)
+    let first = c.push_task.ensures.agenda c.args.definition.now in
+    let second = c.push_task-2.ensures.agenda c.args.definition.now in
+    rw (c.push_task-2.ensures.world, c.push_task.ensures.world, c.push_task-2.ensures.same, c.push_task.ensures.same, second, first, c.thaw-slots.ensures.changes) (search rules)
 
 pub returns-clause-counted : goal.returns-clause-counted
 returns-clause-counted c =
     let d = c.args.definition.now in
     keeps_on d _ _ _ (keeps_change d c.args.engine.now c.thaw-slots.new.self c.args.object.0 frozen_less _ (frozen_alike d) c.thaw-slots.ensures.changes c.thaw-slots.ensures.beside)
-    (keeps_on d _ _ _ (c.in_ok-push_task.ensures.counted d) (c.in_ok-push_task-2.ensures.counted d))
+    (keeps_on d _ _ _ (c.push_task.ensures.counted d) (c.push_task-2.ensures.counted d))

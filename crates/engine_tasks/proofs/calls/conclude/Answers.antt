@@ -36,21 +36,16 @@ pass_answer-requires c = record {
       (λ o. value_lives e.world.table.objects o v (received_names e.counted _ c.args.call.to.0 v (agenda_of d e) c.requires.able c.requires.names));
 }
 
-pub returns-in_err-pass_answer-clause-quiet : goal.returns-in_err-pass_answer-clause-quiet
-returns-in_err-pass_answer-clause-quiet c =
-    let p = err_from_is_err_and c.from_residual.result c.from_residual.ensures.1 in
-    rw p.1 (quiet_same (world_of c.args.engine.now.world) (world_of c.pass_answer.new.engine.world) (tasks_world c.args.engine.now c.pass_answer.new.engine c.pass_answer.ensures.only))
-
 pub returns-in_err-say-clause-quiet : goal.returns-in_err-say-clause-quiet
 returns-in_err-say-clause-quiet c =
-    let p = err_from_is_err_and c.from_residual-in_err-say.result c.from_residual-in_err-say.ensures.1 in
+    let p = err_from_is_err_and c.from_residual.result c.from_residual.ensures.1 in
     rw p.1 (quiet_same (world_of c.args.engine.now.world) (world_of c.say.new.self) (c.in_err-say.ensures.err ∙ tasks_world c.args.engine.now c.pass_answer.new.engine c.pass_answer.ensures.only))
 
 pub let_go_values-requires : goal.let_go_values-requires
 let_go_values-requires c = record {
   held = λ o.
       let d = c.args.definition.now in
-      let counted = c.in_ok-pass_answer.ensures.counted in
+      let counted = c.pass_answer.ensures.counted in
       let kept = (keeps_said d c.pass_answer.new.engine c.say.new.self c.say.ensures.beside).at _ (counted.at _ c.requires.counted) in
       omega (arith, kept.exact o, slice c.args.call.args.items c.as_slice.result.now c.as_slice.ensures.value o);
 }
@@ -61,7 +56,7 @@ returns-clause-step c =
     let e = c.args.engine.now in
     let b = c.pass_answer.new.engine in
     let only = c.pass_answer.ensures.only in
-    let passed = c.in_ok-pass_answer.ensures.agenda in
+    let passed = c.pass_answer.ensures.agenda in
     let x = c.say.new.self in
     let text = string_bytes c.args.conclusion.line in
     let said = c.in_ok-say.ensures.ok ∙ ap (λ (w : World). with_line text w) (tasks_world e b only) in
@@ -75,7 +70,7 @@ returns-clause-counted c =
     let d = c.args.definition.now in
     let b = c.pass_answer.new.engine in
     let x = c.say.new.self in
-    let counted = c.in_ok-pass_answer.ensures.counted in
+    let counted = c.pass_answer.ensures.counted in
     less_held d (record b { world = x }) c.let_go_values.new.table _ (λ o. same o c.args.call.object.0) (λ o. total (in_value o) (map value_view c.args.call.args.items)) c.let_go_values.ensures.only
     (λ o. omega (arith, c.let_go_values.ensures.counts o, slice c.args.call.args.items c.as_slice.result.now c.as_slice.ensures.value o)) (λ o. refl)
     ((keeps_said d b x c.say.ensures.beside).at _ (counted.at _ c.requires.counted))

@@ -55,7 +55,7 @@ join-requires c =
     let kin = kin_of c.kin_at-kin.result in
     record {
       able = rw c.push_task.ensures.world (able_joined d w place items (in_uncounted _ _ _ c.requires.able) kin c.kin_at-kin.ensures);
-      counted = still_counted d c.args.engine.now c.push_task.new.engine (c.in_ok-push_task.ensures.counted d) c.requires.counted;
+      counted = still_counted d c.args.engine.now c.push_task.new.engine (c.push_task.ensures.counted d) c.requires.counted;
     }
 
 pub returns-clause-step : goal.returns-clause-step
@@ -69,7 +69,7 @@ returns-clause-step c =
     let kin = kin_of c.kin_at-kin.result in
     let items = build_from d (suc c.args.place.0) c.args.forwards in
     let one : c.next_place.result.0 ≡ suc c.args.place.0 = c.next_place.ensures in
-    let pushed = c.in_ok-push_task.ensures.agenda d ∙ ap (λ place. Building (build_from d place c.args.forwards) ∷ rest) one in
+    let pushed = c.push_task.ensures.agenda d ∙ ap (λ place. Building (build_from d place c.args.forwards) ∷ rest) one in
     let agenda = same_agenda d c.push_task.new.engine c.join.new.engine c.join.ensures.same.0 c.join.ensures.handlers ∙ pushed in
     let counted = c.join.ensures.same.1 ∙ c.push_task.ensures.same in
     let goes = subst (λ (v : World). Leads c.join.result (joined d v kin.parent kin.child) new) c.push_task.ensures.world c.join.ensures.joins in
@@ -85,4 +85,4 @@ returns-clause-quiet c =
 pub returns-clause-counted : goal.returns-clause-counted
 returns-clause-counted c =
     let d = c.args.definition.now in
-    on_ok c.join.result (λ k. keeps_on d _ _ _ (c.in_ok-push_task.ensures.counted d) k) c.join.ensures.counted
+    on_ok c.join.result (λ k. keeps_on d _ _ _ (c.push_task.ensures.counted d) k) c.join.ensures.counted

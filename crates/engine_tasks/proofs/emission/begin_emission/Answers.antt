@@ -78,6 +78,7 @@ start_emission-requires c =
     let kept = keeps_same d e c.count.new.engine (ap (λ (f : Engine). f.world.table) is) (ap (λ (f : Engine). f.world.weak) is) (subst (λ (f : Engine). PassesGot d f) (sym is)) (ap (λ (f : Engine). f.world.context) is) (ap (λ (f : Engine). f.world.builder) is) (ap (λ (f : Engine). f.stack) is)
     (ap (λ (f : Engine). f.world.handlers) is) in
     record {
+      room = rw is c.requires.room;
       may = may_on d e c.count.new.engine c.in-Some-emission.planned.object.0 (task_counted d e (tasks.Beginning m) c.requires.counted) kept
           (subst (λ (f : Engine). IsSome (living f.world.table.objects c.in-Some-emission.planned.object.0)) (sym is)
           (subst (λ i. IsSome (living e.world.table.objects i)) (sym same_object) lives));

@@ -32,8 +32,9 @@ returns-in-Some-clause-step c =
     let d = c.args.definition.now in
     let e = c.args.engine.now in
     let m = emission_of c.args.cursor c.args.args.items c.args.by_event in
-    subst (λ (es : List PlanEntry). Leads c.take_transfer.result (act d (world_of e.world) None (Emitting m es ∷ agenda_of d e) e.counted) (config_of d c.take_transfer.new.engine))
-    (sym (transfer_first (world_of e.world) c.args.cursor c.args.transfers c.next_transfer.new.transfers c.next_transfer.ensures.later c.in-Some.due c.in-Some.ensures.next)) c.take_transfer.ensures.step
+    ap (λ (es : List PlanEntry). act d (world_of e.world) None (Emitting m es ∷ agenda_of d e) e.counted)
+    (transfer_first (world_of e.world) c.args.cursor c.args.transfers c.next_transfer.new.transfers c.next_transfer.ensures.later c.in-Some.due c.in-Some.ensures.next)
+    ∙ c.take_transfer.ensures.step
 
 pub end_emission-requires-clause-able : goal.end_emission-requires-clause-able
 end_emission-requires-clause-able c =

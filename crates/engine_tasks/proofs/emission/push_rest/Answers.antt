@@ -14,10 +14,10 @@ hold_any-requires c = record {
 }
 
 pub returns-clause-agenda : goal.returns-clause-agenda
-returns-clause-agenda c d = c.in_ok-push.ensures.tasks d c.args.engine.now.world.handlers.handlers
+returns-clause-agenda c d = c.push.ensures.tasks d c.args.engine.now.world.handlers.handlers
 
 pub returns-clause-counted : goal.returns-clause-counted
 returns-clause-counted c d taken h =
     let e = c.args.engine.now in
     pushed_rest d e c.hold_any.new.table c.push.new.self taken (emission_of c.args.cursor c.args.args.items c.args.by_event) _ c.hold_any.ensures.only
-    (λ o. omega (arith, c.hold_any.ensures.counts o, ap (same o) c.object.ensures)) (c.in_ok-push.ensures.tasks d e.world.handlers.handlers) (c.in_ok-push.ensures.begun e.world.handlers.last (c.requires.begun, c.requires.ends)) h
+    (λ o. omega (arith, c.hold_any.ensures.counts o, ap (same o) c.object.ensures)) (c.push.ensures.tasks d e.world.handlers.handlers) (c.push.ensures.begun e.world.handlers.last (c.requires.begun, c.requires.ends)) h

@@ -13,6 +13,7 @@ use Rattle.engine_tasks.proofs.emission.take_transfer.Goals as goal
 
 pub push_rest-requires : goal.push_rest-requires
 push_rest-requires c = record {
+  room = let has = c.requires.room in omega (arith, has);
   begun = c.requires.begun;
   ends = c.requires.ends;
   may = record {
@@ -34,7 +35,7 @@ returns-clause-step c =
     let t = c.args.due in
     let m = emission_of c.args.cursor c.args.args.items c.args.by_event in
     let left = entries_to_come c.args.cursor e.world.handlers.handlers c.args.transfers in
-    let agenda = c.in_ok-push_task.ensures.agenda d ∙ ap (λ (ts : List Task). Transferring t.number t.back ∷ ts) (c.in_ok-push_rest.ensures.agenda d) in
+    let agenda = c.push_task.ensures.agenda d ∙ ap (λ (ts : List Task). Transferring t.number t.back ∷ ts) (c.push_rest.ensures.agenda d) in
     let world = c.push_task.ensures.world ∙ c.push_rest.ensures.world in
     let count = c.push_task.ensures.same ∙ c.push_rest.ensures.same in
     takes_due d (world_of e.world) (agenda_of d e) e.counted m t left c.requires.free ∙ rw (world, agenda, count) refl
@@ -43,4 +44,4 @@ pub returns-clause-counted : goal.returns-clause-counted
 returns-clause-counted c =
     let d = c.args.definition.now in
     let own = λ (o : ℕ). same o c.args.cursor.object in
-    (c.in_ok-push_task.ensures.counted d).at own (c.in_ok-push_rest.ensures.counted d own c.requires.counted)
+    (c.push_task.ensures.counted d).at own (c.push_rest.ensures.counted d own c.requires.counted)

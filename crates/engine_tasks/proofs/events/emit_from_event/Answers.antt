@@ -28,23 +28,21 @@ detail_in-requires c =
           (detail_stops d (world_of e.world) c.args.place.0 c.args.signal _ _ (agenda_of d e) e.counted _ c.held_object-object.ensures (halts.Stuck arm) none));
     }
 
-pub operands-requires : goal.operands-requires
-operands-requires c =
+pub add_operands-requires-clause-able : goal.add_operands-requires-clause-able
+add_operands-requires-clause-able c =
     let d = c.args.definition.now in
     let e = c.args.engine.now in
-    record {
-      able = none_stops _ (λ arm none.
-          no_arm _ arm c.requires.able
-          (args_stop d (world_of e.world) c.args.place.0 c.args.signal _ _ (agenda_of d e) e.counted _ c.held_object-object.ensures _ c.in_ok-detail.ensures (halts.Stuck arm) none));
-    }
+    none_stops _ (λ arm none.
+    no_arm _ arm c.requires.able
+    (args_stop d (world_of e.world) c.args.place.0 c.args.signal _ _ (agenda_of d e) e.counted _ c.held_object-object.ensures _ c.in_ok-detail.ensures (halts.Stuck arm) none))
 
 pub push_task-requires-clause-may : goal.push_task-requires-clause-may
 push_task-requires-clause-may c =
     let d = c.args.definition.now in
     let e = c.args.engine.now in
     let w = world_of e.world in
-    let new : NewEmission = record { object = c.held_object-object.result; signal = c.args.signal; detail = c.in_ok-detail.detail; args = c.in_ok-args.args; by_event = true } in
-    let is = emits d w c.args.place.0 c.args.signal _ _ (agenda_of d e) e.counted _ c.held_object-object.ensures _ c.in_ok-detail.ensures _ c.in_ok-args.ensures in
+    let new : NewEmission = record { object = c.held_object-object.result; signal = c.args.signal; detail = c.in_ok-detail.detail; args = c.add_operands.new.values; by_event = true } in
+    let is = emits d w c.args.place.0 c.args.signal _ _ (agenda_of d e) e.counted _ c.held_object-object.ensures _ c.in_ok-detail.ensures _ c.in_ok-add_operands.ensures in
     let names = names_there _ (record { world = w; agenda = Beginning (new_of new) ∷ agenda_of d e; counted = e.counted }) (ap (uncounted (agenda_of d e) e.counted) is) c.requires.names in
     pushes_living d e _ c.requires.counted (λ d' o. emission_lives w o (new_of new) names.0)
 
@@ -52,5 +50,8 @@ pub returns-clause-step : goal.returns-clause-step
 returns-clause-step c =
     let d = c.args.definition.now in
     let e = c.args.engine.now in
-    let is = emits d (world_of e.world) c.args.place.0 c.args.signal _ _ (agenda_of d e) e.counted _ c.held_object-object.ensures _ c.in_ok-detail.ensures _ c.in_ok-args.ensures in
-    left_with (world_of c.push_task.new.engine.world) (agenda_of d c.push_task.new.engine) e.counted c.push_task.new.engine.counted (agenda_of d e) _ _ _ is c.push_task.ensures.world (c.in_ok-push_task.ensures.agenda d) c.push_task.ensures.same
+    let is = emits d (world_of e.world) c.args.place.0 c.args.signal _ _ (agenda_of d e) e.counted _ c.held_object-object.ensures _ c.in_ok-detail.ensures _ c.in_ok-add_operands.ensures in
+    left_with (world_of c.push_task.new.engine.world) (agenda_of d c.push_task.new.engine) e.counted c.push_task.new.engine.counted (agenda_of d e) _ _ _ is c.push_task.ensures.world (c.push_task.ensures.agenda d) c.push_task.ensures.same
+
+pub returns-clause-counted : goal.returns-clause-counted
+returns-clause-counted c = c.push_task.ensures.counted c.args.definition.now

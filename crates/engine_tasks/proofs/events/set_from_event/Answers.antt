@@ -28,4 +28,4 @@ returns-clause-step c =
     let is = sets_on (held_object w a.place.0) (λ (id : ℕ). spec_at d w.objects id a.slot) set object c.held_object-object.ensures (in_uncounted _ _ _ c.requires.able)
     ∙ ap (λ (o : Option Value). known arms.Operand o >>= λ v. starts w (Setting object a.slot v ∷ [])) c.operand-value.ensures in
     left_with (world_of c.push_task.new.engine.world) (agenda_of d c.push_task.new.engine) a.engine.now.counted c.push_task.new.engine.counted (agenda_of d a.engine.now) _ w
-    (Setting object a.slot (value_view c.operand-value.result)) is c.push_task.ensures.world (c.in_ok-push_task.ensures.agenda d) c.push_task.ensures.same
+    (Setting object a.slot (value_view c.operand-value.result)) is c.push_task.ensures.world (c.push_task.ensures.agenda d) c.push_task.ensures.same

@@ -49,7 +49,7 @@ push_task-requires-2-clause-may c =
     ∙ sets_on (held_object w f.object.0) (λ (id : ℕ). spec_at d w.objects id f.slot) set object c.held_object-object.ensures (able_as first (in_uncounted _ _ _ c.requires.able))
     ∙ held_then (held_object w f.to.0) (λ (x : Value). starts w (Setting object f.slot x ∷ Building items ∷ [])) v c.held_value-value.ensures in
     let names = names_there _ (record { world = w; agenda = Setting object f.slot v ∷ Building items ∷ agenda_of d e; counted = e.counted }) (ap (uncounted (agenda_of d e) e.counted) is) c.requires.names in
-    pushes_one b _ object (λ d o. refl) (may_on d e b object c.requires.counted (c.in_ok-push_task.ensures.counted d) (lives_still e b object c.push_task.ensures.world names.0.0))
+    pushes_one b _ object (λ d o. refl) (may_on d e b object c.requires.counted (c.push_task.ensures.counted d) (lives_still e b object c.push_task.ensures.world names.0.0))
 
 pub returns-clause-step : goal.returns-clause-step
 unfolding building_forward set_forward
@@ -70,8 +70,8 @@ returns-clause-step c =
     first
     ∙ sets_on (held_object w f.object.0) (λ (id : ℕ). spec_at d w.objects id f.slot) set object c.held_object-object.ensures (able_as first (in_uncounted _ _ _ c.requires.able))
     ∙ held_then (held_object w f.to.0) (λ (x : Value). starts w (Setting object f.slot x ∷ Building items ∷ [])) v to in
-    let left = c.in_ok-push_task-2.ensures.agenda d
-    ∙ ap (λ (rest : List Task). Setting object f.slot v ∷ rest) (c.in_ok-push_task.ensures.agenda d
+    let left = c.push_task-2.ensures.agenda d
+    ∙ ap (λ (rest : List Task). Setting object f.slot v ∷ rest) (c.push_task.ensures.agenda d
     ∙ ap (λ its. Building its ∷ agenda) (only_forwards d c.types-types.ensures.basic a.place.0 c.take.new.self c.requires.past)) in
     ap (uncounted agenda n) is
     ∙ rw (c.push_task-2.ensures.world, c.push_task.ensures.world, c.push_task-2.ensures.same, c.push_task.ensures.same, left) refl
@@ -79,4 +79,4 @@ returns-clause-step c =
 pub returns-clause-counted : goal.returns-clause-counted
 returns-clause-counted c =
     let d = c.args.definition.now in
-    keeps_on d _ _ _ (c.in_ok-push_task.ensures.counted d) (c.in_ok-push_task-2.ensures.counted d)
+    keeps_on d _ _ _ (c.push_task.ensures.counted d) (c.push_task-2.ensures.counted d)

@@ -81,6 +81,7 @@ start_emission-requires c =
     let same = keeps_same d e c.count.new.engine (ap (λ (f : Engine). f.world.table) is) (ap (λ (f : Engine). f.world.weak) is) (subst (λ (f : Engine). PassesGot d f) (sym is)) (ap (λ (f : Engine). f.world.context) is) (ap (λ (f : Engine). f.world.builder) is) (ap (λ (f : Engine). f.stack) is)
     (ap (λ (f : Engine). f.world.handlers) is) in
     record {
+      room = rw is c.requires.room;
       may = may_on d e c.count.new.engine c.in-Some-emission.emission.object.0 c.requires.counted same
           (subst (λ (f : Engine). IsSome (living f.world.table.objects c.in-Some-emission.emission.object.0)) (sym is)
           (subst (λ i. IsSome (living e.world.table.objects i)) (sym same_object) lives));
@@ -111,7 +112,7 @@ returns-clause-step c =
     let line = (rw c.as_str-2.ensures.value at c.in_ok-line.ensures) ∙ ap (λ (types : List GType). text_of_line types (lines.notify id p.name)) c.types.ensures.types in
     let world = c.in_ok-start_emission.ensures.world ∙ ap (λ (text : List ℕ). with_line text w) line in
     let agenda = c.in_ok-start_emission.ensures.agenda d
-    ∙ ap (λ (vs : List Value). Emitting (emission_of (begun c.in-Some-emission.emission last) vs false) (entries_to_come (begun c.in-Some-emission.emission last) f.world.handlers.handlers (at.Ahead c.in_ok-due.due)) ∷ agenda_of d f) c.new-args.ensures.items
+    ∙ ap (λ (vs : List Value). Emitting (emission_of (begun c.in-Some-emission.emission last) vs false) (entries_to_come (begun c.in-Some-emission.emission last) f.world.handlers.handlers (at.Ahead c.in_ok-due.due)) ∷ agenda_of d f) c.take-args.ensures
     ∙ ap (λ (ts : List Task). Emitting (emission_of (begun c.in-Some-emission.emission last) [] false) (entries_to_come (begun c.in-Some-emission.emission last) f.world.handlers.handlers (at.Ahead c.in_ok-due.due)) ∷ ts) (ap (λ (h : Engine). agenda_of d h) is) in
     ap (λ (h : Engine). counted rest n (notifying d (world_of h.world) id c.args.slot)) (sym is)
     ∙ counted_on rest n _ (in_counted rest n _ c.requires.able).0
@@ -125,4 +126,4 @@ returns-clause-counted c =
     let is = c.count.ensures in
     let same = keeps_same d e c.count.new.engine (ap (λ (f : Engine). f.world.table) is) (ap (λ (f : Engine). f.world.weak) is) (subst (λ (f : Engine). PassesGot d f) (sym is)) (ap (λ (f : Engine). f.world.context) is) (ap (λ (f : Engine). f.world.builder) is) (ap (λ (f : Engine). f.stack) is)
     (ap (λ (f : Engine). f.world.handlers) is) in
-    record { at = λ taken h. c.in_ok-start_emission.ensures.counted d taken (taken_alike d c.count.new.engine _ _ (λ o. omega (arith, ap (λ (vs : List Value). total (in_value o) (map value_view vs)) c.new-args.ensures.items)) (same.at taken h)) }
+    record { at = λ taken h. c.in_ok-start_emission.ensures.counted d taken (taken_alike d c.count.new.engine _ _ (λ o. omega (arith, ap (λ (vs : List Value). total (in_value o) (map value_view vs)) c.take-args.ensures)) (same.at taken h)) }

@@ -1,11 +1,12 @@
-use Rattle.std.proofs.Common.{ℕ, List, ◌∷◌, ap, sym, ◌∙◌, map, arith}
+use Rattle.std.proofs.Common.{ℕ, List, ◌∷◌, ap, sym, ◌∙◌, arith}
 use Rattle.ui_machine.specs.Seq.{total}
 use Rattle.ui_machine.specs.State.References.{in_register}
 use Rattle.ui_machine.specs.Definition.Types.{GType}
 use Rattle.ui_machine.specs.Output.Lines as lines
 use Rattle.ui_machine.specs.Output.Text.{text_of_line}
 use Rattle.ui_machine.specs.State.Tasks.{Frame, Running}
-use Rattle.g_values.specs.View.{value_view}
+use Rattle.bytecode.specs.Computing.{registers_of}
+use Rattle.frames.specs.FrameView.{set_values}
 use Rattle.bytecode.specs.View.{program_view}
 use Rattle.signal_core.specs.Connected.{Connected}
 use Rattle.engine_world.specs.View.{with_line, world_of}
@@ -25,7 +26,7 @@ pub unreachable-requires : goal.unreachable-requires
 unreachable-requires c =
     let d = c.args.definition.now in
     let w = world_of c.args.engine.now.world in
-    let args = map value_view c.args.args.items in
+    let args = set_values (registers_of c.args.registers.items) in
     no_arm (beginning_program d w c.args.number args) arms.Code (in_uncounted _ _ _ c.requires.able) (begins_unknown d w c.args.number args (sym c.in_default.ensures.program))
 
 pub push_task-requires-clause-may : goal.push_task-requires-clause-may
@@ -34,9 +35,9 @@ push_task-requires-clause-may c =
     let e = c.args.engine.now in
     let w = world_of e.world in
     let p = program_view c.in-Some.program.now in
-    let args = map value_view c.args.args.items in
+    let args = set_values (registers_of c.args.registers.items) in
     pushes_living d e _ c.requires.counted (λ d' o held.
-    let same = ap (λ (f : Frame). total (in_register o) f.registers) c.in_ok-frame.ensures in
+    let same = ap (λ (f : Frame). total (in_register o) f.registers) (c.in_ok-frame.ensures args c.requires.set) in
     registers_live w o (first_registers p args) (first_names w p args c.requires.names) (omega (arith, held, same)))
 
 pub returns-clause-step : goal.returns-clause-step
@@ -45,18 +46,18 @@ returns-clause-step c =
     let e = c.args.engine.now in
     let b = c.push_task.new.engine in
     let p = program_view c.in-Some.program.now in
-    let args = map value_view c.args.args.items in
+    let args = set_values (registers_of c.args.registers.items) in
     let is = sym c.in-Some.ensures.program in
     let fit = begins_fit d (world_of e.world) c.args.number args p is (in_uncounted _ _ _ c.requires.able) in
     let line = c.in_ok-line.ensures ∙ ap (λ (types : List GType). text_of_line types (lines.run c.as_str.result.now)) c.types.ensures.types
     ∙ ap (λ (name : List ℕ). text_of_line d.types (lines.run name)) c.as_str.ensures.value in
     let world = c.in_ok-say.ensures.ok ∙ ap (λ (text : List ℕ). with_line text (world_of b.world)) line ∙ ap (λ (w : World). with_line (text_of_line d.types (lines.run p.name)) w) c.push_task.ensures.world in
-    let agenda = ap (λ (h : Connected). tasks_of d h.handlers b.stack) c.say.ensures.handlers ∙ c.in_ok-push_task.ensures.agenda d
-    ∙ ap (λ (f : Frame). Running f ∷ agenda_of d e) c.in_ok-frame.ensures in
+    let agenda = ap (λ (h : Connected). tasks_of d h.handlers b.stack) c.say.ensures.handlers ∙ c.push_task.ensures.agenda d
+    ∙ ap (λ (f : Frame). Running f ∷ agenda_of d e) (c.in_ok-frame.ensures args c.requires.set) in
     left_with _ _ e.counted _ (agenda_of d e) _ _ _
     (begins_program d (world_of e.world) c.args.number args p is fit) world agenda c.push_task.ensures.same
 
 pub returns-clause-counted : goal.returns-clause-counted
 returns-clause-counted c =
     let d = c.args.definition.now in
-    keeps_on d _ _ _ (c.in_ok-push_task.ensures.counted d) (keeps_said d c.push_task.new.engine c.say.new.self c.say.ensures.beside)
+    keeps_on d _ _ _ (c.push_task.ensures.counted d) (keeps_said d c.push_task.new.engine c.say.new.self c.say.ensures.beside)

@@ -32,16 +32,16 @@ pub returns-then-branch-clause-step : goal.returns-then-branch-clause-step
 unfolding raising
 returns-then-branch-clause-step c =
     let told : c.args.is_told ≡ true = search rules in
-    let pushed = c.in_ok-push_task.ensures.agenda c.args.definition.now in
+    let pushed = c.push_task.ensures.agenda c.args.definition.now in
     let line = string_bytes c.args.line in
-    let world = c.in_ok-say-2.ensures.ok ∙ ap (with_line line) c.in_ok-push_task.ensures.world in
-    rw (told, world, c.in_ok-push_task.ensures.same, c.in_ok-say-2.ensures.handlers, pushed) (search rules)
+    let world = c.in_ok-say-2.ensures.ok ∙ ap (with_line line) c.push_task.ensures.world in
+    rw (told, world, c.push_task.ensures.same, c.in_ok-say-2.ensures.handlers, pushed) (search rules)
 
 pub returns-then-branch-clause-counted : goal.returns-then-branch-clause-counted
 returns-then-branch-clause-counted c =
     let d = c.args.definition.now in
     keeps_on d _ _ _ (keeps_change d c.args.engine.now c.add.new.self c.args.object.0 (raised c.args.slot) _ (raised_alike d c.args.slot) c.in_ok-add.ensures.changes c.add.ensures.beside)
-    (keeps_on d _ _ _ (c.in_ok-push_task.ensures.counted d) (keeps_said d c.push_task.new.engine c.say-then-branch.new.self c.say-then-branch.ensures.beside))
+    (keeps_on d _ _ _ (c.push_task.ensures.counted d) (keeps_said d c.push_task.new.engine c.say-then-branch.new.self c.say-then-branch.ensures.beside))
 
 pub returns-clause-counted : goal.returns-clause-counted
 returns-clause-counted c =

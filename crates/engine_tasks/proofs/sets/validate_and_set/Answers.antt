@@ -53,6 +53,7 @@ write_and_notify-requires c =
       able = able_as (ap (uncounted (agenda_of d c.args.engine.now) c.args.engine.now.counted) (ap (setting d w id slot) (sym same) ∙ told)) c.requires.able;
       lives = subst (λ (v : Value). lives w.objects v ≡ true) (sym valid) (written_lives w.objects d.types (spec_view s) plain (value_view x) alive);
       counted = c.requires.counted;
+      room = c.requires.room;
     }
 
 pub returns-then-refuses-clause-step : goal.returns-then-refuses-clause-step

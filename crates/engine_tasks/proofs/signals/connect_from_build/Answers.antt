@@ -38,7 +38,7 @@ returns-clause-step c =
     let is : building d w (connects_from d c.args.place.0 c.args.number) ≡ starts (with_signal w meant) (Building items ∷ []) =
     ap (building d w) c.in-Some.ensures.next ∙ connects_attached d w at.place.0 at.number items
     ∙ ap (λ (a : Answer Connection). a >>= start) c.in_ok-connection.ensures.attached in
-    let pushed = c.in_ok-push_task.ensures.agenda d ∙ ap (λ k. Building (connects_from d at.place.0 k) ∷ rest) (let e : at.number + 1 ≡ suc at.number = omega arith in e) in
+    let pushed = c.push_task.ensures.agenda d ∙ ap (λ k. Building (connects_from d at.place.0 k) ∷ rest) (let e : at.number + 1 ≡ suc at.number = omega arith in e) in
     let world = c.in_ok-connect_signal.ensures.world ∙ ap (λ (v : World). with_signal v meant) c.push_task.ensures.world in
     let agenda = c.in_ok-connect_signal.ensures.agenda ∙ pushed in
     let count = c.connect_signal.ensures.same ∙ c.push_task.ensures.same in
@@ -47,7 +47,7 @@ returns-clause-step c =
 pub connect_signal-requires : goal.connect_signal-requires
 connect_signal-requires c = record {
   by_builder = c.in_ok-connection.ensures.by_builder;
-  connects = c.in_ok-push_task.ensures.connects c.args.definition.now c.requires.connects;
+  connects = c.push_task.ensures.connects c.args.definition.now c.requires.connects;
   number =
       let last = ap (λ (w : World). w.last_handler) c.push_task.ensures.world in
       let one = ap (λ (items : List Item). total is_connecting items) c.in-Some.ensures.next in
@@ -57,4 +57,4 @@ connect_signal-requires c = record {
 pub returns-clause-counted : goal.returns-clause-counted
 returns-clause-counted c =
     let d = c.args.definition.now in
-    keeps_on d _ _ _ (c.in_ok-push_task.ensures.counted d) c.in_ok-connect_signal.ensures.counted
+    keeps_on d _ _ _ (c.push_task.ensures.counted d) c.in_ok-connect_signal.ensures.counted

@@ -15,7 +15,7 @@ push_task-requires-2-clause-may c =
     let b = c.push_task.new.engine in
     let id = c.args.transfer.target.0 in
     pushes_one b _ id (λ d o. refl)
-    (may_on d e b id c.requires.counted (keeps_on d e m b (keeps_same d e m refl refl (λ g. g) refl refl refl refl) (c.in_ok-push_task.ensures.counted d)) (lives_still m b id c.push_task.ensures.world c.requires.live))
+    (may_on d e b id c.requires.counted (keeps_on d e m b (keeps_same d e m refl refl (λ g. g) refl refl refl refl) (c.push_task.ensures.counted d)) (lives_still m b id c.push_task.ensures.world c.requires.live))
 
 pub returns-clause-step : goal.returns-clause-step
 returns-clause-step c =
@@ -23,11 +23,11 @@ returns-clause-step c =
     let e = c.args.engine.now in
     let t = c.args.transfer in
     let world = c.push_task-2.ensures.world ∙ c.push_task.ensures.world ∙ ap (λ (m : Made). record (world_of e.world) { bindings = m.bindings }) c.setting.ensures in
-    let agenda = c.in_ok-push_task-2.ensures.agenda d ∙ ap (λ (ts : List Task). Setting t.target.0 t.target_slot (value_view c.in-Some.value) ∷ ts) (c.in_ok-push_task.ensures.agenda d) in
+    let agenda = c.push_task-2.ensures.agenda d ∙ ap (λ (ts : List Task). Setting t.target.0 t.target_slot (value_view c.in-Some.value) ∷ ts) (c.push_task.ensures.agenda d) in
     let count = c.push_task-2.ensures.same ∙ c.push_task.ensures.same in
     rw (c.in-Some.is, world, agenda, count) refl
 
 pub returns-clause-counted : goal.returns-clause-counted
 returns-clause-counted c =
     let d = c.args.definition.now in
-    keeps_on d _ _ _ (keeps_same d c.args.engine.now _ refl refl (λ g. g) refl refl refl refl) (keeps_on d _ _ _ (c.in_ok-push_task.ensures.counted d) (c.in_ok-push_task-2.ensures.counted d))
+    keeps_on d _ _ _ (keeps_same d c.args.engine.now _ refl refl (λ g. g) refl refl refl refl) (keeps_on d _ _ _ (c.push_task.ensures.counted d) (c.push_task-2.ensures.counted d))

@@ -51,6 +51,7 @@ set_by-requires c =
       able = able_as whole c.requires.able;
       live = target_lives d (world_of f.world) t (first (carried_value d (world_of f.world) t) (λ v. set_by (world_of f.world) t.number (to_end t) v) (able_as by_value (in_counted rest e.counted _ c.requires.able).1));
       counted = still_counted d e f same c.requires.counted;
+      room = rw is c.requires.room;
     }
 
 pub returns-clause-step : goal.returns-clause-step
@@ -66,7 +67,7 @@ returns-clause-step c =
     counted_on rest e.counted _ (in_counted rest e.counted _ c.requires.able).0
     ∙ ap (λ (x : Engine). uncounted (agenda_of d x) x.counted (transferring d (world_of x.world) c.args.number c.args.back)) (sym is)
     ∙ ap (uncounted (agenda_of d f) f.counted) (transfer_sets d (world_of f.world) c.args.number c.args.back t (sym c.in-Some.is ∙ c.transfer.ensures) v c.in_ok-value.ensures) in
-    subst (λ (a : Answer Config). Leads c.set_by.result a (config_of d c.set_by.new.engine)) (sym whole) c.set_by.ensures.step
+    whole ∙ c.set_by.ensures.step
 
 pub returns-clause-counted : goal.returns-clause-counted
 returns-clause-counted c =
@@ -75,4 +76,4 @@ returns-clause-counted c =
     let f = c.count.new.engine in
     let is = c.count.ensures in
     let same = keeps_same d e f (ap (λ (x : Engine). x.world.table) is) (ap (λ (x : Engine). x.world.weak) is) (subst (λ (x : Engine). PassesGot d x) (sym is)) (ap (λ (x : Engine). x.world.context) is) (ap (λ (x : Engine). x.world.builder) is) (ap (λ (x : Engine). x.stack) is) (ap (λ (x : Engine). x.world.handlers) is) in
-    on_ok c.set_by.result (λ kept. keeps_on d _ _ _ same kept) c.set_by.ensures.counted
+    keeps_on d _ _ _ same c.set_by.ensures.counted

@@ -19,22 +19,22 @@ push_task-requires-clause-may c = pushes_one c.args.engine.now _ c.args.new.obje
 
 pub lend-requires : goal.lend-requires
 lend-requires c =
-    still_there c.args.new.peer (world_of c.args.engine.now.world) (world_of c.say.new.self) _ c.in_ok-say.ensures.ok (ap (λ (w : World). w.peers) c.in_ok-push_task.ensures.world) c.requires.peer
+    still_there c.args.new.peer (world_of c.args.engine.now.world) (world_of c.say.new.self) _ c.in_ok-say.ensures.ok (ap (λ (w : World). w.peers) c.push_task.ensures.world) c.requires.peer
 
 pub returns-clause-agenda : goal.returns-clause-agenda
-returns-clause-agenda c d = ap (λ (h : Connected). tasks_of d h.handlers c.push_task.new.engine.stack) c.say.ensures.handlers ∙ c.in_ok-push_task.ensures.agenda d
+returns-clause-agenda c d = ap (λ (h : Connected). tasks_of d h.handlers c.push_task.new.engine.stack) c.say.ensures.handlers ∙ c.push_task.ensures.agenda d
 
 pub returns-clause-world : goal.returns-clause-world
 returns-clause-world c =
     let new = c.args.new in
     ap (λ (ps : List Peer). record (world_of c.say.new.self) { peers = ps }) c.lend.ensures
-    ∙ ap (λ (w : World). record w { peers = lent new.peer new.object.0 w.peers }) (c.in_ok-say.ensures.ok ∙ ap (λ (w : World). with_line (string_bytes new.line) w) c.in_ok-push_task.ensures.world)
+    ∙ ap (λ (w : World). record w { peers = lent new.peer new.object.0 w.peers }) (c.in_ok-say.ensures.ok ∙ ap (λ (w : World). with_line (string_bytes new.line) w) c.push_task.ensures.world)
 
 pub returns-clause-counted : goal.returns-clause-counted
 returns-clause-counted c d =
     let new = c.args.new in
     let e = record c.push_task.new.engine { world = c.say.new.self } in
-    keeps_on d _ _ _ (c.in_ok-push_task.ensures.counted d)
+    keeps_on d _ _ _ (c.push_task.ensures.counted d)
     (keeps_on d _ _ _ (keeps_said d c.push_task.new.engine c.say.new.self c.say.ensures.beside)
     (keeps_lent d e new.peer new.object.0 c.lend.new.seats c.lend.ensures
-    (still_there new.peer (world_of c.args.engine.now.world) (world_of c.say.new.self) _ c.in_ok-say.ensures.ok (ap (λ (w : World). w.peers) c.in_ok-push_task.ensures.world) c.requires.peer)))
+    (still_there new.peer (world_of c.args.engine.now.world) (world_of c.say.new.self) _ c.in_ok-say.ensures.ok (ap (λ (w : World). w.peers) c.push_task.ensures.world) c.requires.peer)))

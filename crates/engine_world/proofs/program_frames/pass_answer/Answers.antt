@@ -1,5 +1,4 @@
-use Rattle.std.proofs.Common.{List, ◌∷◌, Some, sym, subst, ap, ◌∙◌, arith}
-use Rattle.engine_world.specs.Able.{Leads}
+use Rattle.std.proofs.Common.{List, ◌∷◌, Some, ap, ◌∙◌, arith}
 use Rattle.ui_machine.specs.Rules.Accumulation.{received}
 use Rattle.ui_machine.specs.Seq.{total}
 use Rattle.ui_machine.specs.State.References.{in_task}
@@ -9,7 +8,7 @@ use Rattle.frames.specs.FrameView.{frame_view}
 use Rattle.engine_world.specs.TaskView.{agenda_of, task_of, tasks_of}
 use Rattle.engine_world.specs.declared.task.Task as code
 use Rattle.engine_world.proofs.Ableness.{able_as, no_arm}
-use Rattle.engine_world.proofs.Registers.{not_received, on_ok, popped_frame, receives_able}
+use Rattle.engine_world.proofs.Registers.{not_received, popped_frame, receives_able}
 use Rattle.engine_world.proofs.program_frames.pass_answer.Goals as goal
 
 pub unreachable-requires : goal.unreachable-requires
@@ -40,6 +39,7 @@ receive-requires c = record {
       let program = ap (λ (t : code.Task). in_task o (task_of d hs t)) c.in-Running.is in
       omega (arith, c.requires.held.at o, first, program);
   may = c.requires.may;
+  room = let free = c.in-Some.ensures.free in omega (arith, free);
 }
 
 pub returns-clause-agenda : goal.returns-clause-agenda
@@ -48,7 +48,7 @@ returns-clause-agenda c =
     let hs = c.args.engine.now.world.handlers.handlers in
     let rest = tasks_of d hs c.pop.new.self in
     let first = c.in-Some.ensures.tasks d hs ∙ ap (λ (t : code.Task). task_of d hs t ∷ rest) c.in-Running.is in
-    subst (λ (ts : List Task). Leads c.receive.result (received ts c.args.to.0 (Some (value_view c.args.value))) (agenda_of d c.receive.new.engine)) (sym first) (c.receive.ensures.agenda d)
+    ap (λ (ts : List Task). received ts c.args.to.0 (Some (value_view c.args.value))) first ∙ c.receive.ensures.agenda d
 
 pub returns-clause-counted : goal.returns-clause-counted
 returns-clause-counted c =
@@ -57,4 +57,4 @@ returns-clause-counted c =
     let hs = e.world.handlers.handlers in
     let rest = tasks_of d hs c.pop.new.self in
     let first = c.in-Some.ensures.tasks d hs ∙ ap (λ (t : code.Task). task_of d hs t ∷ rest) c.in-Running.is in
-    on_ok c.receive.result (λ f. record { at = λ taken h. f d taken (popped_frame d e c.pop.new.self taken (frame_view c.in-Running.frame) first c.in-Some.ensures.begun h) }) c.receive.ensures.counted
+    record { at = λ taken h. c.receive.ensures.counted d taken (popped_frame d e c.pop.new.self taken (frame_view c.in-Running.frame) first c.in-Some.ensures.begun h) }

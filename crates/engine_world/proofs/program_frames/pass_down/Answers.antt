@@ -29,14 +29,15 @@ returns-in_default-task c =
     let e = c.args.engine.now in
     let hs = e.world.handlers.handlers in
     let first = c.in-Some.ensures.tasks d hs in
-    let back = c.in_ok-push.ensures.tasks d hs in
+    let back = c.push.ensures.tasks d hs in
     record {
       agenda =
           ap (λ (ts : List Task). passed_down ts (option_map value_view c.args.value.now)) first
           ∙ passes_by d hs c.in-Some.task (tasks_of d hs c.pop.new.self) (option_map value_view c.args.value.now) c.in_default-task.not-Running
           ∙ ap (λ (ts : List Task). Ok ts) (sym back);
+      room = c.push.ensures.room ∙ c.pop.ensures.room;
       only = record { beside = refl; table = record { objects = refl; floating = refl } };
-      counted = stack_same d e c.push.new.self (back ∙ sym first) (λ last h. c.in_ok-push.ensures.begun last (c.in-Some.ensures.first last h) (c.in-Some.ensures.begun last h));
+      counted = stack_same d e c.push.new.self (back ∙ sym first) (λ last h. c.push.ensures.begun last (c.in-Some.ensures.first last h) (c.in-Some.ensures.begun last h));
     }
 
 pub pass_to-requires : goal.pass_to-requires
@@ -55,6 +56,7 @@ pass_to-requires c = record {
       let program = ap (λ (t : code.Task). in_task o (task_of d hs t)) c.in-Running.is in
       omega (arith, c.requires.held.at o, first, program);
   may = c.requires.may;
+  room = let free = c.in-Some.ensures.free in omega (arith, free);
 }
 
 pub returns-clause-agenda : goal.returns-clause-agenda

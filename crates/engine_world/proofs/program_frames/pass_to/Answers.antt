@@ -1,6 +1,5 @@
-use Rattle.std.proofs.Common.{[], List, Option, Some, Ok, sym, subst, ap, ◌∙◌, option_map, arith}
+use Rattle.std.proofs.Common.{[], List, Option, Some, Ok, sym, ap, ◌∙◌, option_map, arith}
 use Rattle.ui_machine.specs.Definition.Values.{Value}
-use Rattle.ui_machine.specs.Outcome.{Answer}
 use Rattle.ui_machine.specs.Rules.Accumulation.{taken}
 use Rattle.ui_machine.specs.State.References.{in_register}
 use Rattle.ui_machine.specs.State.Tasks.{Task}
@@ -10,7 +9,6 @@ use Rattle.frames.specs.FrameView.{frame_view}
 use Rattle.bytecode.specs.View.{number_of}
 use Rattle.bytecode.specs.declared.computations.Register.{Register}
 use Rattle.engine_world.specs.TaskView.{agenda_of}
-use Rattle.engine_world.specs.Able.{Leads}
 use Rattle.engine_world.proofs.Ableness.{able_as, no_arm}
 use Rattle.engine_world.proofs.Held.{may_less}
 use Rattle.engine_world.proofs.Registers.{receives_able}
@@ -19,7 +17,7 @@ use Rattle.engine_world.proofs.program_frames.pass_to.Goals as goal
 pub returns-in_default-clause-agenda : goal.returns-in_default-clause-agenda
 returns-in_default-clause-agenda c d =
     ap (λ (into : Option Register). taken (option_map number_of into) (frame_view c.args.frame) (agenda_of d c.args.engine.now) (option_map value_view c.args.value.now)) c.in_default.is
-    ∙ ap (λ (ts : List Task). Ok ts) (sym (c.in_ok-push_frame.ensures.agenda d))
+    ∙ ap (λ (ts : List Task). Ok ts) (sym (c.push_frame.ensures.agenda d))
 
 pub unreachable-requires : goal.unreachable-requires
 unreachable-requires c =
@@ -50,4 +48,4 @@ returns-clause-agenda c d =
     let into = ap (λ (into : Option Register). taken (option_map number_of into) f rest (option_map value_view c.args.value.now)) c.in-Some.is in
     let given = ap (option_map value_view) c.in-Some-value.is ∙ ap (λ (v : Value). Some v) (sym c.in_ok-value.ensures.value) in
     let is = into ∙ ap (λ (v : Option Value). taken (Some to) f rest v) given in
-    subst (λ (a : Answer (List Task)). Leads c.receive.result a (agenda_of d c.receive.new.engine)) (sym is) (c.receive.ensures.agenda d)
+    is ∙ c.receive.ensures.agenda d

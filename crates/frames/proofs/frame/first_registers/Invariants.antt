@@ -1,7 +1,5 @@
-use Rattle.std.proofs.Common.{◌≡◌, ◌++◌, None, Some, map, replicate}
-use Rattle.g_values.specs.View.{value_view}
-use Rattle.bytecode.specs.Computing.{registers_of}
+use Rattle.std.proofs.Common.{◌≡◌, ◌++◌, None, replicate}
 use Rattle.frames.proofs.frame.first_registers.Given as goal
 
 abbrev pub invariant-filling : goal.invariant-filling
-invariant-filling l = registers_of l.registers.items ≡ map (λ v. Some v) (map value_view l.fn.args.items) ++ replicate l._added None
+invariant-filling l = l.registers.items ≡ l.fn.registers.items ++ replicate l._added None

@@ -1,4 +1,5 @@
-use Rattle.std.proofs.Common.{Err, subst, sym, arith}
+use Rattle.ui_engine.proofs.InParts.{room_on}
+use Rattle.std.proofs.Common.{Err, subst, sym, arith, vec_capacity}
 use Rattle.ui_machine.specs.Definition.{Definition}
 use Rattle.ui_machine.specs.Runs.{beginning, of_build}
 use Rattle.ui_machine.specs.State.Config.{Config}
@@ -27,8 +28,9 @@ dispatch-requires-clause-safe g c =
     let w = world_at pool (world_of c.args.beginning.engine.world) in
     let fs = c.args.beginning.forwards in
     let begins = begins_at d (as_peers pool) w fs c.requires.begun.world c.requires.begun.forwards in
-    let safe = builds_safely d e same c.types-types.ensures.denoted pool c.requires.begun.matches (omega (arith, c.place_count-places.ensures.count, c.place_count-places.ensures.few)) c.definition-definition.ensures.accepted in
-    subst (λ (x : Definition). IsSafe e (beginning w (Building (build_from x 0 fs)))) (sym same) (subst (λ (x : Config). IsSafe e x) (sym begins) safe)
+    let room = vec_capacity c.args.beginning.engine.stack.tasks in
+    let safe = builds_safely d e same c.types-types.ensures.denoted pool c.requires.begun.matches room c.requires.begun.room (omega (arith, c.place_count-places.ensures.count, c.place_count-places.ensures.few)) c.definition-definition.ensures.accepted in
+    subst (λ (x : Definition). IsSafe e room (beginning w (Building (build_from x 0 fs)))) (sym same) (subst (λ (x : Config). IsSafe e room x) (sym begins) safe)
 
 pub invariant_of-result : goal.invariant_of-result
 invariant_of-result g c =
@@ -44,6 +46,7 @@ invariant_of-result g c =
     let carried = built_as (as_peers pool) w fs c.in-Ok.reply same begins c.in-Ok.ensures.carried in (
       subst (λ (x : Definition). IsAtRest x c.dispatch.new.engine) same c.in-Ok.ensures.rests,
       built_rests d c.definition-definition.result.now same c.types-types.ensures.denoted pool c.requires.begun.matches (omega (arith, c.place_count-places.ensures.count, c.place_count-places.ensures.few)) may c.in-Ok.reply left new carried c.in-Ok.ensures.knows,
+      room_on d c.args.beginning.engine c.dispatch.new.engine c.dispatch.ensures.room c.requires.begun.room,
     )
 
 pub returns-in-Ok-clause-built : goal.returns-in-Ok-clause-built

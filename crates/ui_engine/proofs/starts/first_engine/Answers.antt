@@ -13,24 +13,24 @@ use Rattle.ui_engine.proofs.starts.first_engine.Goals as goal
 pub returns-clause-world : goal.returns-clause-world
 returns-clause-world c =
     let d = c.args.definition.now in
-    c.in_ok-announce.ensures.line ∙ ap (λ (w : World). said d w lines.build) (c.new-engine.ensures.world d)
+    c.in_ok-announce.ensures.line ∙ ap (λ (w : World). said d w lines.build) (c.in_ok-engine.ensures.world d)
 
 pub returns-clause-rests : goal.returns-clause-rests
 returns-clause-rests c =
     let d = c.args.definition.now in
     let beside = c.announce.ensures.beside in
-    let world = c.in_ok-announce.ensures.line ∙ ap (λ (w : World). said d w lines.build) (c.new-engine.ensures.world d) in
-    let idle = ap (λ (e : Engine). agenda_of d e) beside ∙ c.new-engine.ensures.idle d in
-    let marks = ap (λ (e : Engine). e.world.weak) beside ∙ c.new-engine.ensures.marks in
-    let same = ap (λ (e : Engine). e.world.handlers) beside ∙ c.new-engine.ensures.handlers in
-    let got = ap (λ (e : Engine). e.world.got_peers) beside ∙ c.new-engine.ensures.got in
+    let world = c.in_ok-announce.ensures.line ∙ ap (λ (w : World). said d w lines.build) (c.in_ok-engine.ensures.world d) in
+    let idle = ap (λ (e : Engine). agenda_of d e) beside ∙ c.in_ok-engine.ensures.idle d in
+    let marks = ap (λ (e : Engine). e.world.weak) beside ∙ c.in_ok-engine.ensures.marks in
+    let same = ap (λ (e : Engine). e.world.handlers) beside ∙ c.in_ok-engine.ensures.handlers in
+    let got = ap (λ (e : Engine). e.world.got_peers) beside ∙ c.in_ok-engine.ensures.got in
     let passes = zeros_got d c.announce.new.engine.world.seats c.announce.new.engine.world.got_peers.items _ (ap (λ (ns : Vec ℕ Global). ns.items) got ∙ c.in_ok-got_peers.ensures.items_if_clones_equal (λ y same. same)) in
     let connects : Connects d c.announce.new.engine = record {
-      most = ap (λ (h : Connected). h.most) same ∙ c.limits.ensures.handlers;
+      most = ap (λ (h : Connected). h.most) same ∙ c.limits-limits.ensures.handlers;
       to_come = ap (λ (h : Connected). h.to_come) same;
       begun =
           subst (λ (h : Connected). AllTakeKnownHandlers h.last c.announce.new.engine.stack) (sym same)
-          (subst (λ (e : Engine). AllTakeKnownHandlers 0 e.stack) (sym beside) c.new-engine.ensures.begun);
+          (subst (λ (e : Engine). AllTakeKnownHandlers 0 e.stack) (sym beside) c.in_ok-engine.ensures.begun);
     } in
-    let counts = ap (λ (e : Engine). e.world.table.counts) beside ∙ c.new-engine.ensures.counts in
+    let counts = ap (λ (e : Engine). e.world.table.counts) beside ∙ c.in_ok-engine.ensures.counts in
     record { counts = none_counted_with d c.args.seats c.announce.new.engine c.in_ok-weak.weak c.in_ok-weak.ensures passes connects marks counts world idle; idle = idle }

@@ -1,3 +1,4 @@
+use Rattle.ui_engine.specs.Phases.{HasAllRoom}
 use Rattle.std.proofs.Common.{Ok, Err, ap, subst, sym, ◌∙◌}
 use Rattle.std.proofs.lemmas.Result.{err_from_is_err_and}
 use Rattle.ui_machine.specs.Definition.{Definition}
@@ -19,7 +20,13 @@ pub advance-requires-clause-counted : goal.advance-requires-clause-counted
 advance-requires-clause-counted g c =
     let d = c.self.inside.verified in
     let under_way = ap (λ (s : SessionState). s.under_way) c.self.view_is ∙ c.requires.in_course.in_course.under_way in
-    subst (λ (x : Definition). Counts x nothing c.self.inside.engine) (sym c.definition-definition.ensures.same) (kept_under_way d c.self.inside.engine c.self.inside.phase under_way c.self.invariant)
+    subst (λ (x : Definition). Counts x nothing c.self.inside.engine) (sym c.definition-definition.ensures.same) (kept_under_way d c.self.inside.engine c.self.inside.phase under_way c.self.invariant).0
+
+pub advance-requires-clause-roomy : goal.advance-requires-clause-roomy
+advance-requires-clause-roomy g c =
+    let d = c.self.inside.verified in
+    let under_way = ap (λ (s : SessionState). s.under_way) c.self.view_is ∙ c.requires.in_course.in_course.under_way in
+    subst (λ (x : Definition). HasAllRoom x c.self.inside.engine) (sym c.definition-definition.ensures.same) (kept_under_way d c.self.inside.engine c.self.inside.phase under_way c.self.invariant).1
 
 pub advance-requires-clause-goes_on : goal.advance-requires-clause-goes_on
 advance-requires-clause-goes_on g c =
@@ -28,7 +35,9 @@ advance-requires-clause-goes_on g c =
 pub invariant_of-self-2 : goal.invariant_of-self-2
 invariant_of-self-2 g c =
     let d = c.self.inside.verified in
-    kept_advanced d c.definition-definition.result.now c.definition-definition.ensures.same c.advance.new.engine _ c.in_ok-progress.progress c.in_ok-progress.ensures.counted c.in_ok-progress.ensures.rests
+    let under_way = ap (λ (s : SessionState). s.under_way) c.self.view_is ∙ c.requires.in_course.in_course.under_way in
+    let roomy = (kept_under_way d c.self.inside.engine c.self.inside.phase under_way c.self.invariant).1 in
+    kept_advanced d c.definition-definition.result.now c.definition-definition.ensures.same c.self.inside.engine c.advance.new.engine c.advance.ensures.room roomy _ c.in_ok-progress.progress c.in_ok-progress.ensures.counted c.in_ok-progress.ensures.rests
     c.in_ok-progress.ensures.knows c.in_ok-progress.ensures.resting _ c.phase_at-self-inside.ensures
 
 pub returns-clause-comes : goal.returns-clause-comes

@@ -1,5 +1,4 @@
 use Rattle.std.proofs.Common.{◌≡◌, [], None, Ok, Err, ap, subst, sym, ◌∙◌}
-use Rattle.std.proofs.lemmas.Result.{err_from_is_err_and}
 use Rattle.ui_machine.specs.Definition.{Definition}
 use Rattle.ui_machine.specs.Rules.Events.{refusal}
 use Rattle.ui_machine.specs.State.Tasks as config
@@ -15,7 +14,7 @@ use Rattle.ui_engine.specs.declared.cores.Phase.TheVariants as phases
 use Rattle.ui_engine.specs.declared.faults.SessionFault.TheVariants as faults
 use Rattle.ui_engine.specs.SessionView.{BeginsBy, SessionState}
 use Rattle.ui_engine.proofs.Ending.{session_at}
-use Rattle.ui_engine.proofs.InParts.{begin_goes, begin_released, goes_where_none, kept_at_rest, request_so_far, request_stops}
+use Rattle.ui_engine.proofs.InParts.{begin_goes, begin_released, goes_where_none, kept_at_rest, request_so_far, room_for_one, room_on}
 use Rattle.ui_engine.proofs.Served.{kept_as, knows_inside, request_kept, request_may_begin}
 use Rattle.ui_engine.proofs.cores.Core.begin_request.Goals as goal
 
@@ -25,13 +24,21 @@ begin_dispatch-requires-clause-idle g c =
     let kept = kept_at_rest d c.self.inside.engine c.self.inside.phase (ap (λ (s : SessionState). s.stopped) c.self.view_is ∙ c.requires.goes_on) c.self.invariant in
     subst (λ (x : Definition). agenda_of x c.self.inside.engine ≡ []) (sym c.definition-definition.ensures.same) kept.0.idle
 
-pub invariant_of-self-2 : goal.invariant_of-self-2
-invariant_of-self-2 g c =
+pub begin_dispatch-requires-clause-room : goal.begin_dispatch-requires-clause-room
+begin_dispatch-requires-clause-room g c =
+    let d = c.self.inside.verified in
+    let kept = kept_at_rest d c.self.inside.engine c.self.inside.phase (ap (λ (s : SessionState). s.stopped) c.self.view_is ∙ c.requires.goes_on) c.self.invariant in
+    room_for_one d c.self.inside.engine c.definition-definition.ensures.accepted kept.2
+
+pub invariant_of-self : goal.invariant_of-self
+invariant_of-self g c =
     let d = c.self.inside.verified in
     let same = c.definition-definition.ensures.same in
     let kept = kept_at_rest d c.self.inside.engine c.self.inside.phase (ap (λ (s : SessionState). s.stopped) c.self.view_is ∙ c.requires.goes_on) c.self.invariant in
-    let rests = subst (λ (x : Definition). IsAtRest x c.self.inside.engine) (sym same) kept.0 in
-    subst (λ (x : Definition). Counts x nothing c.begin_dispatch.new.engine) same (c.in_ok-begin_dispatch.ensures.counted.at nothing rests.counts)
+    let rests = subst (λ (x : Definition). IsAtRest x c.self.inside.engine) (sym same) kept.0 in (
+      subst (λ (x : Definition). Counts x nothing c.begin_dispatch.new.engine) same (c.begin_dispatch.ensures.counted.at nothing rests.counts),
+      room_on d c.self.inside.engine c.begin_dispatch.new.engine c.begin_dispatch.ensures.room kept.2,
+    )
 
 pub returns-then-names_released-clause-begins : goal.returns-then-names_released-clause-begins
 returns-then-names_released-clause-begins g c =
@@ -60,38 +67,10 @@ returns-clause-begins g c =
     let begins = request_may_begin d e same from pool w knows kept.1 r read none in
     subst (λ (s : SessionState). BeginsBy may (refusal s.world (config.request r)) (Ok (progress.UnderWay (record { left = None; so_far = c.none-so_far.result }))) pool s (config.request r) (session_at d c.begin_dispatch.new.engine phases.UnderWay)) c.self.view_is
     (begin_goes may pool (session_at d engine c.self.inside.phase) (config.request r) none _ (session_at d c.begin_dispatch.new.engine phases.UnderWay)
-    (request_so_far may d e same pool engine c.begin_dispatch.new.engine knows r begins c.in_ok-begin_dispatch.ensures.ok c.none-so_far.result c.none-so_far.ensures))
-
-pub returns-in_err-begin_dispatch-clause-begins : goal.returns-in_err-begin_dispatch-clause-begins
-returns-in_err-begin_dispatch-clause-begins g c =
-    let may = relations (λ p. (g.dyn-1.0.entry p.peer.vtable).1.moves p.peer.value) (entries c.args.pool.now) in
-    let pool = seen (λ p. (g.dyn-1.0.entry p.peer.vtable).1.state p.peer.value) (entries c.args.pool.now) in
-    let d = c.self.inside.verified in
-    let e = c.definition-definition.result.now in
-    let same = c.definition-definition.ensures.same in
-    let engine = c.self.inside.engine in
-    let w = world_of engine.world in
-    let knows = knows_inside pool c.self.view_is c.requires.knows in
-    let r = request_of c.args.request in
-    let none = goes_where_none w r (sym c.if-names_released.ensures) in
-    let p = err_from_is_err_and c.from_residual.result c.from_residual.ensures.1 in
-    rw (p.1, p.2)
-    (subst (λ (s : SessionState). BeginsBy may (refusal s.world (config.request r)) (Err faults.OutOfMemory) pool s (config.request r) (session_at d c.begin_dispatch.new.engine phases.Stopped)) c.self.view_is
-    (begin_goes may pool (session_at d engine c.self.inside.phase) (config.request r) none (Err faults.OutOfMemory) (session_at d c.begin_dispatch.new.engine phases.Stopped)
-    (request_stops may d e same pool engine c.begin_dispatch.new.engine knows r c.in_err-begin_dispatch.ensures.err)))
+    (request_so_far may d e same pool engine c.begin_dispatch.new.engine knows r begins c.begin_dispatch.ensures.ok c.none-so_far.result c.none-so_far.ensures))
 
 pub returns-clause-keeps : goal.returns-clause-keeps
 returns-clause-keeps g c =
-    let pool = seen (λ p. (g.dyn-1.0.entry p.peer.vtable).1.state p.peer.value) (entries c.args.pool.now) in
-    let d = c.self.inside.verified in
-    let kept = kept_at_rest d c.self.inside.engine c.self.inside.phase (ap (λ (s : SessionState). s.stopped) c.self.view_is ∙ c.requires.goes_on) c.self.invariant in
-    let knows = knows_inside pool c.self.view_is c.requires.knows in
-    let r = request_of c.args.request in
-    let read = subst (λ (s : SessionState). RequestRead s.definition r) (sym c.self.view_is) c.requires.read in
-    kept_as pool (config.request r) c.self.view_is (request_kept d c.definition-definition.result.now c.definition-definition.ensures.same c.types-types.ensures.denoted pool (world_of c.self.inside.engine.world) knows kept.1 r read)
-
-pub returns-in_err-begin_dispatch-clause-keeps : goal.returns-in_err-begin_dispatch-clause-keeps
-returns-in_err-begin_dispatch-clause-keeps g c =
     let pool = seen (λ p. (g.dyn-1.0.entry p.peer.vtable).1.state p.peer.value) (entries c.args.pool.now) in
     let d = c.self.inside.verified in
     let kept = kept_at_rest d c.self.inside.engine c.self.inside.phase (ap (λ (s : SessionState). s.stopped) c.self.view_is ∙ c.requires.goes_on) c.self.invariant in

@@ -1,4 +1,4 @@
-use Rattle.std.proofs.Common.{◌≡◌, false, Err, ap, sym, subst, refl, ◌∙◌}
+use Rattle.std.proofs.Common.{◌≡◌, false, Err, ap, sym, subst, refl, ◌∙◌, Ok}
 use Rattle.ui_machine.specs.Definition.{Definition}
 use Rattle.ui_machine.specs.Rules.Events.{refusal}
 use Rattle.ui_machine.specs.Rules.MainLoop.{is_back}
@@ -18,7 +18,7 @@ use Rattle.ui_engine.specs.declared.faults.SessionFault.TheVariants as faults
 use Rattle.ui_engine.specs.Phases.{IsKept}
 use Rattle.ui_engine.specs.SessionView.{BeginsBy, SessionState}
 use Rattle.ui_engine.proofs.Ending.{session_at}
-use Rattle.ui_engine.proofs.InParts.{begin_back, begin_goes, begins_beside, goes_forwards, is_before, kept_at_rest, kept_on, not_back, turn_stops}
+use Rattle.ui_engine.proofs.InParts.{begin_back, begin_goes, begins_beside, goes_forwards, is_before, kept_at_rest, kept_on, not_back, turn_stops, room_on}
 use Rattle.ui_engine.proofs.Served.{kept_as, knows_inside, turn_kept, turn_may_begin, turned_rests}
 use Rattle.ui_engine.proofs.cores.Core.begin_turn.Goals as goal
 
@@ -40,6 +40,7 @@ invariant_of-self g c =
     kept_on d c.begin_turn.new.engine c.self.inside.phase goes_on (
       subst (λ (x : Definition). IsAtRest x c.begin_turn.new.engine) same c.in-Ok.ensures.rests,
       subst (λ (v : World). Rests d v) (sym begins.world) (turned_rests d c.definition-definition.result.now same c.types-types.ensures.denoted w c.args.moment kept.1),
+      room_on d engine c.begin_turn.new.engine c.begin_turn.ensures.room kept.2,
     )
 
 pub invariant_of-self-in-Err-ClockBack : goal.invariant_of-self-in-Err-ClockBack
@@ -66,8 +67,8 @@ returns-in-Ok-clause-begins g c =
     let none = goes_forwards w m forwards in
     let begins = begins_beside m pool w c.in-Ok.batch now same c.in-Ok.ensures.begins in
     let come = turn_begins d may m (world_at pool w) c.in-Ok.batch (world_at pool now) (turn_may_begin d e same from pool w knows kept.1 m none) begins in
-    subst (λ (s : SessionState). BeginsBy may (refusal s.world (config.turn m)) c.begin_sources.result pool s (config.turn m) c.begin_sources.new.self) c.self.view_is
-    (begin_goes may pool (session_at d engine c.self.inside.phase) (config.turn m) none c.begin_sources.result c.begin_sources.new.self (c.begin_sources.ensures.comes (config.turn m) (world_at pool w) come))
+    subst (λ (s : SessionState). BeginsBy may (refusal s.world (config.turn m)) (Ok c.begin_sources.result) pool s (config.turn m) c.begin_sources.new.self) c.self.view_is
+    (begin_goes may pool (session_at d engine c.self.inside.phase) (config.turn m) none (Ok c.begin_sources.result) c.begin_sources.new.self (c.begin_sources.ensures.comes (config.turn m) (world_at pool w) come))
 
 pub returns-in-Err-OutOfMemory-clause-begins : goal.returns-in-Err-OutOfMemory-clause-begins
 returns-in-Err-OutOfMemory-clause-begins g c =

@@ -5,7 +5,7 @@ use Rattle.ui_machine.specs.State.Tasks.{Frame}
 use Rattle.g_values.specs.View.{value_view}
 use Rattle.bytecode.specs.Computing.{registers_of}
 use Rattle.bytecode.specs.View.{number_of}
-use Rattle.frames.proofs.operands.values_at.Given as goal
+use Rattle.frames.proofs.operands.copy_values.Given as goal
 
 -- the values so far, and those of the registers that are left
 abbrev pub invariant-loop-register : goal.invariant-loop-register

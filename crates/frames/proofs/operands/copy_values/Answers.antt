@@ -7,7 +7,7 @@ use Rattle.g_values.specs.View.{value_view}
 use Rattle.bytecode.specs.declared.computations.Register.{Register}
 use Rattle.bytecode.specs.View.{number_of}
 use Rattle.frames.proofs.FrameRegisters.{is_set, read_all, read_more}
-use Rattle.frames.proofs.operands.values_at.Goals as goal
+use Rattle.frames.proofs.operands.copy_values.Goals as goal
 
 pub unreachable-requires : goal.unreachable-requires
 unreachable-requires c =

@@ -8,7 +8,7 @@ use Rattle.definition_format.specs.Meaning.{given_view}
 use Rattle.engine_world.specs.View.{world_of}
 use Rattle.engine_world.proofs.Ableness.{no_arm}
 use Rattle.engine_world.proofs.Operands.{Onward, fails, goes_on, is_done}
-use Rattle.engine_world.proofs.arguments.operands.Goals as goal
+use Rattle.engine_world.proofs.arguments.add_operands.Goals as goal
 
 pub unreachable-requires : goal.unreachable-requires
 unreachable-requires c =

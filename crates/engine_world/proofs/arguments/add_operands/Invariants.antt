@@ -4,7 +4,7 @@ use Rattle.ui_machine.specs.Rules.Events.{given_values}
 use Rattle.g_values.specs.View.{value_view}
 use Rattle.definition_format.specs.Meaning.{given_view}
 use Rattle.engine_world.specs.View.{world_of}
-use Rattle.engine_world.proofs.arguments.operands.Given as goal
+use Rattle.engine_world.proofs.arguments.add_operands.Given as goal
 
 abbrev pub invariant-loop-one : goal.invariant-loop-one
 invariant-loop-one l =
