@@ -243,6 +243,7 @@ pub collected_counts : (d : Definition) (e : Engine) (t : Store) (s : Stack) (ta
     → (AllTakeKnownHandlers e.world.handlers.last e.stack → AllTakeKnownHandlers e.world.handlers.last s) → Counts d (λ o. taken o + in_emission o old) e → Counts d taken (record e { world = record e.world { table = t }; stack = s })
 collected_counts d e t s taken old new entries only counts object args first begun h = record {
   knows = h.knows;
+  links = h.links;
   passes = h.passes;
   connects = record { most = h.connects.most; to_come = h.connects.to_come; begun = begun h.connects.begun };
   exact = λ o.
@@ -260,6 +261,7 @@ pub popped_emission : (d : Definition) (e : Engine) (s : Stack) (taken : ℕ →
     → ((last : ℕ) → AllTakeKnownHandlers last e.stack → AllTakeKnownHandlers last s) → Counts d taken e → Counts d (λ o. taken o + in_emission o m) (record e { stack = s })
 popped_emission d e s taken m entries first begun h = record {
   knows = h.knows;
+  links = h.links;
   passes = h.passes;
   connects = restacked d e s begun h.connects;
   exact = λ o. omega (arith, h.exact o, ap (λ (ts : List Task). total (in_task o) ts) first);
@@ -283,6 +285,7 @@ pub popped_source : (d : Definition) (e : Engine) (s : Stack) (taken : ℕ → �
     → ((last : ℕ) → AllTakeKnownHandlers last e.stack → AllTakeKnownHandlers last s) → Counts d taken e → Counts d taken (record e { stack = s })
 popped_source d e s taken source first begun h = record {
   knows = h.knows;
+  links = h.links;
   passes = h.passes;
   connects = restacked d e s begun h.connects;
   exact = λ o. omega (arith, h.exact o, ap (λ (ts : List Task). total (in_task o) ts) first);

@@ -83,7 +83,7 @@ module _ (d : Definition) (e : Engine) (hs : Connected) (change : Handler → Ha
       ∙ blocks_same d (λ h. cond (meant h) (change h) h) (some_blocks change meant only) e.world.handlers.handlers e.stack
 
   pub keeps_blocks : KeepsCounts d e (with_handlers e hs)
-  keeps_blocks = keeps_by d e (with_handlers e hs) refl (λ g. g) refl (handled d e (with_handlers e hs) hs refl (only_list hs e.world.handlers _ is) refl) (λ taken _ h o. omega (arith, h o, ap (λ (ts : List Task). total (in_task o) ts) same_blocks))
+  keeps_blocks = keeps_by d e (with_handlers e hs) refl refl (λ g. g) refl (handled d e (with_handlers e hs) hs refl (only_list hs e.world.handlers _ is) refl) (λ taken _ h o. omega (arith, h o, ap (λ (ts : List Task). total (in_task o) ts) same_blocks))
 
 -- handlers that are disconnected
 module _ (d : Definition) (e : Engine) (hs : Connected) (object program : ℕ) (is : hs ≡ record e.world.handlers { handlers = without_matched object program e.world.handlers.handlers })
@@ -100,7 +100,7 @@ module _ (d : Definition) (e : Engine) (hs : Connected) (object program : ℕ) (
       (kept_left keeps (world_of (with_handlers e hs).world) e.world.handlers.handlers own numbered) e.stack)
 
   pub keeps_disconnected : KeepsCounts d e (with_handlers e hs)
-  keeps_disconnected = keeps_by d e (with_handlers e hs) refl (λ g. g) refl (handled d e (with_handlers e hs) hs refl (only_list hs e.world.handlers _ is) refl) (λ taken _ h o.
+  keeps_disconnected = keeps_by d e (with_handlers e hs) refl refl (λ g. g) refl (handled d e (with_handlers e hs) hs refl (only_list hs e.world.handlers _ is) refl) (λ taken _ h o.
       omega (arith, h o, ap (λ (ts : List Task). total (in_task o) ts) disconnect_leaves, hold_as (gone_handlers (world_of (with_handlers e hs).world)) d o (agenda_of d e)))
 
 -- a program that goes on in a world where handlers are gone is all that is put in front

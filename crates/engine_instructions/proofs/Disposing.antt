@@ -45,7 +45,7 @@ pub keeps_disposed : (d : Definition) (e : Engine) (t : Store) (hs : Connected) 
     → w ≡ record (record e.world { table = t; handlers = hs; bindings = bs }) { seats = w.seats; transcript = w.transcript } → tasks_of d hs.handlers e.stack ≡ map (pruned gone) (agenda_of d e)
     → KeepsCounts d e (record e { world = w; closing = closing })
 keeps_disposed d e t hs bs w gone id closing disposes closes only is left =
-    keeps_by d e (record e { world = w; closing = closing }) (ap (λ (v : code.World). v.weak) is) (closed_got d e.world w closes (ap (λ (v : code.World). v.got_peers.items) is)) (ap (λ (v : code.World). v.context) is)
+    keeps_by d e (record e { world = w; closing = closing }) (ap (λ (v : code.World). v.weak) is) refl (closed_got d e.world w closes (ap (λ (v : code.World). v.got_peers.items) is)) (ap (λ (v : code.World). v.context) is)
     (λ h. handled d e (record e { world = w; closing = closing }) hs (ap (λ (v : code.World). v.handlers) is) only refl h) (λ taken knows h.
     let b = map held_of e.world.builder.items in
     let a = agenda_of d e in

@@ -20,3 +20,4 @@ mod SourceSteps
 mod Unbinding
 mod PeerCalls
 mod Holding
+pub mod LinkedNames

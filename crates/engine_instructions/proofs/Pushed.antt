@@ -81,7 +81,7 @@ pub sunk_world : (e : Engine) (t : Store) (id : ℕ) → Sinks id e.world.table 
 sunk_world e t id sinks = ap (λ (s : Store). record (world_of e.world) { objects = s.objects; floating = s.floating }) sinks.beside
 
 pub sunk_keeps : (d : Definition) (e : Engine) (t : Store) (id : ℕ) → Sinks id e.world.table t → KeepsCounts d e (with_table e t)
-sunk_keeps d e t id sinks = keeps_by d e (with_table e t) refl (λ g. g) refl (stays d e (with_table e t) refl refl) (λ taken _ h. sunk_exact d taken e.world.table t (map held_of e.world.builder.items) (agenda_of d e) id sinks h)
+sunk_keeps d e t id sinks = keeps_by d e (with_table e t) refl refl (λ g. g) refl (stays d e (with_table e t) refl refl) (λ taken _ h. sunk_exact d taken e.world.table t (map held_of e.world.builder.items) (agenda_of d e) id sinks h)
 
 -- other objects
 pub objects_world : (e : Engine) (t : Store) → t ≡ with_objects e.world.table t.objects → world_of (with_table e t).world ≡ config.with_objects (world_of e.world) t.objects
@@ -113,7 +113,7 @@ module _ (e : Engine) (t : Store) (parent child : ℕ) (leaves : Leaves parent c
       ∙ ap (λ floating. record (world_of e.world) { objects = updated (with_parent None) child (updated (without_child child) parent e.world.table.objects); floating = floating }) leaves.floating
 
   pub left_keeps : (d : Definition) → KeepsCounts d e (with_table e t)
-  left_keeps d = keeps_by d e (with_table e t) refl (λ g. g) refl (stays d e (with_table e t) refl refl) (λ taken _ h.
+  left_keeps d = keeps_by d e (with_table e t) refl refl (λ g. g) refl (stays d e (with_table e t) refl refl) (λ taken _ h.
       let b = map held_of e.world.builder.items in
       let a = agenda_of d e in
       from_counted d taken t b a (leave_exact d (beside_of taken b a) e.world.table t parent child leaves (to_counted d taken e.world.table b a h)))

@@ -231,6 +231,7 @@ pub stop_counts : (d : Definition) (e mid : Engine) (taken : ℕ → ℕ) → mi
     → ((last : ℕ) → AllTakeKnownHandlers last e.stack → AllTakeKnownHandlers last mid.stack) → Counts d taken e → Counts d taken mid
 stop_counts d e mid taken beside is begun h = subst (λ (x : Engine). Counts d taken x) (sym beside) (record {
   knows = h.knows;
+  links = h.links;
   passes = h.passes;
   connects = restacked d e mid.stack begun h.connects;
   exact = λ o.

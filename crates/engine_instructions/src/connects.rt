@@ -11,22 +11,25 @@ ghost use Rattle.engine_world.specs.ConnectView.{connection_in};
 ghost use Rattle.engine_world.specs.Counting.{Counts, in_frame, nothing};
 ghost use Rattle.engine_world.specs.EngineView.{config_of};
 ghost use Rattle.engine_world.specs.Able.{Able, Leads};
+ghost use Rattle.linked_programs.specs.Linked.{LinksConnection};
 ghost use Rattle.engine_world.specs.Quiet.{IsQuiet};
 ghost use Rattle.engine_world.specs.TaskView.{agenda_of};
 ghost use Rattle.engine_world.specs.Room.{HasRoom, SameRoom};
 ghost use Rattle.engine_world.specs.View.{world_of};
 
+use crate::details::detail_in;
 use crate::emits::signal_in;
 use crate::operands::{data_in, object_in, program_named};
 use crate::registers::write_register;
 use bytecode::{Connection as Connect, Register};
 use definitions::Definition;
-use engine_world::arguments::{as_text, detail_in};
+use engine_world::arguments::as_text;
 use engine_world::children::say_limit;
 use engine_world::connections::connect_handler;
 use engine_world::engine::Engine;
 use frames::Frame;
 use g_values::Value;
+use linked_programs::Link;
 use signal_core::Connection;
 use std::alloc::AllocError;
 
@@ -37,15 +40,24 @@ fn new_connection(
     frame: &Frame,
     object: Register,
     connect: &Connect,
+    link: Link,
 ) -> Result<Connection, AllocError>
+    requires link { LinksConnection definition.now engine.now.links (connect_view connect.now) link }
     requires able { Able (connection_in definition.now (world_of engine.now.world) (frame_view frame.now) object.0 (connect_view connect.now)) }
     ensures connection { IfOk result (λ c. connection_in definition.now (world_of engine.now.world) (frame_view frame.now) object.0 (connect_view connect.now) ≡ Ok (connection_of c)) }
     ensures by_code { IfOk result (λ c. c.by_code ≡ true) }
 {
     let object = object_in(engine, frame, object);
-    let signal = signal_in(engine, definition, object, connect.signal.as_str());
-    let detail = detail_in(engine, definition, object, signal, as_text(&connect.detail))?;
-    let program = program_named(definition, connect.program.as_str());
+    let signal = signal_in(engine, definition, object, connect.signal.as_str(), link);
+    let detail = detail_in(
+        engine,
+        definition,
+        object,
+        signal,
+        as_text(&connect.detail),
+        link,
+    )?;
+    let program = program_named(definition, connect.program.as_str(), link);
     let data = data_in(engine, frame, connect.with);
     Ok(Connection {
         object,
@@ -68,7 +80,9 @@ pub(crate) fn connect_from_program(
     to: Register,
     object: Register,
     connect: &Connect,
+    link: Link,
 ) -> Result<(), AllocError>
+    requires link { LinksConnection definition.now engine.now.links (connect_view connect.now) link }
     requires able { Able (left engine.now.counted (in_front (agenda_of definition.now engine.now)
         (connecting definition.now (world_of engine.now.world) (agenda_of definition.now engine.now) (frame_view frame) to.0 object.0 (connect_view connect.now)))) }
     requires counted { Counts definition.now (λ o. in_frame o (frame_view frame)) engine.now }
@@ -81,7 +95,7 @@ pub(crate) fn connect_from_program(
     ensures counted { OnOk result (Counts definition.now nothing engine.new) }
     ensures room { SameRoom engine.old engine.new }
 {
-    let connection = new_connection(engine, definition, &frame, object, connect)?;
+    let connection = new_connection(engine, definition, &frame, object, connect, link)?;
     let outcome = connect_handler(engine, definition, connection)?;
     let is_connected = outcome.is_connected();
     write_register(

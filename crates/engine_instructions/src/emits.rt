@@ -9,21 +9,24 @@ ghost use Rattle.engine_world.specs.Counting.{Counts, in_frame, nothing};
 ghost use Rattle.engine_world.specs.EngineView.{config_of};
 ghost use Rattle.engine_instructions.specs.EmitView.{emission_by_code, emit_of};
 ghost use Rattle.engine_world.specs.Able.{Able, Leads, LeadsToLiving};
+ghost use Rattle.linked_programs.specs.Linked.{IsSignal, LinksEmission};
+ghost use Rattle.linked_programs.specs.Linked as linked;
 ghost use Rattle.engine_world.specs.Quiet.{IsQuiet};
 ghost use Rattle.engine_world.specs.TaskView.{agenda_of, new_of};
 ghost use Rattle.engine_world.specs.Room.{HasRoom, SameRoom};
 ghost use Rattle.engine_world.specs.View.{world_of};
 
+use crate::details::detail_in;
 use crate::operands::object_in;
 use bytecode::Register;
 use definitions::Definition;
-use engine_world::arguments::detail_in;
 use engine_world::engine::Engine;
 use engine_world::program_frames::push_frame;
 use engine_world::references::push_task;
 use engine_world::task::{NewEmission, Task};
 use frames::{Frame, copy_values};
 use g_values::Value;
+use linked_programs::Link;
 use std::alloc::AllocError;
 use ui_machine::{ObjectId, SignalId};
 
@@ -35,20 +38,26 @@ pub(crate) struct Emit<'a> {
     pub(crate) signal: &'a str,
     pub(crate) detail: Option<&'a str>,
     pub(crate) args: &'a [Register],
+    /// What the names mean.
+    pub(crate) link: Link,
 }
 
-/// The number of an object's signal by name.
+/// The number of an object's signal by name, which the instruction's link says.
 pub(crate) fn signal_in(
     engine: &Engine,
     definition: &Definition,
     object: ObjectId,
     name: &str,
+    link: Link,
 ) -> SignalId
     requires able { Able (signal_in definition.now (world_of engine.now.world) object.0 name.now) }
+    requires link { IsSignal definition.now engine.now.links name.now (linked.signal_in link) }
     ensures { signal_in definition.now (world_of engine.now.world) object.0 name.now ≡ Ok result }
 {
+    // For the proof: the clauses speak of the definition, and of the name.
+    let (_, _) = (definition, name);
     let class = engine.world.table.class_of(object);
-    let Some(number) = definition.signal_number(class, name) else {
+    let Some(number) = engine.links.signal(class, link.signal()) else {
         unreachable!()
     };
     number
@@ -64,12 +73,13 @@ fn new_emission(
     mut args: Vec<Value>,
 ) -> Result<NewEmission, AllocError>
     requires none { args.items ≡ [] }
+    requires link { LinksEmission definition.now engine.now.links emit.signal.now (emit_of emit).detail emit.link }
     requires able { Able (emission_by_code definition.now (world_of engine.now.world) (frame_view frame.now) object.0 (emit_of emit)) }
     ensures { IfOk result (λ e. emission_by_code definition.now (world_of engine.now.world) (frame_view frame.now) object.0 (emit_of emit.entry) ≡ Ok (new_of e)) }
 {
     let object = object_in(engine, frame, object);
-    let signal = signal_in(engine, definition, object, emit.signal);
-    let detail = detail_in(engine, definition, object, signal, emit.detail)?;
+    let signal = signal_in(engine, definition, object, emit.signal, emit.link);
+    let detail = detail_in(engine, definition, object, signal, emit.detail, emit.link)?;
     let registers = frame.registers.as_slice();
     copy_values(registers, emit.args, &mut args)?;
     Ok(NewEmission {
@@ -89,6 +99,7 @@ pub(crate) fn emit_from_program(
     object: Register,
     emit: Emit<'_>,
 ) -> Result<(), AllocError>
+    requires link { LinksEmission definition.now engine.now.links emit.signal.now (emit_of emit).detail emit.link }
     requires able { Able (left engine.now.counted (in_front (agenda_of definition.now engine.now) (emitting definition.now (world_of engine.now.world) (frame_view frame) object.0 (emit_of emit)))) }
     requires names { LeadsToLiving (left engine.now.counted (in_front (agenda_of definition.now engine.now) (emitting definition.now (world_of engine.now.world) (frame_view frame) object.0 (emit_of emit)))) }
     requires counted { Counts definition.now (λ o. in_frame o (frame_view frame)) engine.now }

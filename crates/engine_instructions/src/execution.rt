@@ -1,6 +1,6 @@
 //! Instructions: what each of them does.
 
-ghost use Rattle.std.specs.Prelude.{◌≡◌, Some, IfSome, OnOk, OnErr};
+ghost use Rattle.std.specs.Prelude.{◌≡◌, ◌-◌, Some, IfSome, OnOk, OnErr};
 ghost use Rattle.ui_machine.specs.Definition.Lookups.{program_at};
 ghost use Rattle.ui_machine.specs.Instructions.{instruction_step};
 ghost use Rattle.ui_machine.specs.Steps.{left};
@@ -16,6 +16,7 @@ ghost use Rattle.engine_world.specs.Counting.{Counts, in_frame, nothing};
 ghost use Rattle.engine_world.specs.EngineView.{config_of};
 ghost use Rattle.engine_world.specs.Able.{Able, Leads, LeadsToLiving, LeadsWithoutGone};
 ghost use Rattle.engine_instructions.specs.ClosedPeers.{LeavesClosed};
+ghost use Rattle.linked_programs.specs.Linked.{AreLinked, IsLink, instruction_at};
 
 use crate::calls::call_from_program;
 use crate::connects::connect_from_program;
@@ -40,9 +41,27 @@ use definitions::Definition;
 use engine_world::arguments::as_text;
 use engine_world::engine::Engine;
 use frames::Frame;
+use linked_programs::Link;
 use std::alloc::AllocError;
 
-/// Does what an instruction says, which is counted already. The number of a peer that it closes is left in the engine. Handlers that it disconnects have no more turns in the emissions that go on.
+// The link of an instruction that a frame has taken.
+fn link_of(
+    engine: &Engine,
+    definition: &Definition,
+    frame: &Frame,
+    instruction: &Instruction,
+) -> Link
+    requires links { AreLinked definition.now engine.now.links }
+    requires taken { instruction_at definition.now (frame_view frame.now).program (frame_view frame.now).block ((frame_view frame.now).at - 1) ≡ Some (instruction_view instruction.now) }
+    ensures { IsLink definition.now engine.now.links (instruction_view instruction.now) result }
+{
+    // For the proof: the clauses speak of the definition, and of the instruction.
+    let (_, _) = (definition, instruction);
+    let at = frame.at.saturating_sub(1);
+    engine.links.link(frame.program, frame.block, at)
+}
+
+/// Does what an instruction says, which its frame has taken and which is counted already. The number of a peer that it closes is left in the engine. Handlers that it disconnects have no more turns in the emissions that go on.
 ///
 /// # Errors
 ///
@@ -57,6 +76,7 @@ pub fn execute(
     requires able { Able (left engine.now.counted (instruction_step definition.now (world_of engine.now.world) (agenda_of definition.now engine.now) (frame_view frame) (instruction_view instruction.now))) }
     requires names { LeadsToLiving (left engine.now.counted (instruction_step definition.now (world_of engine.now.world) (agenda_of definition.now engine.now) (frame_view frame) (instruction_view instruction.now))) }
     requires program { program_at definition.now (frame_view frame).program ≡ Some (program_view program.now) }
+    requires taken { instruction_at definition.now (frame_view frame).program (frame_view frame).block ((frame_view frame).at - 1) ≡ Some (instruction_view instruction.now) }
     requires known { HasKnownKinds definition.now.types instruction.now }
     requires result { IfSome program.now.result (IsKnown definition.now.types) }
     requires counted { Counts definition.now (λ o. in_frame o (frame_view frame)) engine.now }
@@ -77,11 +97,21 @@ pub fn execute(
             execute_control(engine, definition, program, frame, control)
         }
         Instruction::Property(property) => {
-            execute_on_properties(engine, definition, frame, property)
+            let link = link_of(engine, definition, &frame, instruction);
+            execute_on_properties(engine, definition, frame, property, link)
         }
-        Instruction::Object(object) => execute_on_objects(engine, definition, frame, object),
-        Instruction::Signal(signal) => execute_on_signals(engine, definition, frame, signal),
-        Instruction::Source(source) => execute_on_sources(engine, definition, frame, source),
+        Instruction::Object(object) => {
+            let link = link_of(engine, definition, &frame, instruction);
+            execute_on_objects(engine, definition, frame, object, link)
+        }
+        Instruction::Signal(signal) => {
+            let link = link_of(engine, definition, &frame, instruction);
+            execute_on_signals(engine, definition, frame, signal, link)
+        }
+        Instruction::Source(source) => {
+            let link = link_of(engine, definition, &frame, instruction);
+            execute_on_sources(engine, definition, frame, source, link)
+        }
         Instruction::Peer(call) => call_from_program(engine, definition, frame, call),
     }
 }
@@ -131,7 +161,9 @@ fn execute_on_properties(
     definition: &Definition,
     frame: Frame,
     instruction: &PropertyInstruction,
+    link: Link,
 ) -> Result<(), AllocError>
+    requires link { IsLink definition.now engine.now.links (property_instruction_view instruction.now) link }
     requires able { Able (left engine.now.counted (instruction_step definition.now (world_of engine.now.world) (agenda_of definition.now engine.now) (frame_view frame) (property_instruction_view instruction.now))) }
     requires names { LeadsToLiving (left engine.now.counted (instruction_step definition.now (world_of engine.now.world) (agenda_of definition.now engine.now) (frame_view frame) (property_instruction_view instruction.now))) }
     requires counted { Counts definition.now (λ o. in_frame o (frame_view frame)) engine.now }
@@ -148,14 +180,30 @@ fn execute_on_properties(
             to,
             object,
             property,
-        } => get_property(engine, definition, frame, *to, *object, property.as_str())?,
+        } => get_property(
+            engine,
+            definition,
+            frame,
+            *to,
+            *object,
+            property.as_str(),
+            link,
+        )?,
         PropertyInstruction::Set {
             object,
             property,
             from,
-        } => set_property(engine, definition, frame, *object, property.as_str(), *from)?,
+        } => set_property(
+            engine,
+            definition,
+            frame,
+            *object,
+            property.as_str(),
+            *from,
+            link,
+        )?,
         PropertyInstruction::Notify { object, property } => {
-            notify_from_program(engine, definition, frame, *object, property.as_str())?;
+            notify_from_program(engine, definition, frame, *object, property.as_str(), link)?;
         }
         PropertyInstruction::Freeze(object) => freeze_notify(engine, definition, frame, *object),
         PropertyInstruction::Thaw(object) => thaw_notify(engine, definition, frame, *object),
@@ -169,7 +217,9 @@ fn execute_on_objects(
     definition: &Definition,
     frame: Frame,
     instruction: &ObjectInstruction,
+    link: Link,
 ) -> Result<(), AllocError>
+    requires link { IsLink definition.now engine.now.links (object_instruction_view instruction.now) link }
     requires able { Able (left engine.now.counted (instruction_step definition.now (world_of engine.now.world) (agenda_of definition.now engine.now) (frame_view frame) (object_instruction_view instruction.now))) }
     requires names { LeadsToLiving (left engine.now.counted (instruction_step definition.now (world_of engine.now.world) (agenda_of definition.now engine.now) (frame_view frame) (object_instruction_view instruction.now))) }
     requires counted { Counts definition.now (λ o. in_frame o (frame_view frame)) engine.now }
@@ -184,9 +234,16 @@ fn execute_on_objects(
 {
     match instruction {
         ObjectInstruction::LookUp { to, id } => {
-            look_up_object(engine, definition, frame, *to, id.as_str());
+            look_up_object(engine, definition, frame, *to, id.as_str(), link);
         }
-        ObjectInstruction::New { to, id } => create(engine, definition, frame, *to, id.as_str())?,
+        ObjectInstruction::New { to, id } => create(
+            engine,
+            definition,
+            frame,
+            *to,
+            id.as_str(),
+            link,
+        )?,
         ObjectInstruction::Sink(object) => sink(engine, definition, frame, *object),
         ObjectInstruction::Orphan(object) => orphan(engine, definition, frame, *object)?,
         ObjectInstruction::Dispose(object) => run_dispose(engine, definition, frame, *object)?,
@@ -203,7 +260,9 @@ fn execute_on_signals(
     definition: &Definition,
     frame: Frame,
     instruction: &SignalInstruction,
+    link: Link,
 ) -> Result<(), AllocError>
+    requires link { IsLink definition.now engine.now.links (signal_instruction_view instruction.now) link }
     requires able { Able (left engine.now.counted (instruction_step definition.now (world_of engine.now.world) (agenda_of definition.now engine.now) (frame_view frame) (signal_instruction_view instruction.now))) }
     requires names { LeadsToLiving (left engine.now.counted (instruction_step definition.now (world_of engine.now.world) (agenda_of definition.now engine.now) (frame_view frame) (signal_instruction_view instruction.now))) }
     requires counted { Counts definition.now (λ o. in_frame o (frame_view frame)) engine.now }
@@ -228,6 +287,7 @@ fn execute_on_signals(
                 signal: signal.as_str(),
                 detail: as_text(detail),
                 args: args.as_slice(),
+                link,
             };
             emit_from_program(engine, definition, frame, *object, emit)?;
         }
@@ -235,15 +295,15 @@ fn execute_on_signals(
             to,
             object,
             connection,
-        } => connect_from_program(engine, definition, frame, *to, *object, connection)?,
+        } => connect_from_program(engine, definition, frame, *to, *object, connection, link)?,
         SignalInstruction::Disconnect { object, program } => {
-            disconnect_matched(engine, definition, frame, *object, program.as_str());
+            disconnect_matched(engine, definition, frame, *object, program.as_str(), link);
         }
         SignalInstruction::Block { object, program } => {
-            block_matched(engine, definition, frame, *object, program.as_str());
+            block_matched(engine, definition, frame, *object, program.as_str(), link);
         }
         SignalInstruction::Unblock { object, program } => {
-            unblock_matched(engine, definition, frame, *object, program.as_str());
+            unblock_matched(engine, definition, frame, *object, program.as_str(), link);
         }
         SignalInstruction::Stop => stop_from_program(engine, definition, frame),
     }
@@ -256,7 +316,9 @@ fn execute_on_sources(
     definition: &Definition,
     frame: Frame,
     instruction: &SourceInstruction,
+    link: Link,
 ) -> Result<(), AllocError>
+    requires link { IsLink definition.now engine.now.links (source_instruction_view instruction.now) link }
     requires able { Able (left engine.now.counted (instruction_step definition.now (world_of engine.now.world) (agenda_of definition.now engine.now) (frame_view frame) (source_instruction_view instruction.now))) }
     requires counted { Counts definition.now (λ o. in_frame o (frame_view frame)) engine.now }
     requires room { HasRoom 1 engine.now }
@@ -280,6 +342,7 @@ fn execute_on_sources(
             let attach = Attach {
                 word: "idle",
                 program: program.as_str(),
+                link,
                 priority: *priority,
                 interval: None,
                 with: *with,
@@ -296,6 +359,7 @@ fn execute_on_sources(
             let attach = Attach {
                 word: "timeout",
                 program: program.as_str(),
+                link,
                 priority: *priority,
                 interval: Some(*interval),
                 with: *with,
@@ -303,7 +367,7 @@ fn execute_on_sources(
             attach_from_program(engine, definition, frame, *to, attach)?;
         }
         SourceInstruction::Remove(program) => {
-            remove_from_program(engine, definition, frame, program.as_str());
+            remove_from_program(engine, definition, frame, program.as_str(), link);
         }
     }
     Ok(())

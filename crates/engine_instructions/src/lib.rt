@@ -4,6 +4,7 @@
 pub mod accumulation;
 pub mod calls;
 pub mod connects;
+pub mod details;
 pub mod emits;
 pub mod execution;
 pub mod jumps;

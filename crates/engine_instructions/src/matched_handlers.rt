@@ -12,6 +12,7 @@ ghost use Rattle.engine_world.specs.Counting.{Counts, KeepsCounts, in_frame, not
 ghost use Rattle.engine_world.specs.EngineView.{config_of};
 ghost use Rattle.engine_instructions.specs.HandlersView.{matched_in, matched_of};
 ghost use Rattle.engine_world.specs.Able.{Able, ComesWithoutGone};
+ghost use Rattle.linked_programs.specs.Linked.{LinksProgram};
 ghost use Rattle.engine_world.specs.Quiet.{IsQuiet};
 ghost use Rattle.engine_world.specs.Standing.{gone_handlers};
 ghost use Rattle.engine_world.specs.TaskView.{agenda_of};
@@ -24,6 +25,7 @@ use definitions::Definition;
 use engine_world::engine::Engine;
 use engine_world::program_frames::push_frame;
 use frames::Frame;
+use linked_programs::Link;
 use std::alloc::AllocError;
 use ui_machine::{ObjectId, ProgramId};
 
@@ -41,12 +43,14 @@ fn matched_in(
     frame: &Frame,
     object: Register,
     program: &str,
+    link: Link,
 ) -> Matched
+    requires link { LinksProgram definition.now program.now link }
     requires able { Able (matched_in definition.now (world_of engine.now.world) (frame_view frame.now) object.0 program.now) }
     ensures { matched_in definition.now (world_of engine.now.world) (frame_view frame.now) object.0 program.now ≡ Ok (matched_of result) }
 {
     let object = object_in(engine, frame, object);
-    let program = program_named(definition, program);
+    let program = program_named(definition, program, link);
     Matched { object, program }
 }
 
@@ -106,7 +110,9 @@ pub(crate) fn disconnect_matched(
     frame: Frame,
     object: Register,
     program: &str,
+    link: Link,
 )
+    requires link { LinksProgram definition.now program.now link }
     requires able { Able (left engine.now.counted (in_front (agenda_of definition.now engine.now) (disconnecting definition.now (world_of engine.now.world) (frame_view frame) object.0 program.now))) }
     requires counted { Counts definition.now (λ o. in_frame o (frame_view frame)) engine.now }
     requires room { HasRoom 1 engine.now }
@@ -116,7 +122,7 @@ pub(crate) fn disconnect_matched(
     ensures counted { Counts definition.now nothing engine.new }
     ensures room { SameRoom engine.old engine.new }
 {
-    let matched = matched_in(engine, definition, &frame, object, program);
+    let matched = matched_in(engine, definition, &frame, object, program, link);
     disconnect(engine, definition, matched);
     push_frame(engine, frame);
 }
@@ -128,7 +134,9 @@ pub(crate) fn block_matched(
     frame: Frame,
     object: Register,
     program: &str,
+    link: Link,
 )
+    requires link { LinksProgram definition.now program.now link }
     requires able { Able (left engine.now.counted (in_front (agenda_of definition.now engine.now) (blocking definition.now (world_of engine.now.world) (frame_view frame) object.0 program.now))) }
     requires counted { Counts definition.now (λ o. in_frame o (frame_view frame)) engine.now }
     requires room { HasRoom 1 engine.now }
@@ -137,7 +145,7 @@ pub(crate) fn block_matched(
     ensures counted { Counts definition.now nothing engine.new }
     ensures room { SameRoom engine.old engine.new }
 {
-    let matched = matched_in(engine, definition, &frame, object, program);
+    let matched = matched_in(engine, definition, &frame, object, program, link);
     block(engine, definition, matched);
     push_frame(engine, frame);
 }
@@ -149,7 +157,9 @@ pub(crate) fn unblock_matched(
     frame: Frame,
     object: Register,
     program: &str,
+    link: Link,
 )
+    requires link { LinksProgram definition.now program.now link }
     requires able { Able (left engine.now.counted (in_front (agenda_of definition.now engine.now) (unblocking definition.now (world_of engine.now.world) (frame_view frame) object.0 program.now))) }
     requires counted { Counts definition.now (λ o. in_frame o (frame_view frame)) engine.now }
     requires room { HasRoom 1 engine.now }
@@ -158,7 +168,7 @@ pub(crate) fn unblock_matched(
     ensures counted { Counts definition.now nothing engine.new }
     ensures room { SameRoom engine.old engine.new }
 {
-    let matched = matched_in(engine, definition, &frame, object, program);
+    let matched = matched_in(engine, definition, &frame, object, program, link);
     unblock(engine, definition, matched);
     push_frame(engine, frame);
 }

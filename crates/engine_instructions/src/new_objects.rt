@@ -17,6 +17,7 @@ ghost use Rattle.engine_instructions.specs.CreateView.{created, has_room, protot
 ghost use Rattle.engine_world.specs.EngineView.{config_of};
 ghost use Rattle.engine_world.specs.PeerPlaces.{is_there};
 ghost use Rattle.engine_world.specs.Able.{Able, Leads};
+ghost use Rattle.linked_programs.specs.Linked.{LinksPlace};
 ghost use Rattle.engine_world.specs.Quiet.{IsQuiet};
 ghost use Rattle.engine_world.specs.TaskView.{agenda_of, task_of};
 ghost use Rattle.engine_world.specs.Room.{HasRoom, SameRoom};
@@ -32,6 +33,7 @@ use engine_world::objects::{begin_construction, make};
 use engine_world::places::entry_at;
 use engine_world::task::Task;
 use frames::Frame;
+use linked_programs::Link;
 use std::alloc::AllocError;
 use ui_machine::Place;
 
@@ -42,12 +44,15 @@ struct Prototype<'a> {
     entry: ObjectEntry<'a>,
 }
 
-// The prototype of an id.
-fn prototype_named<'a>(definition: &'a Definition, id: &str) -> Option<Prototype<'a>>
+// The prototype of an id, whose place the instruction's link says.
+fn prototype_named<'a>(definition: &'a Definition, id: &str, link: Link) -> Option<Prototype<'a>>
+    requires { LinksPlace definition.now id.now link }
     ensures named { known arms.Code (option_map prototype_of result) ≡ prototype_named definition.now id.now }
     ensures at { IfSome result (λ p. slice_get definition.now.places p.place.0 ≡ Some (entry_view p.entry)) }
 {
-    let Some(place) = definition.place(id) else {
+    // For the proof: the clauses speak of the id.
+    let _ = id;
+    let Some(place) = link.place() else {
         return None;
     };
     let Some(entry) = entry_at(definition, place) else {
@@ -152,7 +157,9 @@ pub(crate) fn create(
     frame: Frame,
     to: Register,
     id: &str,
+    link: Link,
 ) -> Result<(), AllocError>
+    requires link { LinksPlace definition.now id.now link }
     requires able { Able (left engine.now.counted (in_front (agenda_of definition.now engine.now)
         (creating definition.now (world_of engine.now.world) (agenda_of definition.now engine.now) (frame_view frame) to.0 id.now))) }
     requires counted { Counts definition.now (λ o. in_frame o (frame_view frame)) engine.now }
@@ -167,7 +174,7 @@ pub(crate) fn create(
 {
     // For the proof: what is known of a definition's places.
     let _types = definition.types();
-    let Some(prototype) = prototype_named(definition, id) else {
+    let Some(prototype) = prototype_named(definition, id, link) else {
         unreachable!()
     };
     let peer = new_peer(engine, definition, prototype.place, &prototype.entry);

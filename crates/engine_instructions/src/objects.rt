@@ -14,6 +14,7 @@ ghost use Rattle.instance_tables.specs.Family.{parent_in};
 ghost use Rattle.instance_tables.specs.Weak.{Knows};
 ghost use Rattle.machine_laws.specs.GoneLaws.{pruned};
 ghost use Rattle.engine_world.specs.Able.{Able, Leads, LeadsToLiving, LeadsWithoutGone};
+ghost use Rattle.linked_programs.specs.Linked.{LinksPlace};
 ghost use Rattle.engine_world.specs.Quiet.{IsQuiet};
 ghost use Rattle.engine_world.specs.Room.{HasRoom, SameRoom};
 ghost use Rattle.engine_world.specs.View.{world_of};
@@ -38,6 +39,7 @@ use engine_world::references::push_task;
 use engine_world::task::{Slots, Task};
 use frames::Frame;
 use g_values::Value;
+use linked_programs::Link;
 use std::alloc::AllocError;
 use ui_machine::ObjectId;
 
@@ -48,7 +50,9 @@ pub(crate) fn look_up_object(
     frame: Frame,
     to: Register,
     id: &str,
+    link: Link,
 )
+    requires link { LinksPlace definition.now id.now link }
     requires able { Able (left engine.now.counted (in_front (agenda_of definition.now engine.now) (look_up_object definition.now (world_of engine.now.world) (frame_view frame) to.0 id.now))) }
     requires names { LeadsToLiving (left engine.now.counted (in_front (agenda_of definition.now engine.now) (look_up_object definition.now (world_of engine.now.world) (frame_view frame) to.0 id.now))) }
     requires counted { Counts definition.now (λ o. in_frame o (frame_view frame)) engine.now }
@@ -58,7 +62,9 @@ pub(crate) fn look_up_object(
     ensures counted { Counts definition.now nothing engine.new }
     ensures room { SameRoom engine.old engine.new }
 {
-    let Some(place) = definition.place(id) else {
+    // For the proof: the clauses speak of the id.
+    let _ = id;
+    let Some(place) = link.place() else {
         unreachable!()
     };
     let object = object_or_null(engine.world.built(place));

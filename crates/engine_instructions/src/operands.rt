@@ -10,11 +10,13 @@ ghost use Rattle.bytecode.specs.View.{number_of};
 ghost use Rattle.instance_tables.specs.Store.{id_of};
 ghost use Rattle.engine_world.specs.View.{world_of};
 ghost use Rattle.engine_world.specs.Able.{Able};
+ghost use Rattle.linked_programs.specs.Linked.{LinksProgram};
 
 use bytecode::Register;
 use definitions::Definition;
 use engine_world::engine::Engine;
 use frames::{Frame, identity_at};
+use linked_programs::Link;
 use ui_machine::{ObjectId, ProgramId};
 
 /// The living object that a register names.
@@ -36,12 +38,15 @@ pub(crate) fn data_in(engine: &Engine, frame: &Frame, with: Option<Register>) ->
     Some(object_in(engine, frame, with?))
 }
 
-/// The number of the program of a name.
-pub(crate) fn program_named(definition: &Definition, name: &str) -> ProgramId
+/// The number of the program of a name, which the instruction's link says.
+pub(crate) fn program_named(definition: &Definition, name: &str, link: Link) -> ProgramId
     requires able { Able (known arms.Code (program_of definition.now name.now)) }
+    requires link { LinksProgram definition.now name.now link }
     ensures { program_of definition.now name.now ≡ Some result }
 {
-    let Some(number) = definition.program_number(name) else {
+    // For the proof: the clauses speak of the definition, and of the name.
+    let (_, _) = (definition, name);
+    let Some(number) = link.program() else {
         unreachable!()
     };
     number

@@ -9,6 +9,7 @@ ghost use Rattle.ui_machine.specs.Steps.{left, uncounted};
 ghost use Rattle.g_values.specs.View.{value_view};
 ghost use Rattle.frames.specs.FrameView.{frame_view};
 ghost use Rattle.engine_world.specs.Able.{Able, Leads, LeadsToLiving};
+ghost use Rattle.linked_programs.specs.Linked.{LinksProperty};
 ghost use Rattle.engine_world.specs.Quiet.{IsQuiet};
 ghost use Rattle.engine_world.specs.Room.{HasRoom, SameRoom};
 ghost use Rattle.engine_world.specs.View.{world_of};
@@ -28,6 +29,7 @@ use engine_world::references::push_task;
 use engine_world::task::Task;
 use frames::{Frame, value_at};
 use g_values::Value;
+use linked_programs::Link;
 use std::alloc::AllocError;
 use ui_machine::{ObjectId, Slot};
 
@@ -42,13 +44,22 @@ pub(crate) fn value_in(frame: &Frame, from: Register) -> Result<Value, AllocErro
     value.copied()
 }
 
-// The slot of an object's property by its name.
-fn slot_at(engine: &Engine, definition: &Definition, object: ObjectId, property: &str) -> Slot
+// The slot of an object's property by its name, which the instruction's link says.
+fn slot_at(
+    engine: &Engine,
+    definition: &Definition,
+    object: ObjectId,
+    property: &str,
+    link: Link,
+) -> Slot
     requires able { Able (slot_at definition.now (world_of engine.now.world) object.0 property.now) }
+    requires link { LinksProperty definition.now engine.now.links property.now link }
     ensures { slot_at definition.now (world_of engine.now.world) object.0 property.now ≡ Ok result }
 {
+    // For the proof: the clauses speak of the definition, and of the name.
+    let (_, _) = (definition, property);
     let class = engine.world.table.class_of(object);
-    let Some(slot) = definition.slot(class, property) else {
+    let Some(slot) = engine.links.slot(class, link.property()) else {
         unreachable!()
     };
     slot
@@ -60,11 +71,13 @@ fn readable_value(
     definition: &Definition,
     object: ObjectId,
     property: &str,
+    link: Link,
 ) -> Result<Value, AllocError>
     requires able { Able (readable_value definition.now (world_of engine.now.world) object.0 property.now) }
+    requires link { LinksProperty definition.now engine.now.links property.now link }
     ensures { IfOk result (λ value. readable_value definition.now (world_of engine.now.world) object.0 property.now ≡ Ok (value_view value)) }
 {
-    let slot = slot_at(engine, definition, object, property);
+    let slot = slot_at(engine, definition, object, property, link);
     engine.world.table.read(object, slot).copied()
 }
 
@@ -76,9 +89,11 @@ pub(crate) fn get_property(
     to: Register,
     object: Register,
     property: &str,
+    link: Link,
 ) -> Result<(), AllocError>
     requires able { Able (left engine.now.counted (in_front (agenda_of definition.now engine.now) (get_property definition.now (world_of engine.now.world) (frame_view frame) to.0 object.0 property.now))) }
     requires names { LeadsToLiving (left engine.now.counted (in_front (agenda_of definition.now engine.now) (get_property definition.now (world_of engine.now.world) (frame_view frame) to.0 object.0 property.now))) }
+    requires link { LinksProperty definition.now engine.now.links property.now link }
     requires counted { Counts definition.now (λ o. in_frame o (frame_view frame)) engine.now }
     requires room { HasRoom 1 engine.now }
     ensures step { Leads result
@@ -89,7 +104,7 @@ pub(crate) fn get_property(
     ensures room { SameRoom engine.old engine.new }
 {
     let object = object_in(engine, &frame, object);
-    let value = readable_value(engine, definition, object, property)?;
+    let value = readable_value(engine, definition, object, property, link)?;
     write_register(engine, definition, frame, to, Some(value));
     Ok(())
 }
@@ -102,8 +117,10 @@ pub(crate) fn set_property(
     object: Register,
     property: &str,
     from: Register,
+    link: Link,
 ) -> Result<(), AllocError>
     requires able { Able (left engine.now.counted (in_front (agenda_of definition.now engine.now) (set_property definition.now (world_of engine.now.world) (frame_view frame) object.0 property.now from.0))) }
+    requires link { LinksProperty definition.now engine.now.links property.now link }
     requires counted { Counts definition.now (λ o. in_frame o (frame_view frame)) engine.now }
     requires room { HasRoom 2 engine.now }
     ensures step { Leads result
@@ -114,7 +131,7 @@ pub(crate) fn set_property(
     ensures room { SameRoom engine.old engine.new }
 {
     let object = object_in(engine, &frame, object);
-    let slot = slot_at(engine, definition, object, property);
+    let slot = slot_at(engine, definition, object, property, link);
     let value = value_in(&frame, from)?;
     push_frame(engine, frame);
     push_task(
@@ -161,8 +178,10 @@ pub(crate) fn notify_from_program(
     frame: Frame,
     object: Register,
     property: &str,
+    link: Link,
 ) -> Result<(), AllocError>
     requires able { Able (left engine.now.counted (in_front (agenda_of definition.now engine.now) (notify_from_program definition.now (world_of engine.now.world) (frame_view frame) object.0 property.now))) }
+    requires link { LinksProperty definition.now engine.now.links property.now link }
     requires counted { Counts definition.now (λ o. in_frame o (frame_view frame)) engine.now }
     requires room { HasRoom 2 engine.now }
     ensures step { Leads result
@@ -173,7 +192,7 @@ pub(crate) fn notify_from_program(
     ensures room { SameRoom engine.old engine.new }
 {
     let object = object_in(engine, &frame, object);
-    let slot = slot_at(engine, definition, object, property);
+    let slot = slot_at(engine, definition, object, property, link);
     let spec = spec_of(engine, definition, object, slot);
     push_frame(engine, frame);
     if !spec.is_readable() {

@@ -6,6 +6,7 @@ ghost use Rattle.ui_machine.specs.Instructions.Sources.{attaching, removing, wit
 ghost use Rattle.ui_machine.specs.State.Config.{World};
 ghost use Rattle.instance_tables.specs.Store.{id_of};
 ghost use Rattle.engine_world.specs.Able.{Able, Leads};
+ghost use Rattle.linked_programs.specs.Linked.{LinksProgram};
 ghost use Rattle.engine_world.specs.Quiet.{IsQuiet};
 ghost use Rattle.engine_world.specs.SourceView.{with_new_source};
 ghost use Rattle.ui_machine.specs.Steps.{left};
@@ -27,6 +28,7 @@ use engine_world::references::never_full;
 use engine_world::sources::{NewSource, attach_source, remove_sources};
 use frames::Frame;
 use g_values::Value;
+use linked_programs::Link;
 use std::alloc::AllocError;
 use ui_machine::{ObjectId, ProgramId};
 
@@ -36,6 +38,8 @@ pub(crate) struct Attach<'a> {
     /// The instruction's word, which the limit's line says.
     pub(crate) word: &'a str,
     pub(crate) program: &'a str,
+    /// What the program's name means.
+    pub(crate) link: Link,
     pub(crate) priority: i32,
     pub(crate) interval: Option<u32>,
     /// The register of the object that is the data.
@@ -65,6 +69,7 @@ pub(crate) fn attach_from_program(
     to: Register,
     attach: Attach<'_>,
 ) -> Result<(), AllocError>
+    requires link { LinksProgram definition.now attach.program.now attach.link }
     requires able { Able (left engine.now.counted (in_front (agenda_of definition.now engine.now) (attaching definition.now (world_of engine.now.world) (frame_view frame) to.0 (attach_of attach)))) }
     requires counted { Counts definition.now (λ o. in_frame o (frame_view frame)) engine.now }
     requires room { HasRoom 1 engine.now }
@@ -75,7 +80,7 @@ pub(crate) fn attach_from_program(
     ensures counted { OnOk result (Counts definition.now nothing engine.new) }
     ensures room { SameRoom engine.old engine.new }
 {
-    let program = program_named(definition, attach.program);
+    let program = program_named(definition, attach.program, attach.link);
     let arg = data_in(engine, &frame, attach.with);
     let source = attach.source(program, arg);
     // For the proof: what lives may be held once more.
@@ -100,7 +105,9 @@ pub(crate) fn remove_from_program(
     definition: &Definition,
     frame: Frame,
     program: &str,
+    link: Link,
 )
+    requires link { LinksProgram definition.now program.now link }
     requires able { Able (left engine.now.counted (in_front (agenda_of definition.now engine.now) (removing definition.now (world_of engine.now.world) (frame_view frame) program.now))) }
     requires counted { Counts definition.now (λ o. in_frame o (frame_view frame)) engine.now }
     requires room { HasRoom 1 engine.now }
@@ -109,7 +116,7 @@ pub(crate) fn remove_from_program(
     ensures counted { Counts definition.now nothing engine.new }
     ensures room { SameRoom engine.old engine.new }
 {
-    let number = program_named(definition, program);
+    let number = program_named(definition, program, link);
     remove_sources(engine, number);
     push_frame(engine, frame);
 }

@@ -161,6 +161,7 @@ pub turned_rests : (d : Definition) (e new : Engine) → IsAtRest d e → new.wo
 turned_rests d e new rests sources is = subst (λ (x : Engine). IsAtRest d x) (sym is) (record {
   counts = record {
     knows = rests.counts.knows;
+    links = rests.counts.links;
     passes = rests.counts.passes;
     connects = stays d e _ refl refl rests.counts.connects;
     exact = λ o. omega (arith, rests.counts.exact o, ap (total (in_source o)) sources);

@@ -1,5 +1,5 @@
 -- Counts that move as the machine's mentions do.
-use Rattle.std.proofs.Common.{◌≡◌, ℕ, zero, suc, ◌+◌, ◌-◌, ◌<◌, Bool, true, false, cond, nat_eq, nat_lt, List, [], ◌∷◌, length, map, Option, Some, None, slice_get, slice_set, Ok, refl, sym, ap, subst, ◌∙◌, arith}
+use Rattle.std.proofs.Common.{◌≡◌, ℕ, zero, suc, ◌+◌, ◌-◌, ◌<◌, Bool, true, false, cond, nat_eq, nat_lt, List, ◌∷◌, length, map, Option, Some, None, slice_get, slice_set, Ok, refl, sym, ap, subst, ◌∙◌, arith}
 use Rattle.std.specs.Prelude.{IfOk, IfSome}
 use Rattle.std.proofs.lemmas.Bool.Decides.{nat_tests}
 use Rattle.ui_machine.specs.declared.arm.Arm.TheVariants as arms
@@ -9,7 +9,7 @@ use Rattle.ui_machine.specs.Definition.Values.{Value}
 use Rattle.ui_machine.specs.Outcome.{After, Answer, ◌>>=◌, known, only_if}
 use Rattle.ui_machine.specs.Rules.Construction.{lent}
 use Rattle.ui_machine.specs.Rules.NotifyQueue.{queued, raised, less_frozen, frozen_less}
-use Rattle.ui_machine.specs.State.Config.{BuilderEntry, said}
+use Rattle.ui_machine.specs.State.Config.{BuilderEntry}
 use Rattle.ui_machine.specs.State.Objects.{Object, Objects, living, put, asked, changed, value_at, with_value}
 use Rattle.ui_machine.specs.State.Peers.{Peer, first_left}
 use Rattle.ui_machine.specs.State.References.{same, in_value, in_object, in_held, in_source, in_task, mentions, next_unheld}
@@ -31,9 +31,6 @@ use Rattle.engine_world.specs.declared.engine.Engine.{Engine}
 use Rattle.engine_world.specs.declared.task.Stack.{Stack}
 use Rattle.engine_world.specs.declared.world.World.{World}
 use Rattle.bindings.specs.Made.{Made}
-use Rattle.ui_machine.specs.Output.Lines as lines
-use Rattle.ui_machine.specs.Runs.{first_world}
-use Rattle.ui_machine.specs.State.Config as config
 use Rattle.engine_world.specs.EngineView.{config_of}
 use Rattle.engine_world.specs.View.{held_of, world_of}
 use Rattle.engine_world.specs.declared.task.Task as code
@@ -44,6 +41,7 @@ use Rattle.engine_world.proofs.Left.{same_agenda}
 use Rattle.signal_core.specs.Connected.{Connected}
 use Rattle.ui_machine.specs.State.Handlers.{Handler}
 use Rattle.engine_world.specs.KnownHandlers.{AllTakeKnownHandlers}
+use Rattle.linked_programs.specs.Linked.{AreLinked, Linked}
 use Rattle.engine_world.specs.Counting.{OnlyCounts, Connects, Counts, IsCounted, KeepsCounts, PassesGot, in_emitted, in_subject, nothing}
 use Rattle.engine_world.specs.PeerPlaces.{AreGot}
 use Rattle.engine_world.proofs.Floats.{if_ok_at, bind_ok}
@@ -228,13 +226,14 @@ pub restacked : (d : Definition) (e : Engine) (s : Stack) → ((last : ℕ) → 
 restacked d e s begun h = record { most = h.most; to_come = h.to_come; begun = begun e.world.handlers.last h.begun }
 
 module _ (d : Definition) (e new : Engine) where
-  pub keeps_by : new.world.weak ≡ e.world.weak → (PassesGot d e → PassesGot d new) → new.world.context ≡ e.world.context → (Connects d e → Connects d new)
+  pub keeps_by : new.world.weak ≡ e.world.weak → new.links ≡ e.links → (PassesGot d e → PassesGot d new) → new.world.context ≡ e.world.context → (Connects d e → Connects d new)
       → ((taken : ℕ → ℕ) → Knows d e.world.weak → Exact d taken e.world.table (map held_of e.world.builder.items) (agenda_of d e)
       → Exact d taken new.world.table (map held_of new.world.builder.items) (agenda_of d new))
       → KeepsCounts d e new
-  keeps_by weak passes context connects moves = record {
+  keeps_by weak links passes context connects moves = record {
     at = λ taken h. record {
       knows = subst (λ (m : Marks). Knows d m) (sym weak) h.knows;
+      links = subst (λ (l : Linked). AreLinked d l) (sym links) h.links;
       passes = passes h.passes;
       connects = connects h.connects;
       exact = λ o.
@@ -252,9 +251,9 @@ pub still_counted : (d : Definition) (e new : Engine) → KeepsCounts d e new �
 still_counted d e new keeps is = record { taken = is.taken; counts = keeps.at is.taken is.counts; little = is.little }
 
 -- a line more, another result or another count of steps moves nothing
-pub keeps_same : (d : Definition) (e new : Engine) → new.world.table ≡ e.world.table → new.world.weak ≡ e.world.weak → (PassesGot d e → PassesGot d new)
+pub keeps_same : (d : Definition) (e new : Engine) → new.world.table ≡ e.world.table → new.world.weak ≡ e.world.weak → new.links ≡ e.links → (PassesGot d e → PassesGot d new)
     → new.world.context ≡ e.world.context → new.world.builder ≡ e.world.builder → new.stack ≡ e.stack → new.world.handlers ≡ e.world.handlers → KeepsCounts d e new
-keeps_same d e new table weak passes context builder stack handlers = keeps_by d e new weak passes context (stays d e new handlers stack) (λ taken _ h.
+keeps_same d e new table weak links passes context builder stack handlers = keeps_by d e new weak links passes context (stays d e new handlers stack) (λ taken _ h.
     subst (λ (t : Store). Exact d taken t (map held_of new.world.builder.items) (agenda_of d new)) (sym table)
     (subst (λ (ts : List Task). Exact d taken e.world.table (map held_of new.world.builder.items) ts) (sym (same_agenda d e new stack handlers))
     (subst (λ bs. Exact d taken e.world.table (map held_of bs.items) (agenda_of d e)) (sym builder) h)))
@@ -262,13 +261,13 @@ keeps_same d e new table weak passes context builder stack handlers = keeps_by d
 -- a line that was said
 pub keeps_said : (d : Definition) (e : Engine) (w : World) → w ≡ record e.world { transcript = w.transcript } → KeepsCounts d e (record e { world = w })
 keeps_said d e w is =
-    keeps_same d e (record e { world = w }) (ap (λ (v : World). v.table) is) (ap (λ (v : World). v.weak) is) (subst (λ (v : World). AreGot d v.seats v.got_peers.items) (sym is)) (ap (λ (v : World). v.context) is) (ap (λ (v : World). v.builder) is) refl (ap (λ (v : World). v.handlers) is)
+    keeps_same d e (record e { world = w }) (ap (λ (v : World). v.table) is) (ap (λ (v : World). v.weak) is) refl (subst (λ (v : World). AreGot d v.seats v.got_peers.items) (sym is)) (ap (λ (v : World). v.context) is) (ap (λ (v : World). v.builder) is) refl (ap (λ (v : World). v.handlers) is)
 
 -- a peer that became an object's
 pub keeps_lent : (d : Definition) (e : Engine) (peer : Option ℕ) (id : ℕ) (seats : List Peer) → seats ≡ lent peer id e.world.seats → IfSome peer (λ number. number < length e.world.seats)
     → KeepsCounts d e (record e { world = record e.world { seats = seats } })
 keeps_lent d e peer id seats is within =
-    keeps_same d e (record e { world = record e.world { seats = seats } }) refl refl
+    keeps_same d e (record e { world = record e.world { seats = seats } }) refl refl refl
     (λ g. subst (λ (ps : List Peer). AreGot d ps e.world.got_peers.items) (sym is) (lent_got d e.world.seats peer id e.world.got_peers.items within g)) refl refl refl refl
 
 -- an object that changed and holds what it held
@@ -276,7 +275,7 @@ pub keeps_changed : (d : Definition) (e : Engine) (t : Store) → t ≡ with_obj
     → ((o : ℕ) → total (in_object d o) t.objects ≡ total (in_object d o) e.world.table.objects)
     → KeepsCounts d e (record e { world = record e.world { table = t } })
 keeps_changed d e t beside alike =
-    keeps_by d e (record e { world = record e.world { table = t } }) refl (λ g. g) refl (stays d e _ refl refl)
+    keeps_by d e (record e { world = record e.world { table = t } }) refl refl (λ g. g) refl (stays d e _ refl refl)
     (λ taken _ h. objects_alike d taken e.world.table t (map held_of e.world.builder.items) (agenda_of d e) beside alike h)
 
 -- the same of a change that answers
@@ -322,6 +321,7 @@ pub taken_off : (d : Definition) (e : Engine) (s : Stack) (t : Task) → agenda_
     → ((last : ℕ) → AllTakeKnownHandlers last e.stack → AllTakeKnownHandlers last s) → Counts d nothing e → Counts d (λ o. in_task o t) (record e { stack = s })
 taken_off d e s t first begun h = record {
   knows = h.knows;
+  links = h.links;
   passes = h.passes;
   connects = restacked d e s begun h.connects;
   exact = λ o. omega (arith, h.exact o, ap (λ (ts : List Task). total (in_task o) ts) first);
@@ -333,6 +333,7 @@ pub given_back : (d : Definition) (e : Engine) (t : Store) (gone : ℕ → ℕ) 
     → Counts d nothing (record e { world = record e.world { table = t } })
 given_back d e t gone only counts h = record {
   knows = h.knows;
+  links = h.links;
   passes = h.passes;
   connects = stays d e _ refl refl h.connects;
   exact = λ o.
@@ -346,28 +347,10 @@ pub same_tasks : (d : Definition) (e : Engine) (s : Stack) → tasks_of d e.worl
     → ((last : ℕ) → AllTakeKnownHandlers last e.stack → AllTakeKnownHandlers last s) → Counts d nothing e → Counts d nothing (record e { stack = s })
 same_tasks d e s is begun h = record {
   knows = h.knows;
+  links = h.links;
   passes = h.passes;
   connects = restacked d e s begun h.connects;
   exact = λ o. omega (arith, h.exact o, ap (λ (ts : List Task). total (in_task o) ts) is);
-}
-
--- nothing is counted where nothing lives
-none_of : (o : ℕ) → count_of [] o ≡ 0
-none_of zero = refl
-none_of (suc o) = refl
-
-pub none_counted : (d : Definition) (e : Engine) (m : Marks) → Knows d m → PassesGot d e → Connects d e → e.world.weak ≡ m → e.world.table.counts ≡ [] → world_of e.world ≡ said d (first_world d []) lines.build
-    → agenda_of d e ≡ [] → Counts d nothing e
-none_counted d e m knows passes connects marks counts world idle = record {
-  knows = subst (λ (w : Marks). Knows d w) (sym marks) knows;
-  passes = passes;
-  connects = connects;
-  exact = λ o.
-      let none : count_of e.world.table.counts o ≡ 0 = ap (λ cs. count_of cs o) counts ∙ none_of o in
-      let same : mentions d (config_of d e) o ≡ 0 =
-      ap (λ (w : config.World). mentions d (record { world = w; agenda = agenda_of d e; counted = e.counted }) o) world
-      ∙ omega (arith, ap (λ (ts : List Task). total (in_task o) ts) idle) in
-      omega (arith, none, same);
 }
 
 -- ** peers that are closed
@@ -391,7 +374,7 @@ pub keeps_finalised : (d : Definition) (e : Engine) (t : Store) (hs : Connected)
     → w ≡ record (record e.world { table = t; handlers = hs; bindings = bs }) { seats = w.seats; transcript = w.transcript } → tasks_of d hs.handlers e.stack ≡ map (pruned gone) (agenda_of d e)
     → KeepsCounts d e (record e { world = w; counted = n; closing = closing })
 keeps_finalised d e t hs bs w gone id n closing finalises closes only is left =
-    keeps_by d e (record e { world = w; counted = n; closing = closing }) (ap (λ (v : World). v.weak) is) (closed_got d e.world w closes (ap (λ (v : World). v.got_peers.items) is)) (ap (λ (v : World). v.context) is)
+    keeps_by d e (record e { world = w; counted = n; closing = closing }) (ap (λ (v : World). v.weak) is) refl (closed_got d e.world w closes (ap (λ (v : World). v.got_peers.items) is)) (ap (λ (v : World). v.context) is)
     (λ h. handled d e (record e { world = w; counted = n; closing = closing }) hs (ap (λ (v : World). v.handlers) is) only refl h) (λ taken knows h.
     let b = map held_of e.world.builder.items in
     let a = agenda_of d e in
@@ -406,7 +389,7 @@ with_table e t = record e { world = record e.world { table = t } }
 
 -- as much is held beside
 pub taken_alike : (d : Definition) (e : Engine) (more less : ℕ → ℕ) → ((o : ℕ) → more o ≡ less o) → Counts d more e → Counts d less e
-taken_alike d e more less alike h = record { knows = h.knows; passes = h.passes; connects = h.connects; exact = λ o. omega (arith, h.exact o, alike o) }
+taken_alike d e more less alike h = record { knows = h.knows; links = h.links; passes = h.passes; connects = h.connects; exact = λ o. omega (arith, h.exact o, alike o) }
 
 -- the rest of an emission goes on with what it was given, and holds its object
 pub pushed_rest : (d : Definition) (e : Engine) (t : Store) (s : Stack) (taken : ℕ → ℕ) (m : Emission) (entries : List PlanEntry) → OnlyCounts e.world.table t
@@ -415,6 +398,7 @@ pub pushed_rest : (d : Definition) (e : Engine) (t : Store) (s : Stack) (taken :
     → Counts d (λ o. taken o + in_emitted o m) e → Counts d taken (record e { world = record e.world { table = t }; stack = s })
 pushed_rest d e t s taken m entries only counts first begun h = record {
   knows = h.knows;
+  links = h.links;
   passes = h.passes;
   connects = record { most = h.connects.most; to_come = h.connects.to_come; begun = begun h.connects.begun };
   exact = λ o.
@@ -429,6 +413,7 @@ pub less_held : (d : Definition) (e : Engine) (t : Store) (more left gone : ℕ 
     → Counts d more e → Counts d left (record e { world = record e.world { table = t } })
 less_held d e t more left gone only counts parts h = record {
   knows = h.knows;
+  links = h.links;
   passes = h.passes;
   connects = stays d e _ refl refl h.connects;
   exact = λ o.

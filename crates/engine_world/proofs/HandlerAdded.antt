@@ -41,7 +41,7 @@ module _ (d : Definition) (e : Engine) (hs : Connected) (c : Connection) (is : h
   none_to_come false n none = omega (arith, none)
 
   pub keeps_connected : Connects d e → KeepsCounts d e (with_handlers e hs)
-  keeps_connected connects = keeps_by d e (with_handlers e hs) refl (λ g. g) refl
+  keeps_connected connects = keeps_by d e (with_handlers e hs) refl refl (λ g. g) refl
       (λ h. record {
         most = ap (λ (x : Connected). x.most) is ∙ h.most;
         to_come = ap (λ (x : Connected). x.to_come) is ∙ none_to_come c.by_code e.world.handlers.to_come h.to_come;

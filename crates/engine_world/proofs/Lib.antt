@@ -13,7 +13,7 @@ pub mod Quiets
 pub mod Notified
 pub mod Parts
 pub mod SourceCounts
-mod Details
+pub mod Details
 mod Values
 pub mod Emits
 pub mod Registers

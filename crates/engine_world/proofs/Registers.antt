@@ -107,6 +107,7 @@ pub pushed_frame : (d : Definition) (e : Engine) (s : Stack) (taken : ℕ → �
     → ((last : ℕ) → AllTakeKnownHandlers last e.stack → AllTakeKnownHandlers last s) → Counts d (λ o. taken o + in_frame o f) e → Counts d taken (record e { stack = s })
 pushed_frame d e s taken f first begun h = record {
   knows = h.knows;
+  links = h.links;
   passes = h.passes;
   connects = restacked d e s begun h.connects;
   exact = λ o. omega (arith, h.exact o, ap (λ (ts : List Task). total (in_task o) ts) first);
@@ -125,6 +126,7 @@ pub register_moved : (d : Definition) (e : Engine) (t : Store) (taken before aft
     → Counts d (λ o. taken o + before o) e → Counts d (λ o. taken o + after o) (record e { world = record e.world { table = t } })
 register_moved d e t taken before after only counts h = record {
   knows = h.knows;
+  links = h.links;
   passes = h.passes;
   connects = stays d e _ refl refl h.connects;
   exact = λ o.
@@ -159,6 +161,7 @@ pub stack_same : (d : Definition) (e : Engine) (s : Stack) → tasks_of d e.worl
 stack_same d e s same_tasks begun = record {
   at = λ taken h. record {
     knows = h.knows;
+    links = h.links;
     passes = h.passes;
     connects = restacked d e s begun h.connects;
     exact = λ o. omega (arith, h.exact o, ap (λ (ts : List Task). total (in_task o) ts) same_tasks);
@@ -170,6 +173,7 @@ pub popped_frame : (d : Definition) (e : Engine) (s : Stack) (taken : ℕ → �
     → ((last : ℕ) → AllTakeKnownHandlers last e.stack → AllTakeKnownHandlers last s) → Counts d taken e → Counts d (λ o. taken o + in_frame o f) (record e { stack = s })
 popped_frame d e s taken f first begun h = record {
   knows = h.knows;
+  links = h.links;
   passes = h.passes;
   connects = restacked d e s begun h.connects;
   exact = λ o. omega (arith, h.exact o, ap (λ (ts : List Task). total (in_task o) ts) first);

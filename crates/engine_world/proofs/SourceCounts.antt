@@ -27,6 +27,7 @@ pub context_moves : (d : Definition) (e : Engine) (t : Store) (c : Attached) →
 context_moves d e t c only moves = record {
   at = λ taken h. record {
     knows = h.knows;
+    links = h.links;
     passes = h.passes;
     connects = stays d e _ refl refl h.connects;
     exact = λ o.

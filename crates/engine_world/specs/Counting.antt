@@ -7,6 +7,7 @@ use Rattle.ui_machine.specs.State.Tasks.{Emission, Frame, Task, Beginning, Calli
 use Rattle.instance_tables.specs.Store.{Store, count_of}
 use Rattle.engine_world.specs.declared.engine.Engine.{Engine}
 use Rattle.instance_tables.specs.Weak.{Knows}
+use Rattle.linked_programs.specs.Linked.{AreLinked}
 use Rattle.ui_machine.specs.Seq.{total}
 use Rattle.engine_world.specs.View.{world_of}
 use Rattle.engine_world.specs.KnownHandlers.{AllTakeKnownHandlers}
@@ -32,9 +33,10 @@ abbrev pub PassesGot : Definition → Engine → Type 0
 PassesGot d e = AreGot d e.world.seats e.world.got_peers.items
 
 -- Each object is counted as often as it is mentioned, and so often more as is said: so much holds a task that was taken off and is not done yet.
--- It is known which properties are weak, which peers of a place are passed over, and what may be connected.
+-- It is known which properties are weak, what the names in programs mean, which peers of a place are passed over, and what may be connected.
 pub record Counts (d : Definition) (taken : ℕ → ℕ) (e : Engine) : Type 0 where
   pub knows : Knows d e.world.weak
+  pub links : AreLinked d e.links
   pub passes : PassesGot d e
   pub connects : Connects d e
   pub exact : (o : ℕ) → count_of e.world.table.counts o ≡ mentions d (config_of d e) o + taken o

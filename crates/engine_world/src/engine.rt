@@ -15,6 +15,7 @@ use crate::world::World;
 use bindings::Bindings;
 use g_values::Value;
 use instance_tables::{Table, WeakSlots};
+use linked_programs::Links;
 use main_context::Context;
 use signal_core::Handlers;
 use std::alloc::{AllocError, Global};
@@ -25,6 +26,8 @@ use ui_machine::Limits;
 pub struct Engine {
     pub world: World,
     pub stack: Stack,
+    /// What the names in programs mean.
+    pub links: Links,
     /// Registers for the programs that are to begin.
     pub spare_registers: Spare<Option<Value>>,
     /// Lists for the arguments of the emissions that are to begin.
@@ -46,8 +49,8 @@ pub enum StepKind {
 }
 
 impl Engine {
-    /// Nothing is built yet, there are these peers, so many of those of each place are known not to be left, and there is nothing to do, with so
-    /// much room for what comes.
+    /// Nothing is built yet, the names in programs mean this, there are these peers, so many of those of each place are known not to be left, and
+    /// there is nothing to do, with so much room for what comes.
     ///
     /// # Errors
     ///
@@ -55,6 +58,7 @@ impl Engine {
     pub fn new(
         alloc: Global,
         weak: WeakSlots,
+        links: Links,
         limits: Limits,
         seats: Seats,
         got_peers: Vec<usize>,
@@ -63,6 +67,7 @@ impl Engine {
         ensures world { IfOk result (λ e. (d : machine.Definition) → world_of e.world ≡ first_world d seats) }
         ensures counts { IfOk result (λ e. e.world.table.counts ≡ []) }
         ensures marks { IfOk result (λ e. e.world.weak ≡ weak) }
+        ensures links { IfOk result (λ e. e.links ≡ links) }
         ensures got { IfOk result (λ e. e.world.got_peers ≡ got_peers) }
         ensures handlers { IfOk result (λ e. e.world.handlers ≡ none_connected limits.handlers 0) }
         ensures begun { IfOk result (λ e. AllTakeKnownHandlers 0 e.stack) }
@@ -87,6 +92,7 @@ impl Engine {
                 result: None,
             },
             stack,
+            links,
             spare_registers,
             spare_args,
             counted: 0,

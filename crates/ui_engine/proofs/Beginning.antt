@@ -5,6 +5,7 @@ use Rattle.ui_machine.specs.Seq.{total}
 use Rattle.ui_machine.specs.State.References.{in_task, mentions}
 use Rattle.instance_tables.specs.Store.{count_of}
 use Rattle.instance_tables.specs.Weak.{Knows, Marks}
+use Rattle.linked_programs.specs.Linked.{AreLinked}
 use Rattle.engine_world.specs.Counting.{Connects, Counts, nothing, PassesGot}
 use Rattle.engine_world.specs.EngineView.{config_of}
 use Rattle.engine_world.specs.View.{world_of}
@@ -60,10 +61,11 @@ none_of : (o : ℕ) → count_of [] o ≡ 0
 none_of zero = refl
 none_of (suc o) = refl
 
-pub none_counted_with : (d : Definition) (peers : List Peer) (e : Engine) (m : Marks) → Knows d m → PassesGot d e → Connects d e → e.world.weak ≡ m → e.world.table.counts ≡ []
+pub none_counted_with : (d : Definition) (peers : List Peer) (e : Engine) (m : Marks) → Knows d m → AreLinked d e.links → PassesGot d e → Connects d e → e.world.weak ≡ m → e.world.table.counts ≡ []
     → world_of e.world ≡ said d (first_world d peers) lines.build → agenda_of d e ≡ [] → Counts d nothing e
-none_counted_with d peers e m knows passes connects marks counts world idle = record {
+none_counted_with d peers e m knows links passes connects marks counts world idle = record {
   knows = subst (λ (w : Marks). Knows d w) (sym marks) knows;
+  links = links;
   passes = passes;
   connects = connects;
   exact = λ o.

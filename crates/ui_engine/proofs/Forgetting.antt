@@ -18,7 +18,7 @@ with_lines_of new e = record e { world = record e.world { transcript = new.world
 
 module _ (d : Definition) (e new : Engine) (is : new ≡ with_lines_of new e) (none : new.world.transcript.items ≡ []) where
   counts_on : Counts d nothing e → Counts d nothing (with_lines_of new e)
-  counts_on c = record { knows = c.knows; passes = c.passes; connects = stays d e _ refl refl c.connects; exact = c.exact }
+  counts_on c = record { knows = c.knows; links = c.links; passes = c.passes; connects = stays d e _ refl refl c.connects; exact = c.exact }
 
   pub kept_without_lines : (phase : Phase) → IsKept d e phase → IsKept d new phase
   kept_without_lines phases.AtRest kept =

@@ -23,6 +23,7 @@ use engine_world::reserves::Room;
 use engine_world::seats::Seats;
 use engine_world::task::ForwardReferences;
 use engine_world::weak_slots::weak_slots;
+use linked_programs::Links;
 use native_peers::{MatchFault, Peer, PeerPool};
 use needed_peers::needs::needs;
 use needed_peers::seats::seats;
@@ -57,9 +58,10 @@ fn first_engine(
     ensures room { IfOk result (λ engine. vec_capacity engine.stack.tasks ≡ room.tasks) }
 {
     let weak = weak_slots(alloc, definition)?;
+    let links = Links::new(alloc, definition)?;
     let got_peers = vec![in alloc; 0; definition.place_count()]?;
     let limits = definition.limits();
-    let mut engine = Engine::new(alloc, weak, limits, seats, got_peers, room)?;
+    let mut engine = Engine::new(alloc, weak, links, limits, seats, got_peers, room)?;
     announce(&mut engine)?;
     Ok(engine)
 }

@@ -4,7 +4,7 @@ use Rattle.ui_machine.specs.Seq.{total}
 use Rattle.ui_machine.specs.State.References.{in_task}
 use Rattle.ui_machine.specs.State.Tasks.{Task}
 use Rattle.g_values.specs.View.{value_view}
-use Rattle.engine_world.specs.Able.{Able, Leads}
+use Rattle.engine_world.specs.Able.{Able}
 use Rattle.engine_world.specs.KnownHandlers.{TakesKnownHandlers}
 use Rattle.engine_world.specs.TaskView.{agenda_of, emission_of, entries_to_come, task_of, tasks_of}
 use Rattle.engine_world.specs.View.{world_of}
@@ -13,7 +13,7 @@ use Rattle.engine_world.specs.declared.task.Task.TheVariants as tasks
 use Rattle.engine_instructions.proofs.Collecting.{TakesNone, gives_last, gives_nothing, gives_other, gives_source, popped_emission, popped_source, source_able}
 use Rattle.engine_instructions.proofs.Holding.{counted_may}
 use Rattle.engine_world.proofs.Left.{same_agenda}
-use Rattle.engine_world.proofs.Registers.{on_ok, stack_same}
+use Rattle.engine_world.proofs.Registers.{stack_same}
 use Rattle.engine_instructions.proofs.accumulation.give_down.Goals as goal
 
 pub returns-in_default-clause-step : goal.returns-in_default-clause-step

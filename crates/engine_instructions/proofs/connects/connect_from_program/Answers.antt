@@ -12,7 +12,6 @@ use Rattle.engine_world.specs.Quiet.{IsQuiet}
 use Rattle.engine_world.specs.TaskView.{agenda_of}
 use Rattle.engine_world.specs.View.{world_of}
 use Rattle.engine_instructions.proofs.ConnectSteps.{connect_world_behind, connect_written, connection_able, left_quiet, told_full, told_quietly, written_able}
-use Rattle.engine_world.proofs.Quiets.{quiet_on}
 use Rattle.engine_world.proofs.Left.{same_agenda}
 use Rattle.engine_instructions.proofs.connects.connect_from_program.Goals as goal
 
@@ -22,6 +21,7 @@ new_connection-requires c =
     let e = c.args.engine.now in
     record {
       able = connection_able d (world_of e.world) (agenda_of d e) (frame_view c.args.frame) c.args.to.0 c.args.object.0 (connect_view c.args.connect.now) e.counted (agenda_of d e) c.requires.able;
+      link = c.requires.link;
     }
 
 pub write_register-requires : goal.write_register-requires

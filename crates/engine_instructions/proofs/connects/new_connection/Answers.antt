@@ -10,7 +10,7 @@ signal_in-signal-requires c =
     let w = world_of c.args.engine.now.world in
     let f = frame_view c.args.frame.now in
     let k = connect_view c.args.connect.now in
-    record { able = rw c.as_str.ensures.value (signal_able d w f c.args.object.0 k c.requires.able c.object_in-object.result.0 c.object_in-object.ensures) }
+    record { able = rw c.as_str.ensures.value (signal_able d w f c.args.object.0 k c.requires.able c.object_in-object.result.0 c.object_in-object.ensures); link = rw c.as_str.ensures.value c.requires.link.0.0 }
 
 pub detail_in-requires : goal.detail_in-requires
 detail_in-requires c =
@@ -20,7 +20,7 @@ detail_in-requires c =
     let k = connect_view c.args.connect.now in
     let named = rw c.as_str.ensures.value at c.signal_in-signal.ensures in
     let able = detail_able d w f c.args.object.0 k c.requires.able c.object_in-object.result.0 c.object_in-object.ensures c.signal_in-signal.result named in
-    record { able = rw c.as_text.ensures able }
+    record { able = rw c.as_text.ensures able; link = rw c.as_text.ensures c.requires.link.0.1 }
 
 pub program_named-program-requires : goal.program_named-program-requires
 program_named-program-requires c =
@@ -30,7 +30,7 @@ program_named-program-requires c =
     let k = connect_view c.args.connect.now in
     let named = rw c.as_str.ensures.value at c.signal_in-signal.ensures in
     let told = rw c.as_text.ensures at c.in_ok-detail.ensures in
-    record { able = rw c.as_str-2.ensures.value (program_able d w f c.args.object.0 k c.requires.able c.object_in-object.result.0 c.object_in-object.ensures c.signal_in-signal.result named _ told) }
+    record { able = rw c.as_str-2.ensures.value (program_able d w f c.args.object.0 k c.requires.able c.object_in-object.result.0 c.object_in-object.ensures c.signal_in-signal.result named _ told); link = rw c.as_str-2.ensures.value c.requires.link.1 }
 
 pub data_in-data-requires : goal.data_in-data-requires
 data_in-data-requires c =

@@ -11,13 +11,14 @@ pub signal_in-signal-requires : goal.signal_in-signal-requires
 signal_in-signal-requires c = record {
   able = signal_able c.args.definition.now (world_of c.args.engine.now.world) (frame_view c.args.frame.now) c.args.object.0 (emit_of c.args.emit) c.requires.able
       c.object_in-object.result.0 c.object_in-object.ensures;
+  link = c.requires.link.0;
 }
 
 pub detail_in-requires : goal.detail_in-requires
 detail_in-requires c =
     let able = detail_able c.args.definition.now (world_of c.args.engine.now.world) (frame_view c.args.frame.now) c.args.object.0 (emit_of c.args.emit) c.requires.able
     c.object_in-object.result.0 c.signal_in-signal.result c.object_in-object.ensures c.signal_in-signal.ensures in
-    record { able = able }
+    record { able = able; link = c.requires.link.1 }
 
 pub copy_values-requires-clause-set : goal.copy_values-requires-clause-set
 copy_values-requires-clause-set c =

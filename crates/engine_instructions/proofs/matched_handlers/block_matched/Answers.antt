@@ -16,7 +16,7 @@ pub matched_in-matched-requires : goal.matched_in-matched-requires
 matched_in-matched-requires c =
     let d = c.args.definition.now in
     let e = c.args.engine.now in
-    record { able = matched_able d (world_of e.world) (frame_view c.args.frame) c.args.object.0 c.args.program.now (with_handlers_on blocked) e.counted (agenda_of d e) c.requires.able }
+    record { able = matched_able d (world_of e.world) (frame_view c.args.frame) c.args.object.0 c.args.program.now (with_handlers_on blocked) e.counted (agenda_of d e) c.requires.able; link = c.requires.link }
 
 pub returns-clause-step : goal.returns-clause-step
 returns-clause-step c =

@@ -6,6 +6,7 @@ use Rattle.engine_instructions.proofs.matched_handlers.matched_in.Goals as goal
 pub program_named-program-requires : goal.program_named-program-requires
 program_named-program-requires c = record {
   able = named_able c.args.definition.now (world_of c.args.engine.now.world) (frame_view c.args.frame.now) c.args.object.0 c.args.program.now c.requires.able c.object_in-object.result.0 c.object_in-object.ensures;
+  link = c.requires.link;
 }
 
 pub returns : goal.returns

@@ -1,4 +1,5 @@
-use Rattle.std.proofs.Common.{◌≡◌, Some, ap, sym, ◌∙◌}
+use Rattle.std.proofs.Common.{◌≡◌, Some, ap, option_map, sym, ◌∙◌}
+use Rattle.ui_machine.specs.declared.ids.Place.{Place}
 use Rattle.ui_machine.specs.Definition.Lookups.{place_of}
 use Rattle.ui_machine.specs.Definition.Values as values
 use Rattle.ui_machine.specs.Definition.Values.{Value}
@@ -25,7 +26,7 @@ unreachable-requires c =
     let w = world_of e.world in
     let f = frame_view c.args.frame in
     no_arm _ _ c.requires.able
-    (stuck_left d e (look_up_object d w f c.args.to.0 c.args.id.now) _ (name_unknown d w f c.args.to.0 c.args.id.now (sym c.in_default.ensures)))
+    (stuck_left d e (look_up_object d w f c.args.to.0 c.args.id.now) _ (name_unknown d w f c.args.to.0 c.args.id.now (sym c.requires.link ∙ ap (option_map (λ (p : Place). p.0)) (sym c.place.ensures ∙ c.in_default.is))))
 
 pub write_register-requires-clause-able : goal.write_register-requires-clause-able
 write_register-requires-clause-able c =
@@ -33,7 +34,7 @@ write_register-requires-clause-able c =
     let e = c.args.engine.now in
     let w = world_of e.world in
     let f = frame_view c.args.frame in
-    let found : place_of d c.args.id.now ≡ Some c.in-Some.place.0 = sym c.in-Some.ensures in
+    let found : place_of d c.args.id.now ≡ Some c.in-Some.place.0 = sym c.requires.link ∙ ap (option_map (λ (p : Place). p.0)) (sym c.place.ensures ∙ c.in-Some.is) in
     let held = c.object_or_null-object.ensures ∙ ap values.object c.built.ensures in
     able_as
     (ap (λ (a : Answer Started). left e.counted (in_front (agenda_of d e) a))
@@ -47,7 +48,7 @@ write_register-requires-clause-names c =
     let w = world_of e.world in
     let f = frame_view c.args.frame in
     let v = value_view c.object_or_null-object.result in
-    let found : place_of d c.args.id.now ≡ Some c.in-Some.place.0 = sym c.in-Some.ensures in
+    let found : place_of d c.args.id.now ≡ Some c.in-Some.place.0 = sym c.requires.link ∙ ap (option_map (λ (p : Place). p.0)) (sym c.place.ensures ∙ c.in-Some.is) in
     let held = c.object_or_null-object.ensures ∙ ap values.object c.built.ensures in
     let there = ap (λ (a : Answer Started). left e.counted (in_front (agenda_of d e) a))
     (names_able d w f c.args.to.0 c.args.id.now c.in-Some.place.0 found (instructed e.counted (agenda_of d e) _ c.requires.able) ∙ ap (λ (v : Value). gives w c.args.to.0 v f) (sym held)) in
@@ -59,7 +60,7 @@ returns-clause-step c =
     let e = c.args.engine.now in
     let w = world_of e.world in
     let f = frame_view c.args.frame in
-    let found : place_of d c.args.id.now ≡ Some c.in-Some.place.0 = sym c.in-Some.ensures in
+    let found : place_of d c.args.id.now ≡ Some c.in-Some.place.0 = sym c.requires.link ∙ ap (option_map (λ (p : Place). p.0)) (sym c.place.ensures ∙ c.in-Some.is) in
     let held = c.object_or_null-object.ensures ∙ ap values.object c.built.ensures in
     let named = names_able d w f c.args.to.0 c.args.id.now c.in-Some.place.0 found (instructed e.counted (agenda_of d e) _ c.requires.able)
     ∙ ap (λ (v : Value). gives w c.args.to.0 v f) (sym held) in

@@ -25,6 +25,7 @@ readable_value-requires c = record {
       let e = c.args.engine.now in
       get_readable c.args.definition.now (world_of e.world) (frame_view c.args.frame) c.args.to.0 c.args.object.0 c.args.property.now c.object_in-object.result.0 c.object_in-object.ensures
       (instructed e.counted (agenda_of c.args.definition.now e) _ c.requires.able);
+  link = c.requires.link;
 }
 
 pub write_register-requires-clause-able : goal.write_register-requires-clause-able

@@ -31,6 +31,7 @@ slot_at-slot-requires c = record {
       let e = c.args.engine.now in
       tell_slot c.args.definition.now (world_of e.world) (frame_view c.args.frame) c.args.object.0 c.args.property.now c.object_in-object.result.0 c.object_in-object.ensures
       (instructed e.counted (agenda_of c.args.definition.now e) _ c.requires.able);
+  link = c.requires.link;
 }
 
 pub spec_of-spec-requires : goal.spec_of-spec-requires

@@ -10,7 +10,7 @@ use Rattle.engine_instructions.proofs.PropertySteps.{reads_at, reads_none, reads
 use Rattle.engine_instructions.proofs.properties.readable_value.Goals as goal
 
 pub slot_at-slot-requires : goal.slot_at-slot-requires
-slot_at-slot-requires c = record { able = reads_slot c.args.definition.now (world_of c.args.engine.now.world) c.args.object.0 c.args.property.now c.requires.able }
+slot_at-slot-requires c = record { able = reads_slot c.args.definition.now (world_of c.args.engine.now.world) c.args.object.0 c.args.property.now c.requires.able; link = c.requires.link }
 
 pub read-requires : goal.read-requires
 read-requires c = record {

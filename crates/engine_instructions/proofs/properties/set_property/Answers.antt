@@ -30,6 +30,7 @@ slot_at-slot-requires c = record {
       let id = c.object_in-object.result.0 in
       settable_named d (world_of e.world) id c.args.property.now
       (set_slot d (world_of e.world) (frame_view c.args.frame) c.args.object.0 c.args.property.now c.args.from.0 id c.object_in-object.ensures (instructed e.counted (agenda_of d e) _ c.requires.able));
+  link = c.requires.link;
 }
 
 pub value_in-requires : goal.value_in-requires

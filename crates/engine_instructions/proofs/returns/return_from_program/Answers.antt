@@ -1,5 +1,4 @@
 use Rattle.std.proofs.Common.{Ok, option_map, refl, sym, ap, ◌∙◌, arith}
-use Rattle.std.proofs.lemmas.Result.{err_from_is_err_and}
 use Rattle.ui_machine.specs.Seq.{total}
 use Rattle.ui_machine.specs.State.References.{in_register}
 use Rattle.bytecode.specs.Computing.{registers_of}

@@ -22,7 +22,7 @@ pub program_named-program-requires : goal.program_named-program-requires
 program_named-program-requires c =
     let d = c.args.definition.now in
     let e = c.args.engine.now in
-    record { able = attach_known d (world_of e.world) (frame_view c.args.frame) c.args.to.0 (attach_of c.args.attach) (instructed e.counted (agenda_of d e) _ c.requires.able) }
+    record { able = attach_known d (world_of e.world) (frame_view c.args.frame) c.args.to.0 (attach_of c.args.attach) (instructed e.counted (agenda_of d e) _ c.requires.able); link = c.requires.link }
 
 pub data_in-arg-requires : goal.data_in-arg-requires
 data_in-arg-requires c =

@@ -19,7 +19,7 @@ pub program_named-number-requires : goal.program_named-number-requires
 program_named-number-requires c =
     let d = c.args.definition.now in
     let e = c.args.engine.now in
-    record { able = remove_known d (world_of e.world) (frame_view c.args.frame) c.args.program.now (instructed e.counted (agenda_of d e) _ c.requires.able) }
+    record { able = remove_known d (world_of e.world) (frame_view c.args.frame) c.args.program.now (instructed e.counted (agenda_of d e) _ c.requires.able); link = c.requires.link }
 
 pub returns-clause-step : goal.returns-clause-step
 returns-clause-step c =

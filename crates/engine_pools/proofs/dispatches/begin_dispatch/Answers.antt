@@ -21,5 +21,5 @@ returns-clause-counted c =
     let d = c.args.definition.now in
     let e = c.args.engine.now in
     let idle = c.requires.idle ∙ sym (c.clear.ensures.tasks d e.world.handlers.handlers) in
-    keeps_on d _ _ _ (keeps_by d e _ refl (λ g. g) refl (λ h. record { most = h.most; to_come = h.to_come; begun = c.clear.ensures.begun e.world.handlers.last }) (λ taken _ h. subst (λ (ts : List Task). Exact d taken e.world.table (map held_of e.world.builder.items) ts) idle h))
+    keeps_on d _ _ _ (keeps_by d e _ refl refl (λ g. g) refl (λ h. record { most = h.most; to_come = h.to_come; begun = c.clear.ensures.begun e.world.handlers.last }) (λ taken _ h. subst (λ (ts : List Task). Exact d taken e.world.table (map held_of e.world.builder.items) ts) idle h))
     (c.push_task.ensures.counted d)

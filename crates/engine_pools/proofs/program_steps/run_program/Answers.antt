@@ -24,7 +24,7 @@ use Rattle.engine_world.proofs.Named.{names_as}
 use Rattle.engine_instructions.specs.ClosedPeers.{LeavesClosed}
 use Rattle.engine_pools.specs.TaskClosings.{ProgramLeaves, TakenLeaves}
 use Rattle.engine_instructions.proofs.KnownCode.{taken_known}
-use Rattle.engine_instructions.proofs.Programs.{left_counted, no_instruction, taken_keeps, takes_instruction, unknown_program}
+use Rattle.engine_instructions.proofs.Programs.{left_counted, no_instruction, taken_keeps, taken_there, takes_instruction, unknown_program}
 use Rattle.engine_pools.proofs.program_steps.run_program.Goals as goal
 
 pub count-requires : goal.count-requires
@@ -60,10 +60,11 @@ execute-requires c =
     let whole = left_counted e.counted (running d (world_of e.world) (agenda_of d e) (frame_view c.args.frame)) (in_counted_left e.counted _ c.requires.able).0
     ∙ ap (left (suc e.counted)) (takes_instruction d (world_of e.world) (agenda_of d e) (frame_view c.args.frame) (program_view c.in-Some.program.now) (sym c.in-Some.ensures.program) t c.in-Some-take.ensures)
     ∙ ap (λ (g : Engine). left g.counted (instruction_step d (world_of g.world) (agenda_of d g) t.frame t.instruction)) (sym is) in
-    let same = keeps_same d e b (ap (λ (g : Engine). g.world.table) is) (ap (λ (g : Engine). g.world.weak) is) (subst (λ (g : Engine). PassesGot d g) (sym is)) (ap (λ (g : Engine). g.world.context) is) (ap (λ (g : Engine). g.world.builder) is) (ap (λ (g : Engine). g.stack) is) (ap (λ (g : Engine). g.world.handlers) is) in
+    let same = keeps_same d e b (ap (λ (g : Engine). g.world.table) is) (ap (λ (g : Engine). g.world.weak) is) (ap (λ (g : Engine). g.links) is) (subst (λ (g : Engine). PassesGot d g) (sym is)) (ap (λ (g : Engine). g.world.context) is) (ap (λ (g : Engine). g.world.builder) is) (ap (λ (g : Engine). g.stack) is) (ap (λ (g : Engine). g.world.handlers) is) in
     record {
       room = rw is c.requires.room;
       program = ap (program_at d) kept.1 ∙ sym c.in-Some.ensures.program;
+      taken = taken_there d (program_view c.in-Some.program.now) (frame_view c.args.frame) t (sym c.in-Some.ensures.program) c.in-Some-take.ensures;
       result = c.in-Some.ensures.known.2;
       known = taken_known d.types c.in-Some.program.now (frame_view c.args.frame) (frame_view c.take.new.self) c.in-Some-take.instruction.now
           c.in-Some.ensures.known c.in-Some-take.ensures;

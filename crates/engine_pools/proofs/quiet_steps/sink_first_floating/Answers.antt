@@ -15,7 +15,7 @@ pub returns-clause-counted : goal.returns-clause-counted
 returns-clause-counted c =
     let d = c.args.definition.now in
     let e = c.args.engine.now in
-    (keeps_by d e (with_table e c.sink.new.self) refl (λ g. g) refl (stays d e (with_table e c.sink.new.self) refl refl) (λ taken _ h.
+    (keeps_by d e (with_table e c.sink.new.self) refl refl (λ g. g) refl (stays d e (with_table e c.sink.new.self) refl refl) (λ taken _ h.
     sunk_exact d taken e.world.table c.sink.new.self (map held_of e.world.builder.items) (agenda_of d e) c.in-Some.object.0 c.sink.ensures h)).at nothing c.requires.counted
 
 pub returns-clause-stepped : goal.returns-clause-stepped

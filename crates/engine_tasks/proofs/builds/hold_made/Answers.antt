@@ -72,7 +72,7 @@ returns-clause-counted c =
     let there = unbuilt_there w c.args.object.0 c.place_of-place.result.0 c.place_of-place.ensures (in_uncounted _ _ _ c.requires.able) in
     let more : (o : ℕ) → total (in_held o) n ≡ total (in_held o) b + same o id =
     λ o. ap (λ (hs : List BuilderEntry). total (in_held o) hs) c.in_ok-set_builder_entry.ensures ∙ total-written (in_held o) unbuilt b place (built id) refl (holds_nothing o (builder_entry w place) there) in
-    keeps_by d e _ refl (λ g. g) refl (stays d e _ refl refl) (λ taken _ h.
+    keeps_by d e _ refl refl (λ g. g) refl (stays d e _ refl refl) (λ taken _ h.
     sunk_exact d taken c.hold_any.new.table c.sink.new.self n a id c.sink.ensures
     (holder_more d taken e.world.table c.hold_any.new.table b n a a (λ o. same o id) c.hold_any.ensures.only c.hold_any.ensures.counts
     (λ o. omega (arith, more o)) h))

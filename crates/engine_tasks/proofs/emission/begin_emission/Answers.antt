@@ -75,7 +75,7 @@ start_emission-requires c =
     let g = λ (s : Signal). walk_for 0 s.accumulator (planned d c.class_of-class.result m.object.0 m.signal (new_of m).detail s) in
     let found = ap (option_map (λ (x : Emission). begun x 0)) (sym c.in-Some-emission.is) ∙ c.emission.ensures 0 in
     let same_object = ap (λ (v : Walk). v.object) (begun_as (λ (x : Emission). begun x 0) g c.in-Some-emission.planned _ (declared_view c.in-Some.declared) found declared) in
-    let kept = keeps_same d e c.count.new.engine (ap (λ (f : Engine). f.world.table) is) (ap (λ (f : Engine). f.world.weak) is) (subst (λ (f : Engine). PassesGot d f) (sym is)) (ap (λ (f : Engine). f.world.context) is) (ap (λ (f : Engine). f.world.builder) is) (ap (λ (f : Engine). f.stack) is)
+    let kept = keeps_same d e c.count.new.engine (ap (λ (f : Engine). f.world.table) is) (ap (λ (f : Engine). f.world.weak) is) (ap (λ (f : Engine). f.links) is) (subst (λ (f : Engine). PassesGot d f) (sym is)) (ap (λ (f : Engine). f.world.context) is) (ap (λ (f : Engine). f.world.builder) is) (ap (λ (f : Engine). f.stack) is)
     (ap (λ (f : Engine). f.world.handlers) is) in
     record {
       room = rw is c.requires.room;
@@ -120,6 +120,6 @@ returns-clause-counted c =
     let d = c.args.definition.now in
     let e = c.args.engine.now in
     let is = c.count.ensures in
-    let kept = keeps_same d e c.count.new.engine (ap (λ (f : Engine). f.world.table) is) (ap (λ (f : Engine). f.world.weak) is) (subst (λ (f : Engine). PassesGot d f) (sym is)) (ap (λ (f : Engine). f.world.context) is) (ap (λ (f : Engine). f.world.builder) is) (ap (λ (f : Engine). f.stack) is)
+    let kept = keeps_same d e c.count.new.engine (ap (λ (f : Engine). f.world.table) is) (ap (λ (f : Engine). f.world.weak) is) (ap (λ (f : Engine). f.links) is) (subst (λ (f : Engine). PassesGot d f) (sym is)) (ap (λ (f : Engine). f.world.context) is) (ap (λ (f : Engine). f.world.builder) is) (ap (λ (f : Engine). f.stack) is)
     (ap (λ (f : Engine). f.world.handlers) is) in
     c.in_ok-start_emission.ensures.counted d (λ o. same o c.args.emission.object.0) (taken_alike d c.count.new.engine _ _ (λ o. omega arith) (kept.at _ c.requires.counted))

@@ -41,7 +41,7 @@ returns-clause-counted c =
       holds_built o (read unbuilt b place) id c.held_object-object.ensures,
     ) in
     keeps_on d e f (record e { world = c.say.new.self })
-    (keeps_by d e f refl (λ g. g) refl (stays d e f refl refl) (λ taken _ h.
+    (keeps_by d e f refl refl (λ g. g) refl (stays d e f refl refl) (λ taken _ h.
     holder_less d taken e.world.table c.let_go_any.new.table b n a a (λ o. same o id) c.let_go_any.ensures.only c.let_go_any.ensures.counts
     (λ o. omega (arith, less o)) h))
     (keeps_said d f c.say.new.self c.say.ensures.beside)

@@ -80,7 +80,7 @@ returns-clause-counted c =
     let beside = c.say_and_close.ensures.beside in
     let world = ap (λ (g : Engine). g.world) beside in
     let handlers = ap (λ (w : World). w.handlers) world in
-    let same = keeps_same d e f (ap (λ (g : Engine). g.world.table) is) (ap (λ (g : Engine). g.world.weak) is) (subst (λ (g : Engine). PassesGot d g) (sym is)) (ap (λ (g : Engine). g.world.context) is) (ap (λ (g : Engine). g.world.builder) is) (ap (λ (g : Engine). g.stack) is) (ap (λ (g : Engine). g.world.handlers) is) in
+    let same = keeps_same d e f (ap (λ (g : Engine). g.world.table) is) (ap (λ (g : Engine). g.world.weak) is) (ap (λ (g : Engine). g.links) is) (subst (λ (g : Engine). PassesGot d g) (sym is)) (ap (λ (g : Engine). g.world.context) is) (ap (λ (g : Engine). g.world.builder) is) (ap (λ (g : Engine). g.stack) is) (ap (λ (g : Engine). g.world.handlers) is) in
     let left = finalised_agenda d f c.disconnect_object.new.self new.world c.args.object.0 c.disconnect_object.ensures.left handlers c.last-last.ensures.rises in
     let whole = beside ∙ ap (λ (w : World). record f { world = w; closing = new.closing }) (sym world) in
     keeps_on d _ _ _ same

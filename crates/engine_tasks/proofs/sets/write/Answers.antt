@@ -16,7 +16,7 @@ returns-clause-counted c =
     let d = c.args.definition.now in
     let e = c.args.engine.now in
     let room = named_held e.world.table (value_view c.args.value) (c.never_full.ensures.may d c.requires.counted) c.requires.lives in
-    keeps_by d e _ refl (λ g. g) refl (stays d e _ refl refl) (λ taken knows h.
+    keeps_by d e _ refl refl (λ g. g) refl (stays d e _ refl refl) (λ taken knows h.
     written_exact d e.world.weak e.world.table c.write.new.self c.args.object.0 c.args.slot (value_view c.args.value) taken (map held_of e.world.builder.items) (agenda_of d e) _ knows
     c.write.ensures.changes c.write.ensures.beside
     (λ was is. let same : value_view c.write.result ≡ was = cc (sym (was_read _ _ _ _ _ _ c.write.ensures.changes) ∙ is) in rw (← same) (c.write.ensures.moves room)) h)

@@ -15,7 +15,7 @@ push_task-requires-2-clause-may c =
     let b = c.push_task.new.engine in
     let id = c.args.transfer.target.0 in
     pushes_one b _ id (λ d o. refl)
-    (may_on d e b id c.requires.counted (keeps_on d e m b (keeps_same d e m refl refl (λ g. g) refl refl refl refl) (c.push_task.ensures.counted d)) (lives_still m b id c.push_task.ensures.world c.requires.live))
+    (may_on d e b id c.requires.counted (keeps_on d e m b (keeps_same d e m refl refl refl (λ g. g) refl refl refl refl) (c.push_task.ensures.counted d)) (lives_still m b id c.push_task.ensures.world c.requires.live))
 
 pub returns-clause-step : goal.returns-clause-step
 returns-clause-step c =
@@ -30,4 +30,4 @@ returns-clause-step c =
 pub returns-clause-counted : goal.returns-clause-counted
 returns-clause-counted c =
     let d = c.args.definition.now in
-    keeps_on d _ _ _ (keeps_same d c.args.engine.now _ refl refl (λ g. g) refl refl refl refl) (keeps_on d _ _ _ (c.push_task.ensures.counted d) (c.push_task-2.ensures.counted d))
+    keeps_on d _ _ _ (keeps_same d c.args.engine.now _ refl refl refl (λ g. g) refl refl refl refl) (keeps_on d _ _ _ (c.push_task.ensures.counted d) (c.push_task-2.ensures.counted d))

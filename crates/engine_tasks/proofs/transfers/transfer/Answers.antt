@@ -46,7 +46,7 @@ set_by-requires c =
     ∙ ap (uncounted (agenda_of d f) f.counted) (transfer_sets d (world_of f.world) c.args.number c.args.back t (sym c.in-Some.is ∙ c.transfer.ensures) v c.in_ok-value.ensures) in
     let by_value = ap (λ (x : Engine). transferring d (world_of x.world) c.args.number c.args.back) (sym is)
     ∙ transfers_by d (world_of f.world) c.args.number c.args.back t (sym c.in-Some.is ∙ c.transfer.ensures) in
-    let same = keeps_same d e f (ap (λ (x : Engine). x.world.table) is) (ap (λ (x : Engine). x.world.weak) is) (subst (λ (x : Engine). PassesGot d x) (sym is)) (ap (λ (x : Engine). x.world.context) is) (ap (λ (x : Engine). x.world.builder) is) (ap (λ (x : Engine). x.stack) is) (ap (λ (x : Engine). x.world.handlers) is) in
+    let same = keeps_same d e f (ap (λ (x : Engine). x.world.table) is) (ap (λ (x : Engine). x.world.weak) is) (ap (λ (x : Engine). x.links) is) (subst (λ (x : Engine). PassesGot d x) (sym is)) (ap (λ (x : Engine). x.world.context) is) (ap (λ (x : Engine). x.world.builder) is) (ap (λ (x : Engine). x.stack) is) (ap (λ (x : Engine). x.world.handlers) is) in
     record {
       able = able_as whole c.requires.able;
       live = target_lives d (world_of f.world) t (first (carried_value d (world_of f.world) t) (λ v. set_by (world_of f.world) t.number (to_end t) v) (able_as by_value (in_counted rest e.counted _ c.requires.able).1));
@@ -75,5 +75,5 @@ returns-clause-counted c =
     let e = c.args.engine.now in
     let f = c.count.new.engine in
     let is = c.count.ensures in
-    let same = keeps_same d e f (ap (λ (x : Engine). x.world.table) is) (ap (λ (x : Engine). x.world.weak) is) (subst (λ (x : Engine). PassesGot d x) (sym is)) (ap (λ (x : Engine). x.world.context) is) (ap (λ (x : Engine). x.world.builder) is) (ap (λ (x : Engine). x.stack) is) (ap (λ (x : Engine). x.world.handlers) is) in
+    let same = keeps_same d e f (ap (λ (x : Engine). x.world.table) is) (ap (λ (x : Engine). x.world.weak) is) (ap (λ (x : Engine). x.links) is) (subst (λ (x : Engine). PassesGot d x) (sym is)) (ap (λ (x : Engine). x.world.context) is) (ap (λ (x : Engine). x.world.builder) is) (ap (λ (x : Engine). x.stack) is) (ap (λ (x : Engine). x.world.handlers) is) in
     keeps_on d _ _ _ same c.set_by.ensures.counted

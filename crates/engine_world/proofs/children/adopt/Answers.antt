@@ -31,6 +31,6 @@ returns-clause-counted c =
     let a = agenda_of d e in
     let lives = parent_lives parent child (living t.objects parent) (living t.objects child) c.requires.free in
     keeps_on d e (with_table e n) (record e { world = c.say.new.self })
-    (keeps_by d e (with_table e n) refl (λ g. g) refl (stays d e (with_table e n) refl refl) (λ taken _ h.
+    (keeps_by d e (with_table e n) refl refl (λ g. g) refl (stays d e (with_table e n) refl refl) (λ taken _ h.
     from_counted d taken n b a (join_exact d (beside_of taken b a) t n parent child lives c.in-Ok.ensures.1 (to_counted d taken t b a h))))
     (keeps_said d (with_table e n) c.say.new.self c.say.ensures.beside)

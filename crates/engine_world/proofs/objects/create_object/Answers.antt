@@ -19,6 +19,6 @@ returns-clause-counted c none =
     let a = agenda_of d e in
     let x = c.new-object.result in
     let empty : (o : ℕ) → in_object d o (Some x) ≡ 0 = λ o. ap (λ (y : Object). in_object d o (Some y)) c.new-object.ensures ∙ omega (arith, none o) in
-    keeps_by d e _ refl (λ g. g) refl (stays d e _ refl refl) (λ taken _ h.
+    keeps_by d e _ refl refl (λ g. g) refl (stays d e _ refl refl) (λ taken _ h.
     from_counted d taken c.add.new.table b a
     (c.in_ok-id.ensures.added.counted d (beside_of taken b a) empty (to_counted d taken e.world.table b a h)))

@@ -51,6 +51,6 @@ returns-clause-counted c =
     let valid = valid_defaults d c.types-types.ensures.basic (world_of c.args.engine.now.world) c.args.place.0 place at in
     let e = c.args.engine.now in
     let b = record e { world = record e.world { got_peers = c.count_got.new.got } } in
-    keeps_on d e b _ (keeps_by d e b refl (c.count_got.ensures.got d place at refl) refl (stays d e b refl refl) (λ taken _ h. h))
+    keeps_on d e b _ (keeps_by d e b refl refl (c.count_got.ensures.got d place at refl) refl (stays d e b refl refl) (λ taken _ h. h))
     (c.in_ok-object.ensures.counted
     (λ o. omega (arith, ap (in_values o (specs_of d class)) c.in_ok-values.ensures, made_holds d c.args.place.0 place c.args.peer o valid)))

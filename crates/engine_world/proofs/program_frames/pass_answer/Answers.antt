@@ -5,7 +5,7 @@ use Rattle.ui_machine.specs.State.References.{in_task}
 use Rattle.ui_machine.specs.State.Tasks.{Task}
 use Rattle.g_values.specs.View.{value_view}
 use Rattle.frames.specs.FrameView.{frame_view}
-use Rattle.engine_world.specs.TaskView.{agenda_of, task_of, tasks_of}
+use Rattle.engine_world.specs.TaskView.{task_of, tasks_of}
 use Rattle.engine_world.specs.declared.task.Task as code
 use Rattle.engine_world.proofs.Ableness.{able_as, no_arm}
 use Rattle.engine_world.proofs.Registers.{not_received, popped_frame, receives_able}

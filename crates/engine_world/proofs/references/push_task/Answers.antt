@@ -42,7 +42,7 @@ returns-clause-counted c d =
     let hs = e.world.handlers.handlers in
     let t = task_in d e c.args.task in
     let only = both_only e.world.table c.hold_any.new.table c.hold_given.new.table c.hold_any.ensures.only c.hold_given.ensures.only in
-    keeps_by d e _ refl (λ g. g) refl (λ h. record { most = h.most; to_come = h.to_come; begun = c.push.ensures.begun e.world.handlers.last c.requires.begun h.begun }) (λ taken _ h.
+    keeps_by d e _ refl refl (λ g. g) refl (λ h. record { most = h.most; to_come = h.to_come; begun = c.push.ensures.begun e.world.handlers.last c.requires.begun h.begun }) (λ taken _ h.
     holder_more d taken e.world.table c.hold_given.new.table b b (agenda_of d e) (tasks_of d hs c.push.new.self) (λ o. in_task o t) only
     (λ o. omega (arith, c.hold_any.ensures.counts o, c.hold_given.ensures.counts d hs o, c.object.ensures d hs o, parts d hs c.args.task o))
     (λ o. omega (arith, ap (λ (ts : List Task). total (in_task o) ts) (c.push.ensures.tasks d hs))) h)

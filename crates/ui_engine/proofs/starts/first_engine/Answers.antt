@@ -2,6 +2,7 @@ use Rattle.std.proofs.Common.{ℕ, Global, Vec, ap, subst, sym, ◌∙◌}
 use Rattle.ui_machine.specs.Output.Lines as lines
 use Rattle.ui_machine.specs.State.Config.{World, said}
 use Rattle.signal_core.specs.Connected.{Connected}
+use Rattle.linked_programs.specs.Linked.{AreLinked, Linked}
 use Rattle.engine_world.specs.declared.engine.Engine.{Engine}
 use Rattle.engine_world.specs.Counting.{Connects}
 use Rattle.engine_world.specs.KnownHandlers.{AllTakeKnownHandlers}
@@ -22,6 +23,7 @@ returns-clause-rests c =
     let world = c.in_ok-announce.ensures.line ∙ ap (λ (w : World). said d w lines.build) (c.in_ok-engine.ensures.world d) in
     let idle = ap (λ (e : Engine). agenda_of d e) beside ∙ c.in_ok-engine.ensures.idle d in
     let marks = ap (λ (e : Engine). e.world.weak) beside ∙ c.in_ok-engine.ensures.marks in
+    let linked = subst (λ (l : Linked). AreLinked d l) (sym (ap (λ (e : Engine). e.links) beside ∙ c.in_ok-engine.ensures.links)) c.in_ok-links.ensures in
     let same = ap (λ (e : Engine). e.world.handlers) beside ∙ c.in_ok-engine.ensures.handlers in
     let got = ap (λ (e : Engine). e.world.got_peers) beside ∙ c.in_ok-engine.ensures.got in
     let passes = zeros_got d c.announce.new.engine.world.seats c.announce.new.engine.world.got_peers.items _ (ap (λ (ns : Vec ℕ Global). ns.items) got ∙ c.in_ok-got_peers.ensures.items_if_clones_equal (λ y same. same)) in
@@ -33,4 +35,4 @@ returns-clause-rests c =
           (subst (λ (e : Engine). AllTakeKnownHandlers 0 e.stack) (sym beside) c.in_ok-engine.ensures.begun);
     } in
     let counts = ap (λ (e : Engine). e.world.table.counts) beside ∙ c.in_ok-engine.ensures.counts in
-    record { counts = none_counted_with d c.args.seats c.announce.new.engine c.in_ok-weak.weak c.in_ok-weak.ensures passes connects marks counts world idle; idle = idle }
+    record { counts = none_counted_with d c.args.seats c.announce.new.engine c.in_ok-weak.weak c.in_ok-weak.ensures linked passes connects marks counts world idle; idle = idle }

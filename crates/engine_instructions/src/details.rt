@@ -1,0 +1,74 @@
+//! Details of signals that programs name (GObject manual, Signals: `signal::detail`).
+
+ghost use Rattle.std.specs.Prelude.{◌≡◌, Ok, Some, IfOk, IfSome, option_map, string_bytes};
+ghost use Rattle.ui_machine.specs.Rules.Connections.{detail_in};
+ghost use Rattle.linked_programs.specs.Linked.{IsDetail};
+ghost use Rattle.linked_programs.specs.Linked as linked;
+ghost use Rattle.engine_world.specs.Able.{Able};
+ghost use Rattle.engine_world.specs.GivenView.{detail_named, detail_of};
+ghost use Rattle.engine_world.specs.View.{world_of};
+
+use definitions::Definition;
+use engine_world::arguments;
+use engine_world::engine::Engine;
+use linked_programs::Link;
+use std::alloc::AllocError;
+use type_tree::TypeId;
+use ui_machine::{ObjectId, SignalId};
+
+// The name of the property that a detail of a notification names, which the instruction's link says.
+fn property_named(
+    engine: &Engine,
+    definition: &Definition,
+    class: TypeId,
+    detail: &str,
+    link: Link,
+) -> Result<String, AllocError>
+    requires able { Able (detail_named definition.now class detail.now) }
+    requires link { IsDetail definition.now engine.now.links (Some detail.now) (linked.detail_in link) }
+    ensures { IfOk result (λ text. detail_named definition.now class detail.now ≡ Ok (string_bytes text)) }
+{
+    // For the proof: the clauses speak of the definition, of the class and of the detail.
+    let (_, _, _) = (definition, class, detail);
+    let Some(at) = link.detail() else {
+        unreachable!()
+    };
+    let Some(name) = engine.links.property_name(at) else {
+        unreachable!()
+    };
+    Ok(String::from_str(engine.alloc, name)?)
+}
+
+// The detail of a notification: that of any other signal is none.
+fn notified(signal: SignalId, detail: Option<&str>) -> Option<&str>
+    ensures { IfSome result (λ text. (signal ≡ 0) × (detail.entry ≡ Some text)) }
+{
+    if signal == 0 { detail } else { None }
+}
+
+/// A detail as it is at a signal of an object. The signal is detailed, and a detail of `notify` names a property, which the instruction's link
+/// says.
+///
+/// # Errors
+///
+/// `AllocError` if no memory is found.
+pub(crate) fn detail_in(
+    engine: &Engine,
+    definition: &Definition,
+    object: ObjectId,
+    signal: SignalId,
+    detail: Option<&str>,
+    link: Link,
+) -> Result<Option<String>, AllocError>
+    requires able { Able (detail_in definition.now (world_of engine.now.world) object.0 signal (option_map (λ text. text.now) detail)) }
+    requires link { IsDetail definition.now engine.now.links (option_map (λ text. text.now) detail) (linked.detail_in link) }
+    ensures { IfOk result (λ own. detail_in definition.now (world_of engine.now.world) object.0 signal (option_map (λ text. text.now) detail.entry) ≡ Ok (detail_of own)) }
+{
+    let Some(text) = notified(signal, detail) else {
+        // No name is looked up.
+        return arguments::detail_in(engine, definition, object, signal, detail);
+    };
+    let class = engine.world.table.class_of(object);
+    let name = property_named(engine, definition, class, text, link)?;
+    Ok(Some(name))
+}

@@ -1,0 +1,91 @@
+-- The names of classes once they are added: name by name, and class by class.
+use Rattle.std.proofs.Common.{◌≡◌, ℕ, zero, suc, ◌+◌, ◌≤◌, Bool, true, false, cond, nat_eq, nat_lt, ◌&&◌, List, [], ◌∷◌, length, take, Option, None, Some, slice_get, refl, sym, ap, ◌∙◌, arith}
+use Rattle.std.proofs.lemmas.Bool.Decides.{nat_tests}
+use Rattle.ui_machine.specs.Definition.{Definition}
+use Rattle.ui_machine.specs.Definition.Lookups.{no_class}
+use Rattle.ui_machine.specs.Definition.Names.{place_from, place_named, same_name}
+use Rattle.ui_machine.specs.Rules.EmissionPlan.{or_else}
+use Rattle.name_tables.specs.Names.{Adds, Named, number_of, with_number}
+use Rattle.linked_programs.specs.Steps.{AddsAll, signal_called, slot_called}
+use Rattle.linked_programs.proofs.Reading.{read-past}
+
+-- ** the first entries of a list, by their names
+
+module _ {A : Type 0} (name_of : A → List ℕ) (name : List ℕ) where
+  -- one entry more counts where none before is called so
+  place_from-more : (i : ℕ) (xs : List A) (n : ℕ) (x : A) → slice_get xs n ≡ Some x
+      → place_from name_of i (take (suc n) xs) name ≡ with_number (same_name (name_of x) name) (i + n) (place_from name_of i (take n xs) name)
+  place_from-more i [] n x at = cc
+  place_from-more i (y ∷ xs) zero x at =
+      let is : y ≡ x = cc in
+      let zero_more : i ≡ i + 0 = omega arith in
+      ap (λ (z : A). cond (same_name (name_of z) name) (Some i) None) is ∙ ap (λ k. cond (same_name (name_of x) name) (Some k) None) zero_more
+  place_from-more i (y ∷ xs) (suc n) x at = by (same_name (name_of y) name) (place_from-more (suc i) xs n x at)
+    where
+      later : Option ℕ
+      later = place_from name_of (suc i) (take (suc n) xs) name
+
+      before : Option ℕ
+      before = place_from name_of (suc i) (take n xs) name
+
+      by : (b : Bool) → later ≡ with_number (same_name (name_of x) name) (suc i + n) before
+          → cond b (Some i) later ≡ with_number (same_name (name_of x) name) (i + suc n) (cond b (Some i) before)
+      by true rest = refl
+      by false rest =
+          let shift : suc i + n ≡ i + suc n = omega arith in
+          rest ∙ ap (λ k. with_number (same_name (name_of x) name) k before) shift
+
+  pub place_named-more : (xs : List A) (n : ℕ) (x : A) → slice_get xs n ≡ Some x
+      → place_named name_of (take (suc n) xs) name ≡ with_number (same_name (name_of x) name) n (place_named name_of (take n xs) name)
+  place_named-more xs n x at =
+      let none_before : 0 + n ≡ n = omega arith in
+      place_from-more 0 xs n x at ∙ ap (λ k. with_number (same_name (name_of x) name) k (place_named name_of (take n xs) name)) none_before
+
+-- ** the names of a class
+
+-- a number that no name gets
+unchanged : (number : ℕ) (o : Option ℕ) → with_number false number o ≡ o
+unchanged number None = refl
+unchanged number (Some old) = refl
+
+-- one name more, which counts where those before have none
+pub adds_more : (old now new : List Named) (class number : ℕ) (name : List ℕ) (before after : List ℕ → Option ℕ)
+    → AddsAll old now class before → Adds now new class name number → ((n : List ℕ) → after n ≡ with_number (same_name name n) number (before n))
+    → AddsAll old new class after
+adds_more old now new class number name before after added more counts c n =
+    more c n ∙ ap (with_number (nat_eq c class && same_name name n) number) (added c n)
+    ∙ by (nat_eq c class)
+    ∙ ap (λ o. cond (nat_eq c class) (or_else (number_of old c n) o) (number_of old c n)) (sym (counts n))
+  where
+    first : (o : Option ℕ) → with_number (same_name name n) number (or_else o (before n)) ≡ or_else o (with_number (same_name name n) number (before n))
+    first None = refl
+    first (Some k) = refl
+
+    by : (b : Bool) → with_number (b && same_name name n) number (cond b (or_else (number_of old c n) (before n)) (number_of old c n))
+        ≡ cond b (or_else (number_of old c n) (with_number (same_name name n) number (before n))) (number_of old c n)
+    by true = first (number_of old c n)
+    by false = unchanged number (number_of old c n)
+
+-- ** the names of all classes
+
+-- the names are those of so many classes
+abbrev pub HasUpTo : (ℕ → List ℕ → Option ℕ) → ℕ → List Named → Type 0
+HasUpTo called count names = (c : ℕ) (n : List ℕ) → number_of names c n ≡ cond (nat_lt c count) (called c n) None
+
+-- the names of all classes are those of every number, where classes past the last have none
+pub all_classes : (called : ℕ → List ℕ → Option ℕ) (count : ℕ) (names : List Named) → HasUpTo called count names
+    → ((c : ℕ) → count ≤ c → (n : List ℕ) → called c n ≡ None) → (c : ℕ) (n : List ℕ) → number_of names c n ≡ called c n
+all_classes called count names has past c n = has c n ∙ by (nat_lt c count) refl
+  where
+    by : (b : Bool) → nat_lt c count ≡ b → cond b (called c n) None ≡ called c n
+    by true e = refl
+    by false e = let over : count ≤ c = grind (arith, nat_tests) in sym (past c over n)
+
+-- ** classes past the last
+
+module _ (d : Definition) (c : ℕ) (past : length d.classes ≤ c) (n : List ℕ) where
+  pub no_slots : slot_called d c n ≡ None
+  no_slots = ap (λ class. place_named (λ s. s.name) class.specs n) (read-past no_class d.classes c past)
+
+  pub no_signals : signal_called d c n ≡ None
+  no_signals = ap (λ class. place_named (λ s. s.name) class.signals n) (read-past no_class d.classes c past)

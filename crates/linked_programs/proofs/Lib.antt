@@ -1,0 +1,5 @@
+mod Adding
+mod AllLinked
+mod Linking
+mod Reading
+mod Spelled

@@ -1,0 +1,6 @@
+use Rattle.linked_programs.specs.Steps.{slot_called}
+use Rattle.linked_programs.proofs.Adding.{HasUpTo}
+use Rattle.linked_programs.proofs.class_names.slot_names.Given as goal
+
+abbrev pub invariant-classes : goal.invariant-classes
+invariant-classes l = HasUpTo (slot_called l.definition) l.class l.names

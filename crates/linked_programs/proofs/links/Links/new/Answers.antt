@@ -1,0 +1,10 @@
+use Rattle.std.proofs.Common.{map}
+use Rattle.linked_programs.proofs.AllLinked.{all_linked}
+use Rattle.linked_programs.proofs.links.Links.new.Goals as goal
+
+pub returns : goal.returns
+returns c = record {
+  slots = c.in_ok-slots.ensures;
+  signals = c.in_ok-signals.ensures;
+  at = all_linked c.args.definition.now c.in_ok-slots.slots c.in_ok-signals.signals (map (λ p. map (λ b. b.items) p.items) c.in_ok-programs.programs.items) c.in_ok-programs.ensures;
+}

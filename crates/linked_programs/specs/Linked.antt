@@ -1,0 +1,119 @@
+-- What the names in programs mean.
+use Rattle.std.specs.Prelude.{◌≡◌, ℕ, List, [], Option, None, Some, IfSome, option_and_then, option_map, slice_get}
+use Rattle.ui_machine.specs.Definition.{Definition}
+use Rattle.ui_machine.specs.Definition.Names.{canonical}
+use Rattle.ui_machine.specs.Definition.Programs.{Block, Connect, Instruction, Program}
+use Rattle.ui_machine.specs.Definition.Programs as words
+use Rattle.ui_machine.specs.Definition.Lookups.{place_of, program_at, program_of, slot_of}
+use Rattle.ui_machine.specs.Rules.Connections.{signal_number}
+use Rattle.ui_machine.specs.Seq.{read}
+use Rattle.name_tables.specs.Names.{Named, number_by, number_of}
+use Rattle.linked_programs.specs.declared.link.Link.{Link}
+use Rattle.ui_machine.specs.declared.ids.Place.{Place}
+use Rattle.linked_programs.specs.declared.link.Link.TheVariants as links
+
+-- what is kept of a definition: the names of its properties and of its signals, and of each instruction of each block of each program what its
+-- names mean
+pub record Linked : Type 0 where
+  pub slots : List Named
+  pub signals : List Named
+  pub programs : List (List (List Link))
+
+-- the names of properties are those of a definition, with their slots
+abbrev pub AreSlots : Definition → List Named → Type 0
+AreSlots d names = (class : ℕ) (name : List ℕ) → number_of names class (canonical name) ≡ slot_of d class name
+
+-- the names of signals are those of a definition, with their numbers
+abbrev pub AreSignals : Definition → List Named → Type 0
+AreSignals d names = (class : ℕ) (name : List ℕ) → number_of names class (canonical name) ≡ signal_number d class name
+
+-- ** what one name means
+
+-- a place in the table is a property's name
+abbrev pub IsProperty : Definition → Linked → List ℕ → Option ℕ → Type 0
+IsProperty d l name at = (class : ℕ) → number_by l.slots class at ≡ slot_of d class name
+
+-- a place in the table is a signal's name
+abbrev pub IsSignal : Definition → Linked → List ℕ → Option ℕ → Type 0
+IsSignal d l name at = (class : ℕ) → number_by l.signals class at ≡ signal_number d class name
+
+-- where there is a detail, a place in the table is that of the property that it would name, in canonical spelling
+abbrev pub IsDetail : Definition → Linked → Option (List ℕ) → Option ℕ → Type 0
+IsDetail d l None at = Unit {0}
+IsDetail d l (Some detail) at = IsProperty d l detail at × IfSome at (λ n. option_map (λ (named : Named). named.name) (slice_get l.slots n) ≡ Some (canonical detail))
+
+-- ** what a link says; nothing where it does not speak of it
+
+abbrev pub property_in : Link → Option ℕ
+property_in (links.Property at) = at
+property_in _ = None
+
+abbrev pub place_in : Link → Option Place
+place_in (links.Place place) = place
+place_in _ = None
+
+abbrev pub program_in : Link → Option ℕ
+program_in (links.Program number) = number
+program_in (links.Connection signal detail number) = number
+program_in _ = None
+
+abbrev pub signal_in : Link → Option ℕ
+signal_in (links.Emission signal detail) = signal
+signal_in (links.Connection signal detail number) = signal
+signal_in _ = None
+
+abbrev pub detail_in : Link → Option ℕ
+detail_in (links.Emission signal detail) = detail
+detail_in (links.Connection signal detail number) = detail
+detail_in _ = None
+
+-- ** what the names of an instruction mean
+
+abbrev pub LinksProperty : Definition → Linked → List ℕ → Link → Type 0
+LinksProperty d l name link = IsProperty d l name (property_in link)
+
+abbrev pub LinksPlace : Definition → List ℕ → Link → Type 0
+LinksPlace d id link = option_map (λ (p : Place). p.0) (place_in link) ≡ place_of d id
+
+abbrev pub LinksProgram : Definition → List ℕ → Link → Type 0
+LinksProgram d name link = program_in link ≡ program_of d name
+
+abbrev pub LinksEmission : Definition → Linked → List ℕ → Option (List ℕ) → Link → Type 0
+LinksEmission d l name detail link = IsSignal d l name (signal_in link) × IsDetail d l detail (detail_in link)
+
+abbrev pub LinksConnection : Definition → Linked → Connect → Link → Type 0
+LinksConnection d l c link = LinksEmission d l c.signal c.detail link × LinksProgram d c.program link
+
+-- a link says what the names of an instruction mean
+abbrev pub IsLink : Definition → Linked → Instruction → Link → Type 0
+IsLink d l (words.get to object property) link = LinksProperty d l property link
+IsLink d l (words.set object property from) link = LinksProperty d l property link
+IsLink d l (words.notify object property) link = LinksProperty d l property link
+IsLink d l (words.object to id) link = LinksPlace d id link
+IsLink d l (words.new to id) link = LinksPlace d id link
+IsLink d l (words.emit into object signal detail args) link = LinksEmission d l signal detail link
+IsLink d l (words.connect to object c) link = LinksConnection d l c link
+IsLink d l (words.disconnect object program) link = LinksProgram d program link
+IsLink d l (words.block object program) link = LinksProgram d program link
+IsLink d l (words.unblock object program) link = LinksProgram d program link
+IsLink d l (words.idle to program priority with) link = LinksProgram d program link
+IsLink d l (words.timeout to program priority interval with) link = LinksProgram d program link
+IsLink d l (words.remove program) link = LinksProgram d program link
+IsLink d l _ link = Unit {0}
+
+-- ** of all programs
+
+-- the instruction at a place of a block of a program
+abbrev pub instruction_at : Definition → ℕ → ℕ → ℕ → Option Instruction
+instruction_at d program block at =
+    option_and_then (λ (b : Block). slice_get b.code at) (option_and_then (λ (p : Program). slice_get p.blocks block) (program_at d program))
+
+-- the link of an instruction
+abbrev pub link_at : List (List (List Link)) → ℕ → ℕ → ℕ → Link
+link_at ls program block at = read links.Nothing (read [] (read [] ls program) block) at
+
+-- Each instruction has its link, and the tables have the names of all properties and signals.
+pub record AreLinked (d : Definition) (l : Linked) : Type 0 where
+  pub slots : AreSlots d l.slots
+  pub signals : AreSignals d l.signals
+  pub at : (program block at : ℕ) → IfSome (instruction_at d program block at) (λ i. IsLink d l i (link_at l.programs program block at))

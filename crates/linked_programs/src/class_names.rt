@@ -1,0 +1,83 @@
+//! The names of what classes have, each with the numbers that it has in them.
+
+ghost use Rattle.std.specs.Prelude.{◌≡◌, IfOk, OnOk};
+ghost use Rattle.linked_programs.specs.Linked.{AreSignals, AreSlots};
+ghost use Rattle.linked_programs.specs.Steps.{AddsAll, signal_called, slot_called};
+
+use definitions::Definition;
+use name_tables::NameTable;
+use std::alloc::{AllocError, Global};
+use type_tree::TypeId;
+use ui_machine::{SignalId, Slot};
+
+// Adds the names of a class's properties.
+fn add_slots(
+    names: &mut NameTable,
+    definition: &Definition,
+    class: TypeId,
+) -> Result<(), AllocError>
+    ensures { OnOk result (AddsAll names.old names.new class (slot_called definition.now class)) }
+{
+    // For the proof: how many properties a class has at most.
+    let _slots = definition.slots(class);
+    let mut slot: Slot = 0;
+    loop {
+        let Some(spec) = definition.spec(class, slot) else {
+            return Ok(());
+        };
+        names.add(class, spec.name.as_str(), slot)?;
+        slot += 1;
+    }
+}
+
+/// The names of a definition's properties, with their slots.
+///
+/// # Errors
+///
+/// `AllocError` if memory is refused.
+pub(crate) fn slot_names(alloc: Global, definition: &Definition) -> Result<NameTable, AllocError>
+    ensures { IfOk result (AreSlots definition.now) }
+{
+    let mut names = NameTable::new(alloc);
+    let count = definition.class_count();
+    'classes: for class in 0..count {
+        add_slots(&mut names, definition, TypeId::new(class as u16))?;
+    }
+    Ok(names)
+}
+
+// Adds the names of a class's signals.
+fn add_signals(
+    names: &mut NameTable,
+    definition: &Definition,
+    class: TypeId,
+) -> Result<(), AllocError>
+    ensures { OnOk result (AddsAll names.old names.new class (signal_called definition.now class)) }
+{
+    // For the proof: how many signals a class has at most.
+    let _count = definition.signal_count(class);
+    let mut number: SignalId = 0;
+    loop {
+        let Some(signal) = definition.signal(class, number) else {
+            return Ok(());
+        };
+        names.add(class, signal.name, number)?;
+        number += 1;
+    }
+}
+
+/// The names of a definition's signals, with their numbers.
+///
+/// # Errors
+///
+/// `AllocError` if memory is refused.
+pub(crate) fn signal_names(alloc: Global, definition: &Definition) -> Result<NameTable, AllocError>
+    ensures { IfOk result (AreSignals definition.now) }
+{
+    let mut names = NameTable::new(alloc);
+    let count = definition.class_count();
+    'classes: for class in 0..count {
+        add_signals(&mut names, definition, TypeId::new(class as u16))?;
+    }
+    Ok(names)
+}

@@ -1,0 +1,92 @@
+//! What the names in a definition's programs mean.
+
+ghost use Rattle.std.specs.Prelude.{◌≡◌, IfOk, option_map, slice_get};
+ghost use Rattle.name_tables.specs.Names.{number_by};
+ghost use Rattle.linked_programs.specs.Linked.{AreLinked, link_at};
+
+use crate::class_names::{signal_names, slot_names};
+use crate::link::Link;
+use crate::programs::link_programs;
+use bytecode::BlockNumber;
+use definitions::Definition;
+use name_tables::{NameId, NameTable};
+use std::alloc::{AllocError, Global};
+use std::marker::Model;
+use type_tree::TypeId;
+use ui_machine::{ProgramId, SignalId, Slot};
+
+/// What the names in a definition's programs mean: the slots and numbers of properties and signals, by class and name, and the link of each
+/// instruction.
+#[derive(Drop)]
+pub struct Links {
+    slots: NameTable,
+    signals: NameTable,
+    /// By program, block and instruction.
+    programs: Vec<Vec<Vec<Link>>>,
+}
+
+impl Model for Links {
+    ghost use Rattle.std.specs.Prelude.{map};
+    ghost use Rattle.linked_programs.specs.Linked.{Linked};
+
+    ghost Value = { Linked };
+
+    ghost view = { λ l. record { slots = l.slots; signals = l.signals; programs = map (λ p. map (λ b. b.items) p.items) l.programs.items } };
+}
+
+impl Links {
+    /// Links the programs of a definition. It takes time and memory for each name of each class once, and for each instruction.
+    ///
+    /// # Errors
+    ///
+    /// `AllocError` if memory is refused.
+    pub fn new(alloc: Global, definition: &Definition) -> Result<Links, AllocError>
+        ensures { IfOk result (AreLinked definition.now) }
+    {
+        let slots = slot_names(alloc, definition)?;
+        let signals = signal_names(alloc, definition)?;
+        let programs = link_programs(alloc, definition, &slots, &signals)?;
+        Ok(Links {
+            slots,
+            signals,
+            programs,
+        })
+    }
+
+    /// The link of an instruction, and that of one without names where there is none.
+    pub fn link(&self, program: ProgramId, block: BlockNumber, at: usize) -> Link
+        ensures { result ≡ link_at self.now.programs program block.0 at }
+    {
+        let Some(blocks) = self.programs.get(usize::from(program)) else {
+            return Link::Nothing;
+        };
+        let Some(links) = blocks.get(block.0) else {
+            return Link::Nothing;
+        };
+        match links.get(at) {
+            Some(link) => *link,
+            None => Link::Nothing,
+        }
+    }
+
+    /// The slot of a class's property of a name.
+    pub fn slot(&self, class: TypeId, name: Option<NameId>) -> Option<Slot>
+        ensures { result ≡ number_by self.now.slots class name }
+    {
+        self.slots.number(class, name?)
+    }
+
+    /// The number of a class's signal of a name.
+    pub fn signal(&self, class: TypeId, name: Option<NameId>) -> Option<SignalId>
+        ensures { result ≡ number_by self.now.signals class name }
+    {
+        self.signals.number(class, name?)
+    }
+
+    /// The name of a property, in canonical spelling.
+    pub fn property_name(&self, name: NameId) -> Option<&str>
+        ensures { option_map (λ text. text.now) result ≡ option_map (λ n. n.name) (slice_get self.now.slots name) }
+    {
+        self.slots.name(name)
+    }
+}

@@ -1,0 +1,211 @@
+//! The links of programs.
+
+ghost use Rattle.std.specs.Prelude.{◌≡◌, IfOk, IfSome, Some, map, option_map, slice_get, string_bytes};
+ghost use Rattle.ui_machine.specs.Definition.Names.{canonical};
+ghost use Rattle.bytecode.specs.View.{block_view, connect_view, instruction_view, object_instruction_view, program_view, property_instruction_view, signal_instruction_view, source_instruction_view};
+ghost use Rattle.name_tables.specs.Names.{place_of};
+ghost use Rattle.linked_programs.specs.Linked.{AreSignals, AreSlots, IsDetail, IsLink, IsSignal, LinksConnection};
+ghost use Rattle.linked_programs.specs.Steps.{LinksBlock, LinksBlocks, LinksPrograms, tables};
+
+use crate::link::Link;
+use crate::spelling::canonical_text;
+use bytecode::{
+    Block, Connection, Instruction, ObjectInstruction, Program, PropertyInstruction,
+    SignalInstruction, SourceInstruction,
+};
+use definitions::Definition;
+use name_tables::{NameId, NameTable};
+use std::alloc::{AllocError, Global};
+
+/// What the names in a definition's programs are looked up in: the definition, and the tables of all its properties and signals.
+#[derive(Clone, Copy)]
+struct Names<'a> {
+    definition: &'a Definition,
+    slots: &'a NameTable,
+    signals: &'a NameTable,
+    alloc: Global,
+    ghost all_slots: { AreSlots definition.now slots.now },
+    ghost all_signals: { AreSignals definition.now signals.now },
+}
+
+// Where a name is in a table, in any spelling.
+fn find(alloc: Global, names: &NameTable, name: &str) -> Result<Option<NameId>, AllocError>
+    ensures place { IfOk result (λ at. at ≡ place_of names.now (canonical name.now)) }
+    ensures called { IfOk result (λ at. IfSome at (λ n. option_map (λ named. named.name) (slice_get names.now n) ≡ Some (canonical name.now))) }
+{
+    let canonical = canonical_text(alloc, name)?;
+    Ok(names.find(canonical.as_str()))
+}
+
+impl Names<'_> {
+    // The place of a property's name.
+    fn property(&self, name: &str) -> Result<Option<NameId>, AllocError>
+        ensures { IfOk result (IsDetail self.now.definition.now (tables self.now.slots.now self.now.signals.now) (Some name.now)) }
+    {
+        find(self.alloc, self.slots, name)
+    }
+
+    // The place of a signal's name.
+    fn signal(&self, name: &str) -> Result<Option<NameId>, AllocError>
+        ensures { IfOk result (IsSignal self.now.definition.now (tables self.now.slots.now self.now.signals.now) name.now) }
+    {
+        find(self.alloc, self.signals, name)
+    }
+
+    // The place of the property that a detail would name.
+    fn detail(&self, detail: &Option<String>) -> Result<Option<NameId>, AllocError>
+        ensures { IfOk result (IsDetail self.now.definition.now (tables self.now.slots.now self.now.signals.now) (option_map string_bytes detail.now)) }
+    {
+        match detail {
+            Some(detail) => self.property(detail.as_str()),
+            None => Ok(None),
+        }
+    }
+
+    // The link of an instruction on properties.
+    fn on_properties(&self, instruction: &PropertyInstruction) -> Result<Link, AllocError>
+        ensures { IfOk result (IsLink self.now.definition.now (tables self.now.slots.now self.now.signals.now) (property_instruction_view instruction.now)) }
+    {
+        match instruction {
+            PropertyInstruction::Get { property, .. }
+            | PropertyInstruction::Set { property, .. }
+            | PropertyInstruction::Notify { property, .. } => {
+                Ok(Link::Property(self.property(property.as_str())?))
+            }
+            PropertyInstruction::Freeze(_) | PropertyInstruction::Thaw(_) => Ok(Link::Nothing),
+        }
+    }
+
+    // The link of an instruction on objects.
+    fn on_objects(&self, instruction: &ObjectInstruction) -> Link
+        ensures { IsLink self.now.definition.now (tables self.now.slots.now self.now.signals.now) (object_instruction_view instruction.now) result }
+    {
+        match instruction {
+            ObjectInstruction::LookUp { id, .. } | ObjectInstruction::New { id, .. } => {
+                Link::Place(self.definition.place(id.as_str()))
+            }
+            ObjectInstruction::Sink(_)
+            | ObjectInstruction::Orphan(_)
+            | ObjectInstruction::Dispose(_)
+            | ObjectInstruction::Adopt { .. } => Link::Nothing,
+        }
+    }
+
+    // The link of a connection.
+    fn connection(&self, connection: &Connection) -> Result<Link, AllocError>
+        ensures { IfOk result (LinksConnection self.now.definition.now (tables self.now.slots.now self.now.signals.now) (connect_view connection.now)) }
+    {
+        let signal = self.signal(connection.signal.as_str())?;
+        let detail = self.detail(&connection.detail)?;
+        Ok(Link::Connection {
+            signal,
+            detail,
+            program: self.definition.program_number(connection.program.as_str()),
+        })
+    }
+
+    // The link of an instruction on signals.
+    fn on_signals(&self, instruction: &SignalInstruction) -> Result<Link, AllocError>
+        ensures { IfOk result (IsLink self.now.definition.now (tables self.now.slots.now self.now.signals.now) (signal_instruction_view instruction.now)) }
+    {
+        match instruction {
+            SignalInstruction::Emit { signal, detail, .. } => {
+                let signal = self.signal(signal.as_str())?;
+                let detail = self.detail(detail)?;
+                Ok(Link::Emission { signal, detail })
+            }
+            SignalInstruction::Connect { connection, .. } => self.connection(connection),
+            SignalInstruction::Disconnect { program, .. }
+            | SignalInstruction::Block { program, .. }
+            | SignalInstruction::Unblock { program, .. } => Ok(Link::Program(
+                self.definition.program_number(program.as_str()),
+            )),
+            SignalInstruction::Stop => Ok(Link::Nothing),
+        }
+    }
+
+    // The link of an instruction on sources.
+    fn on_sources(&self, instruction: &SourceInstruction) -> Link
+        ensures { IsLink self.now.definition.now (tables self.now.slots.now self.now.signals.now) (source_instruction_view instruction.now) result }
+    {
+        match instruction {
+            SourceInstruction::Idle { program, .. }
+            | SourceInstruction::Timeout { program, .. }
+            | SourceInstruction::Remove(program) => {
+                Link::Program(self.definition.program_number(program.as_str()))
+            }
+            SourceInstruction::Unbind(_) => Link::Nothing,
+        }
+    }
+
+    // The link of an instruction.
+    fn link(&self, instruction: &Instruction) -> Result<Link, AllocError>
+        ensures { IfOk result (IsLink self.now.definition.now (tables self.now.slots.now self.now.signals.now) (instruction_view instruction.now)) }
+    {
+        match instruction {
+            Instruction::Property(instruction) => self.on_properties(instruction),
+            Instruction::Object(instruction) => Ok(self.on_objects(instruction)),
+            Instruction::Signal(instruction) => self.on_signals(instruction),
+            Instruction::Source(instruction) => Ok(self.on_sources(instruction)),
+            Instruction::Compute { .. } | Instruction::Control(_) | Instruction::Peer(_) => {
+                Ok(Link::Nothing)
+            }
+        }
+    }
+
+    // The links of a block's instructions.
+    fn block(&self, block: &Block) -> Result<Vec<Link>, AllocError>
+        ensures { IfOk result (λ links. LinksBlock self.now.definition.now (tables self.now.slots.now self.now.signals.now) (block_view block.now) links.items) }
+    {
+        let mut links = Vec::with_capacity(self.alloc, block.code.len())?;
+        for instruction in &block.code {
+            links.push(self.link(instruction)?)?;
+        }
+        Ok(links)
+    }
+
+    // The links of a program's blocks.
+    fn program(&self, program: &Program) -> Result<Vec<Vec<Link>>, AllocError>
+        ensures { IfOk result (λ blocks. LinksBlocks self.now.definition.now (tables self.now.slots.now self.now.signals.now) (program_view program.now) (map (λ b. b.items) blocks.items)) }
+    {
+        let mut blocks = Vec::with_capacity(self.alloc, program.blocks.len())?;
+        for block in &program.blocks {
+            blocks.push(self.block(block)?)?;
+        }
+        Ok(blocks)
+    }
+}
+
+/// The links of all programs of a definition, by program, block and instruction. The tables have the names of all its properties and signals.
+///
+/// # Errors
+///
+/// `AllocError` if memory is refused.
+pub(crate) fn link_programs(
+    alloc: Global,
+    definition: &Definition,
+    slots: &NameTable,
+    signals: &NameTable,
+) -> Result<Vec<Vec<Vec<Link>>>, AllocError>
+    requires slots { AreSlots definition.now slots.now }
+    requires signals { AreSignals definition.now signals.now }
+    ensures { IfOk result (λ programs. LinksPrograms definition.now (tables slots.now signals.now) (map (λ p. map (λ b. b.items) p.items) programs.items)) }
+{
+    let names = Names {
+        definition,
+        slots,
+        signals,
+        alloc,
+    };
+    // For the proof: how many programs there are at most.
+    let _types = definition.types();
+    let mut programs = Vec::new(alloc);
+    let mut number = 0;
+    loop {
+        let Some(program) = definition.program(number) else {
+            return Ok(programs);
+        };
+        programs.push(names.program(program)?)?;
+        number += 1;
+    }
+}

@@ -1,0 +1,108 @@
+//! Names, each with the numbers that it has in classes.
+
+ghost use Rattle.std.specs.Prelude.{◌≡◌, [], Some, IfOk, IfSome, OnErr, OnOk, option_map, slice_get};
+ghost use Rattle.name_tables.specs.Names.{Adds, SameNumbers, number_at, place_of};
+ghost use Rattle.name_tables.specs.Steps.{GivesNumber, ReadsSame, with_name};
+
+use indexmap::IndexMap;
+use std::alloc::{AllocError, Global};
+use std::marker::Model;
+use type_tree::TypeId;
+
+/// A name of a table, by its place in it.
+pub type NameId = usize;
+
+/// Names in canonical spelling, and the number that each has in the classes that have it.
+///
+/// It takes memory for each name once, and for a number in each class up to the last that has the name.
+#[derive(Drop)]
+pub struct NameTable {
+    names: IndexMap<String, Vec<Option<u16>>>,
+}
+
+impl Model for NameTable {
+    ghost use Rattle.std.specs.Prelude.{List, map, string_bytes};
+    ghost use Rattle.name_tables.specs.Names.{Named};
+
+    ghost Value = { List Named };
+
+    ghost view = { λ t. map (λ e. record { name = string_bytes e.0; numbers = e.1.items }) t.names.entries };
+}
+
+impl NameTable {
+    /// A table without names. It takes no memory.
+    pub fn new(alloc: Global) -> NameTable
+        ensures { result ≡ [] }
+    {
+        NameTable {
+            names: IndexMap::new(alloc),
+        }
+    }
+
+    /// A class has a name under this number, unless it has it already.
+    ///
+    /// # Errors
+    ///
+    /// `AllocError` if memory is refused. No name's number has changed then.
+    pub fn add(&mut self, class: TypeId, name: &str, number: u16) -> Result<(), AllocError>
+        ensures ok { OnOk result (Adds self.old self.new class name.now number) }
+        ensures err { OnErr result (SameNumbers self.old self.new) }
+    {
+        let place = self.place(name)?;
+        give_number(&mut self.names[place], class.index(), number)
+    }
+
+    // The place of a name, which has one from then on.
+    fn place(&mut self, name: &str) -> Result<NameId, AllocError>
+        ensures ok { OnOk result (self.new ≡ with_name self.old name.now) }
+        ensures found { IfOk result (λ at. place_of self.new name.now ≡ Some at) }
+        ensures err { OnErr result (self.new ≡ self.old) }
+    {
+        if let Some(place) = self.names.get_index_of(name) {
+            return Ok(place);
+        }
+        let place = self.names.len();
+        let alloc = *self.names.allocator();
+        let key = String::from_str(alloc, name)?;
+        self.names.insert(key, Vec::new(alloc))?;
+        Ok(place)
+    }
+
+    /// Where a name is, if some class has it.
+    pub fn find(&self, name: &str) -> Option<NameId>
+        ensures found { result ≡ place_of self.now name.now }
+        ensures called { IfSome result (λ at. option_map (λ n. n.name) (slice_get self.now at) ≡ Some name.now) }
+    {
+        self.names.get_index_of(name)
+    }
+
+    /// The number that a class has a name under.
+    pub fn number(&self, class: TypeId, name: NameId) -> Option<u16>
+        ensures { result ≡ number_at self.now class name }
+    {
+        let (_, numbers) = self.names.get_index(name)?;
+        *numbers.get(class.index())?
+    }
+
+    /// The text of a name.
+    pub fn name(&self, name: NameId) -> Option<&str>
+        ensures { option_map (λ text. text.now) result ≡ option_map (λ n. n.name) (slice_get self.now name) }
+    {
+        let (text, _) = self.names.get_index(name)?;
+        Some(text.as_str())
+    }
+}
+
+// Puts a number at a place of a list, which grows for it, unless a number is there.
+fn give_number(numbers: &mut Vec<Option<u16>>, place: usize, number: u16) -> Result<(), AllocError>
+    ensures ok { OnOk result (GivesNumber numbers.old.items numbers.new.items place number) }
+    ensures err { OnErr result (ReadsSame numbers.old.items numbers.new.items) }
+{
+    'grow: while numbers.len() <= place {
+        numbers.push(None)?;
+    }
+    if numbers[place].is_none() {
+        numbers[place] = Some(number);
+    }
+    Ok(())
+}

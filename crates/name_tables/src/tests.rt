@@ -1,0 +1,48 @@
+//! What no proof shows: that a call succeeds, and that the clauses mean what a reader expects.
+
+use crate::NameTable;
+use std::test::Fail;
+use type_tree::TypeId;
+
+#[test]
+fn a_name_has_a_number_in_each_class_that_has_it(rt: HostRuntime) -> Result<(), Fail> {
+    let mut table = NameTable::new(rt.alloc());
+    table.add(TypeId::new(2), "label", 7)?;
+    table.add(TypeId::new(5), "label", 0)?;
+    table.add(TypeId::new(5), "visible", 1)?;
+    let label = table
+        .find("label")
+        .expect(&rt, "a name that two classes have");
+    let visible = table
+        .find("visible")
+        .expect(&rt, "a name that one class has");
+    assert_eq!(rt; table.number(TypeId::new(2), label), Some(7));
+    assert_eq!(rt; table.number(TypeId::new(5), label), Some(0));
+    assert_eq!(rt; table.number(TypeId::new(3), label), None);
+    assert_eq!(rt; table.number(TypeId::new(9), label), None);
+    assert_eq!(rt; table.number(TypeId::new(2), visible), None);
+    assert_eq!(rt; table.number(TypeId::new(5), visible), Some(1));
+    assert_eq!(rt; table.name(visible), Some("visible"));
+    Ok(())
+}
+
+#[test]
+fn the_first_number_of_a_class_stays(rt: HostRuntime) -> Result<(), Fail> {
+    let mut table = NameTable::new(rt.alloc());
+    table.add(TypeId::new(1), "label", 3)?;
+    table.add(TypeId::new(1), "label", 4)?;
+    let label = table.find("label").expect(&rt, "a name that a class has");
+    assert_eq!(rt; table.number(TypeId::new(1), label), Some(3));
+    Ok(())
+}
+
+#[test]
+fn a_name_that_no_class_has_is_nowhere(rt: HostRuntime) -> Result<(), Fail> {
+    let mut table = NameTable::new(rt.alloc());
+    assert_eq!(rt; table.find("label"), None);
+    assert_eq!(rt; table.name(0), None);
+    table.add(TypeId::new(0), "label", 0)?;
+    assert_eq!(rt; table.find("labels"), None);
+    assert_eq!(rt; table.name(1), None);
+    Ok(())
+}
