@@ -1,0 +1,10 @@
+//! A worked example: the links of a definition, which meet what the engine asks of those that it keeps.
+#![tactic(auto)]
+
+ghost use Rattle.linked_worked.specs.LinkedGathering.{GatheringLinked};
+
+/// The programs of a definition whose knobs are bound both ways are linked. One names an object and a property of its class, the other a prototype;
+/// of the definition's four classes one has the property.
+pub fn gathering()
+    ensures { GatheringLinked }
+{}
