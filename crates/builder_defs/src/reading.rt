@@ -316,5 +316,5 @@ pub fn read_definition(alloc: Global, bytes: &[u8]) -> Result<Definition, ReadEr
 {
     let value = parsed(alloc, bytes)?;
     let parts = parts_in(alloc, &value)?;
-    Ok(Definition::new(parts))
+    Ok(Definition::new(alloc, parts)?)
 }

@@ -14,13 +14,12 @@ ghost use Rattle.definition_types.specs.HandlerDrafts.{handler_part_in};
 
 use crate::enums::{bad_part, check_new, name_part};
 use crate::handler_drafts::{HandlerDraft, NewHandler, names_of};
-use crate::spelling::canonical_text;
 use definition_format::{DefinitionFault, ReadError};
 use definition_parts::document::{Entries, Part, path_text, path_under, path_within};
 use definition_parts::entries::ProgramNames;
 use definition_parts::reads::{Reads, read_each};
 use serde_json::Value;
-use signal_core::SignalTable;
+use signal_core::{SignalTable, canonical_text};
 use std::collections::BTreeSet;
 use std::mem;
 use type_tree::TypeId;

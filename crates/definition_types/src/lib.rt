@@ -17,7 +17,6 @@ mod interfaces;
 mod overrides;
 mod own_signals;
 mod shapes;
-mod spelling;
 mod types;
 
 pub use class_drafts::ClassDraft;

@@ -1,3 +1,4 @@
 pub mod Ids
 pub mod ClassHandlers
 pub mod ShapeLines
+pub mod SlotPlaces

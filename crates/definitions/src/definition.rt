@@ -1,6 +1,6 @@
 //! What a definition says.
 
-ghost use Rattle.std.specs.Prelude.{◌≡◌, ◌<◌, ◌≤◌, ◌+◌, None, ℕ, length, option_and_then, option_map, slice_get, string_bytes, IfSome, map};
+ghost use Rattle.std.specs.Prelude.{◌≡◌, ◌<◌, ◌≤◌, ◌+◌, None, ℕ, length, option_and_then, option_map, slice_get, string_bytes, IfOk, IfSome, map};
 ghost use Rattle.ui_machine.specs.Definition.Names.{place_named};
 ghost use Rattle.ui_machine.specs.Definition.Lookups.{class_of, place_of, program_at, program_of, spec_of, specs_of, slot_of, type_of};
 ghost use Rattle.ui_machine.specs.Seq.{read};
@@ -26,9 +26,10 @@ use crate::shapes::{Shapes, shape_number};
 use crate::types::type_name;
 use bytecode::Program;
 use definition_format::Bind;
-use param_specs::{Spec, SpecTable};
+use param_specs::{SlotTable, Spec, SpecTable};
 use peer_shapes::Shape;
-use signal_core::{ClassHandler, DeclaredSignal, Emission, SignalTable};
+use signal_core::{ClassHandler, DeclaredSignal, Emission, SignalRows, SignalTable};
+use std::alloc::{AllocError, Global};
 use std::marker::Model;
 use type_tree::{TypeId, TypeTree};
 use ui_machine::{Limits, ObjectId, Place, ProgramId, SignalId, Slot};
@@ -50,6 +51,9 @@ pub struct Definition {
     objects: Objects,
     bindings: Vec<Bind>,
     limits: Limits,
+    // Where the property of each slot of each class is, and each of its signals.
+    slots: SlotTable,
+    rows: SignalRows,
 }
 
 impl Model for Definition {
@@ -58,20 +62,26 @@ impl Model for Definition {
     ghost Value = { machine.Definition };
 
     ghost use Rattle.definition_format.specs.Meaning.{meaning, parts};
-    ghost use Rattle.definitions.specs.PartsView.{AreRead};
+    ghost use Rattle.definitions.specs.PartsView.{AreKept};
 
     ghost view = { λ d. meaning (parts d.types d.specs d.signals d.constructed.items d.shapes.entries d.shaped.items d.programs.entries d.prototypes.entries d.objects.entries d.bindings.items d.limits) };
 
-    ghost invariant = { λ d. AreRead (parts d.types d.specs d.signals d.constructed.items d.shapes.entries d.shaped.items d.programs.entries d.prototypes.entries d.objects.entries d.bindings.items d.limits) };
+    ghost invariant = { λ d. AreKept (parts d.types d.specs d.signals d.constructed.items d.shapes.entries d.shaped.items d.programs.entries d.prototypes.entries d.objects.entries d.bindings.items d.limits) d.slots d.rows };
 }
 
 impl Definition {
     /// The definition of these parts. They have to be sound, and some bytes have to denote what they mean.
-    pub fn new(parts: Parts) -> Definition
+    ///
+    /// # Errors
+    ///
+    /// `AllocError` if memory is refused.
+    pub fn new(alloc: Global, parts: Parts) -> Result<Definition, AllocError>
         requires { AreRead (parts_of parts) }
-        ensures { result ≡ meaning (parts_of parts) }
+        ensures { IfOk result (λ d. d ≡ meaning (parts_of parts)) }
     {
-        Definition {
+        let slots = SlotTable::new(alloc, &parts.types, &parts.specs)?;
+        let rows = SignalRows::new(alloc, &parts.types, &parts.signals)?;
+        Ok(Definition {
             types: parts.types,
             specs: parts.specs,
             signals: parts.signals,
@@ -83,7 +93,9 @@ impl Definition {
             objects: parts.objects,
             bindings: parts.bindings,
             limits: parts.limits,
-        }
+            slots,
+            rows,
+        })
     }
 
     /// Its types. Some bytes denote the definition.
@@ -175,10 +187,11 @@ impl Definition {
     pub fn spec(&self, class: TypeId, slot: Slot) -> Option<&Spec>
         ensures { option_map (λ s. spec_view s.now) result ≡ spec_of self.now class slot }
     {
-        if usize::from(slot) >= self.slots(class) {
+        if class.index() >= self.types.len() {
             return None;
         }
-        Some(self.specs.spec(&self.types, class, slot))
+        let place = self.slots.place(class, usize::from(slot))?;
+        Some(self.specs.own_spec(place.owner, usize::from(place.at)))
     }
 
     /// How many properties a class has, inherited ones among them.
@@ -190,7 +203,7 @@ impl Definition {
         if class.index() >= self.types.len() {
             return 0;
         }
-        self.specs.slots_of(&self.types, class)
+        self.slots.count(class)
     }
 
     /// The slot of the property of a class that a name names, in either spelling.
@@ -220,7 +233,8 @@ impl Definition {
         if class.index() >= self.types.len() {
             return None;
         }
-        self.signals.signal(&self.types, class, number)
+        self.signals
+            .signal_in(&self.rows, &self.types, class, number)
     }
 
     /// How many signals a class has, `notify` among them.
@@ -231,7 +245,7 @@ impl Definition {
         if class.index() >= self.types.len() {
             return 0;
         }
-        self.signals.signal_count(&self.types, class)
+        self.rows.count(class) + 1
     }
 
     /// The program that a class runs for the signal of a number: its own, or that of its nearest ancestor that names one.

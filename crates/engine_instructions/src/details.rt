@@ -1,6 +1,6 @@
 //! Details of signals that programs name (GObject manual, Signals: `signal::detail`).
 
-ghost use Rattle.std.specs.Prelude.{◌≡◌, Ok, Some, IfOk, IfSome, option_map, string_bytes};
+ghost use Rattle.std.specs.Prelude.{◌≡◌, ◌==◌, None, Ok, Some, IfOk, if◌then◌else◌, option_map, string_bytes};
 ghost use Rattle.ui_machine.specs.Rules.Connections.{detail_in};
 ghost use Rattle.linked_programs.specs.Linked.{IsDetail};
 ghost use Rattle.linked_programs.specs.Linked as linked;
@@ -41,7 +41,7 @@ fn property_named(
 
 // The detail of a notification: that of any other signal is none.
 fn notified(signal: SignalId, detail: Option<&str>) -> Option<&str>
-    ensures { IfSome result (λ text. (signal ≡ 0) × (detail.entry ≡ Some text)) }
+    ensures { result ≡ (if signal == 0 then detail.entry else None) }
 {
     if signal == 0 { detail } else { None }
 }

@@ -203,7 +203,10 @@ pub fn begin_emission(
         args,
         by_event,
     } = emission;
-    let Some(planned) = definition.emission(class, object, signal, detail) else {
+    let Some(planned) = engine
+        .links
+        .emission(definition, class, object, signal, detail)
+    else {
         unreachable!()
     };
     let transfers = Transfers::new(engine.alloc);

@@ -56,7 +56,10 @@ pub fn notify(
         unreachable!()
     };
     let name = String::from_str(engine.alloc, spec.name.as_str())?;
-    let Some(emission) = definition.emission(class, object, NOTIFY, Some(name)) else {
+    let Some(emission) = engine
+        .links
+        .emission(definition, class, object, NOTIFY, Some(name))
+    else {
         unreachable!()
     };
     let told = Line::Notify {

@@ -2,9 +2,10 @@
 use Rattle.std.proofs.Common.{◌≡◌, ℕ, zero, suc, ◌+◌, ◌≤◌, Bool, true, false, cond, nat_eq, nat_lt, ◌&&◌, List, [], ◌∷◌, length, take, Option, None, Some, slice_get, refl, sym, ap, ◌∙◌, arith}
 use Rattle.std.proofs.lemmas.Bool.Decides.{nat_tests}
 use Rattle.ui_machine.specs.Definition.{Definition}
-use Rattle.ui_machine.specs.Definition.Lookups.{no_class}
+use Rattle.ui_machine.specs.Definition.Lookups.{class_of, no_class}
 use Rattle.ui_machine.specs.Definition.Names.{place_from, place_named, same_name}
-use Rattle.ui_machine.specs.Rules.EmissionPlan.{or_else}
+use Rattle.ui_machine.specs.Definition.Signals.{ClassHandler}
+use Rattle.ui_machine.specs.Rules.EmissionPlan.{handler_in, or_else}
 use Rattle.name_tables.specs.Names.{Adds, Named, number_of, with_number}
 use Rattle.linked_programs.specs.Steps.{AddsAll, signal_called, slot_called}
 use Rattle.linked_programs.proofs.Reading.{read-past}
@@ -40,6 +41,25 @@ module _ {A : Type 0} (name_of : A → List ℕ) (name : List ℕ) where
   place_named-more xs n x at =
       let none_before : 0 + n ≡ n = omega arith in
       place_from-more 0 xs n x at ∙ ap (λ k. with_number (same_name (name_of x) name) k (place_named name_of (take n xs) name)) none_before
+
+-- the first program of a name, with one more
+pub handler_in-more : (name : List ℕ) (hs : List ClassHandler) (n : ℕ) (h : ClassHandler) → slice_get hs n ≡ Some h
+    → handler_in (take (suc n) hs) name ≡ with_number (same_name h.signal name) h.program (handler_in (take n hs) name)
+handler_in-more name [] n h at = cc
+handler_in-more name (y ∷ hs) zero h at = let is : y ≡ h = cc in ap (λ (z : ClassHandler). cond (same_name z.signal name) (Some z.program) None) is
+handler_in-more name (y ∷ hs) (suc n) h at = by (same_name y.signal name) (handler_in-more name hs n h at)
+  where
+    by : (b : Bool) → handler_in (take (suc n) hs) name ≡ with_number (same_name h.signal name) h.program (handler_in (take n hs) name)
+        → cond b (Some y.program) (handler_in (take (suc n) hs) name) ≡ with_number (same_name h.signal name) h.program (cond b (Some y.program) (handler_in (take n hs) name))
+    by true rest = refl
+    by false rest = rest
+
+-- the first of a list are all, where it has no more
+pub take_past : {A : Type 0} (xs : List A) (n : ℕ) → length xs ≤ n → take n xs ≡ xs
+take_past [] zero past = refl
+take_past [] (suc n) past = refl
+take_past (x ∷ xs) zero past = absurd (omega (arith, past))
+take_past (x ∷ xs) (suc n) past = ap (λ l. x ∷ l) (take_past xs n (omega (arith, past)))
 
 -- ** the names of a class
 
@@ -89,3 +109,6 @@ module _ (d : Definition) (c : ℕ) (past : length d.classes ≤ c) (n : List �
 
   pub no_signals : signal_called d c n ≡ None
   no_signals = ap (λ class. place_named (λ s. s.name) class.signals n) (read-past no_class d.classes c past)
+
+  pub no_handlers : handler_in (class_of d c).handlers n ≡ None
+  no_handlers = ap (λ class. handler_in class.handlers n) (read-past no_class d.classes c past)

@@ -2,4 +2,4 @@ mod Adding
 mod AllLinked
 mod Linking
 mod Reading
-mod Spelled
+mod Handling

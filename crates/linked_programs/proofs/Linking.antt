@@ -36,6 +36,10 @@ pub item_seen : {X A : Type 0} (view : X → A) (xs items : List X) (i : ℕ) (x
 item_seen view xs items i x all within is =
     ap (λ l. slice_get (map view l) i) (sym all) ∙ slice_get-map view items i ∙ ap (option_map view) (slice_get_read items (length items) i x refl within is)
 
+-- what an index gives, where another list is meant
+pub got_read : {A : Type 0} (xs ys : List A) (i : ℕ) (x : A) → xs ≡ ys → i < length xs → x ≡ get_or xs i x → slice_get ys i ≡ Some x
+got_read xs ys i x same small is = ap (λ l. slice_get l i) (sym same) ∙ slice_get_read xs (length xs) i x refl small is
+
 -- one more of what is seen
 pub seen_more : {X A : Type 0} (view : X → A) (xs new : List X) (x : X) → new ≡ xs ++ x ∷ [] → map view new ≡ map view xs ++ view x ∷ []
 seen_more view xs new x more = ap (map view) more ∙ map-append view xs (x ∷ [])

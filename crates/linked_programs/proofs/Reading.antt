@@ -18,6 +18,15 @@ past items xs i j all place over = let same = ap length all in omega (arith, sam
 
 -- ** what is read
 
+-- an index reads what is there, and a default past the end
+pub get_or-read : {A : Type 0} (none : A) (xs : List A) (i j : ℕ) → i ≡ j → get_or xs i none ≡ read none xs j
+get_or-read {A = A} none xs i j same = at xs i ∙ ap (read none xs) same
+  where
+    at : (ys : List A) (k : ℕ) → get_or ys k none ≡ read none ys k
+    at [] k = refl
+    at (y ∷ ys) zero = refl
+    at (y ∷ ys) (suc k) = at ys k
+
 read-there : {A : Type 0} (none : A) (xs : List A) (i : ℕ) (x : A) → slice_get xs i ≡ Some x → read none xs i ≡ x
 read-there none [] i x at = cc
 read-there none (y ∷ xs) zero x at = cc
@@ -33,6 +42,18 @@ seen-there view none xs i x at = read-there none (map view xs) i (view x) (slice
 
 seen-past : {A B : Type 0} (view : A → B) (none : B) (xs : List A) (i : ℕ) → length xs ≤ i → read none (map view xs) i ≡ none
 seen-past view none xs i over = let same = length-map xs view in read-past none (map view xs) i (omega (arith, same, over))
+
+-- a row, as it is seen
+pub row_there : {V B : Type 0} (items : V → List B) (rows : List V) (i j : ℕ) (d : V) → i ≡ j → i < length rows → items (get_or rows i d) ≡ read [] (map items rows) j
+row_there {V = V} items rows i j d same small = at rows i small ∙ ap (read [] (map items rows)) same
+  where
+    at : (vs : List V) (k : ℕ) → k < length vs → items (get_or vs k d) ≡ read [] (map items vs) k
+    at [] k lt = absurd (omega (arith, lt))
+    at (v ∷ vs) zero lt = refl
+    at (v ∷ vs) (suc k) lt = at vs k (omega (arith, lt))
+
+pub row_past : {V B : Type 0} (items : V → List B) (rows : List V) (i : ℕ) → length rows ≤ i → read [] (map items rows) i ≡ []
+row_past items rows i over = let same = length-map rows items in read-past [] (map items rows) i (omega (arith, same, over))
 
 module _ {P B : Type 0} (blocks_of : P → List B) (links_of : B → List Link) (programs : List P) (program block at : ℕ) where
   -- the links of programs, as they are seen

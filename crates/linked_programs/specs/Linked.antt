@@ -6,17 +6,19 @@ use Rattle.ui_machine.specs.Definition.Programs.{Block, Connect, Instruction, Pr
 use Rattle.ui_machine.specs.Definition.Programs as words
 use Rattle.ui_machine.specs.Definition.Lookups.{place_of, program_at, program_of, slot_of}
 use Rattle.ui_machine.specs.Rules.Connections.{signal_number}
+use Rattle.ui_machine.specs.Rules.EmissionPlan.{class_handler_of, signal_of}
 use Rattle.ui_machine.specs.Seq.{read}
 use Rattle.name_tables.specs.Names.{Named, number_by, number_of}
 use Rattle.linked_programs.specs.declared.link.Link.{Link}
 use Rattle.ui_machine.specs.declared.ids.Place.{Place}
 use Rattle.linked_programs.specs.declared.link.Link.TheVariants as links
 
--- what is kept of a definition: the names of its properties and of its signals, and of each instruction of each block of each program what its
--- names mean
+-- what is kept of a definition: the names of its properties and of its signals, the programs that its classes run for signals, by class and
+-- number, and of each instruction of each block of each program what its names mean
 pub record Linked : Type 0 where
   pub slots : List Named
   pub signals : List Named
+  pub handlers : List (List (Option ℕ))
   pub programs : List (List (List Link))
 
 -- the names of properties are those of a definition, with their slots
@@ -26,6 +28,14 @@ AreSlots d names = (class : ℕ) (name : List ℕ) → number_of names class (ca
 -- the names of signals are those of a definition, with their numbers
 abbrev pub AreSignals : Definition → List Named → Type 0
 AreSignals d names = (class : ℕ) (name : List ℕ) → number_of names class (canonical name) ≡ signal_number d class name
+
+-- the program that a class runs for the signal of a number
+abbrev pub handler_at : List (List (Option ℕ)) → ℕ → ℕ → Option ℕ
+handler_at handlers class number = read None (read [] handlers class) number
+
+-- a class runs for each of its signals the program that it names itself, or that its nearest ancestor names that names one
+abbrev pub AreHandlers : Definition → List (List (Option ℕ)) → Type 0
+AreHandlers d handlers = (class number : ℕ) → IfSome (signal_of d class number) (λ s. handler_at handlers class number ≡ class_handler_of d class s.name)
 
 -- ** what one name means
 
@@ -112,8 +122,9 @@ instruction_at d program block at =
 abbrev pub link_at : List (List (List Link)) → ℕ → ℕ → ℕ → Link
 link_at ls program block at = read links.Nothing (read [] (read [] ls program) block) at
 
--- Each instruction has its link, and the tables have the names of all properties and signals.
+-- Each instruction has its link, the tables have the names of all properties and signals, and each class has its programs for signals.
 pub record AreLinked (d : Definition) (l : Linked) : Type 0 where
   pub slots : AreSlots d l.slots
   pub signals : AreSignals d l.signals
+  pub handlers : AreHandlers d l.handlers
   pub at : (program block at : ℕ) → IfSome (instruction_at d program block at) (λ i. IsLink d l i (link_at l.programs program block at))

@@ -6,7 +6,7 @@ use Rattle.ui_machine.specs.Definition.Names.{place_named}
 use Rattle.ui_machine.specs.Definition.Programs.{Block, Program}
 use Rattle.ui_machine.specs.Definition.Properties.{Spec}
 use Rattle.ui_machine.specs.Definition.Signals.{Signal}
-use Rattle.ui_machine.specs.Rules.EmissionPlan.{or_else}
+use Rattle.ui_machine.specs.Rules.EmissionPlan.{class_handler_of, or_else}
 use Rattle.name_tables.specs.Names.{Named, number_of}
 use Rattle.linked_programs.specs.Linked.{IsLink, Linked}
 use Rattle.linked_programs.specs.declared.link.Link.{Link}
@@ -26,11 +26,21 @@ abbrev pub AddsAll : List Named → List Named → ℕ → (List ℕ → Option 
 AddsAll old new class called =
     (c : ℕ) (n : List ℕ) → number_of new c n ≡ cond (nat_eq c class) (or_else (number_of old c n) (called n)) (number_of old c n)
 
+-- ** class handlers
+
+-- the programs under the names of signals are those that classes run for these
+abbrev pub AreHandlerNames : Definition → List Named → Type 0
+AreHandlerNames d names = (class : ℕ) (name : List ℕ) → number_of names class name ≡ class_handler_of d class name
+
+-- it is what a class runs for a signal
+abbrev pub IsHandler : Definition → ℕ → Signal → Option ℕ → Type 0
+IsHandler d class s program = program ≡ class_handler_of d class s.name
+
 -- ** links
 
 -- the tables alone: no link depends on the links of programs
 abbrev pub tables : List Named → List Named → Linked
-tables slots signals = record { slots = slots; signals = signals; programs = [] }
+tables slots signals = record { slots = slots; signals = signals; handlers = []; programs = [] }
 
 -- two lists are equally long, and what is at one place of both is related
 abbrev pub ArePairwise : {A B : Type 0} → (A → B → Type 0) → List A → List B → Type 0

@@ -4,11 +4,11 @@
 //! the class of the object that the instruction acts on, so that it is linked to a place in a table of names; the others have one meaning.
 #![tactic(auto)]
 
+mod class_handlers;
 mod class_names;
 mod link;
 mod links;
 mod programs;
-mod spelling;
 
 pub use link::Link;
 pub use links::Links;

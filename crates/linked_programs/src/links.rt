@@ -1,19 +1,26 @@
 //! What the names in a definition's programs mean.
 
-ghost use Rattle.std.specs.Prelude.{◌≡◌, IfOk, option_map, slice_get};
+ghost use Rattle.std.specs.Prelude.{◌≡◌, ℕ, None, IfOk, option_map, slice_get, string_bytes};
+ghost use Rattle.ui_machine.specs.Rules.EmissionPlan.{signal_of};
+ghost use Rattle.ui_machine.specs.Seq.{read};
+ghost use Rattle.signal_core.specs.Emission.{begun};
+ghost use Rattle.signal_core.specs.Laws.{walk_for};
+ghost use Rattle.definition_format.specs.Meaning.{planned};
 ghost use Rattle.name_tables.specs.Names.{number_by};
-ghost use Rattle.linked_programs.specs.Linked.{AreLinked, link_at};
+ghost use Rattle.linked_programs.specs.Linked.{AreLinked, handler_at, link_at};
 
+use crate::class_handlers::class_handlers;
 use crate::class_names::{signal_names, slot_names};
 use crate::link::Link;
 use crate::programs::link_programs;
 use bytecode::BlockNumber;
 use definitions::Definition;
 use name_tables::{NameId, NameTable};
+use signal_core::Emission;
 use std::alloc::{AllocError, Global};
 use std::marker::Model;
 use type_tree::TypeId;
-use ui_machine::{ProgramId, SignalId, Slot};
+use ui_machine::{ObjectId, ProgramId, SignalId, Slot};
 
 /// What the names in a definition's programs mean: the slots and numbers of properties and signals, by class and name, and the link of each
 /// instruction.
@@ -21,6 +28,8 @@ use ui_machine::{ProgramId, SignalId, Slot};
 pub struct Links {
     slots: NameTable,
     signals: NameTable,
+    /// The programs that classes run for signals, by class and the signal's number.
+    handlers: Vec<Vec<Option<ProgramId>>>,
     /// By program, block and instruction.
     programs: Vec<Vec<Vec<Link>>>,
 }
@@ -31,7 +40,7 @@ impl Model for Links {
 
     ghost Value = { Linked };
 
-    ghost view = { λ l. record { slots = l.slots; signals = l.signals; programs = map (λ p. map (λ b. b.items) p.items) l.programs.items } };
+    ghost view = { λ l. record { slots = l.slots; signals = l.signals; handlers = map (λ row. row.items) l.handlers.items; programs = map (λ p. map (λ b. b.items) p.items) l.programs.items } };
 }
 
 impl Links {
@@ -45,10 +54,12 @@ impl Links {
     {
         let slots = slot_names(alloc, definition)?;
         let signals = signal_names(alloc, definition)?;
+        let handlers = class_handlers(alloc, definition)?;
         let programs = link_programs(alloc, definition, &slots, &signals)?;
         Ok(Links {
             slots,
             signals,
+            handlers,
             programs,
         })
     }
@@ -83,10 +94,63 @@ impl Links {
         self.signals.number(class, name?)
     }
 
+    // The program that a class runs for the signal of a number.
+    fn class_handler(&self, class: TypeId, number: SignalId) -> Option<ProgramId>
+        ensures { result ≡ handler_at self.now.handlers class number }
+    {
+        let at = class.index();
+        if at < self.handlers.len() {
+            program_at(&self.handlers[at], number)
+        } else {
+            None
+        }
+    }
+
+    /// What an emission by an object begins with: of the signal of its class of a number, with a detail. `None` where the class has no signal
+    /// of the number. The links are those of the definition.
+    pub fn emission(
+        &self,
+        definition: &Definition,
+        class: TypeId,
+        object: ObjectId,
+        number: SignalId,
+        detail: Option<String>,
+    ) -> Option<Emission>
+        requires { AreLinked definition.now self.now }
+        ensures { (greatest : ℕ) → option_map (λ e. begun e greatest) result
+            ≡ option_map (λ s. walk_for greatest s.accumulator
+            (planned definition.now class object.0 number (option_map (λ text. string_bytes text) detail) s))
+            (signal_of definition.now class number) }
+    {
+        match definition.signal(class, number) {
+            Some(signal) => Some(Emission {
+                object,
+                signal: number,
+                detail,
+                flags: signal.flags,
+                accumulator: signal.accumulator,
+                class_program: self.class_handler(class, number),
+            }),
+            None => None,
+        }
+    }
+
     /// The name of a property, in canonical spelling.
     pub fn property_name(&self, name: NameId) -> Option<&str>
         ensures { option_map (λ text. text.now) result ≡ option_map (λ n. n.name) (slice_get self.now.slots name) }
     {
         self.slots.name(name)
+    }
+}
+
+// The program of a number, if one is there.
+fn program_at(programs: &[Option<ProgramId>], number: SignalId) -> Option<ProgramId>
+    ensures { result ≡ read None programs.now number }
+{
+    let at = usize::from(number);
+    if at < programs.len() {
+        programs[at]
+    } else {
+        None
     }
 }

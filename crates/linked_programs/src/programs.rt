@@ -8,13 +8,13 @@ ghost use Rattle.linked_programs.specs.Linked.{AreSignals, AreSlots, IsDetail, I
 ghost use Rattle.linked_programs.specs.Steps.{LinksBlock, LinksBlocks, LinksPrograms, tables};
 
 use crate::link::Link;
-use crate::spelling::canonical_text;
 use bytecode::{
     Block, Connection, Instruction, ObjectInstruction, Program, PropertyInstruction,
     SignalInstruction, SourceInstruction,
 };
 use definitions::Definition;
 use name_tables::{NameId, NameTable};
+use signal_core::canonical_text;
 use std::alloc::{AllocError, Global};
 
 /// What the names in a definition's programs are looked up in: the definition, and the tables of all its properties and signals.

@@ -4,9 +4,10 @@ use Rattle.std.specs.Prelude.{IfSome, codes}
 use Rattle.ui_machine.specs.Definition.Lookups.{slot_of}
 use Rattle.ui_machine.specs.Definition.Names.{canonical, same_name}
 use Rattle.ui_machine.specs.Rules.Connections.{signal_number}
+use Rattle.ui_machine.specs.Rules.EmissionPlan.{class_handler_of, signal_of}
 use Rattle.law_worked.specs.Gathering.{definition}
 use Rattle.name_tables.specs.Names.{number_by, number_of}
-use Rattle.linked_programs.specs.Linked.{IsLink, IsProperty, instruction_at, link_at}
+use Rattle.linked_programs.specs.Linked.{IsLink, IsProperty, handler_at, instruction_at, link_at}
 use Rattle.linked_worked.specs.LinkedGathering.{GatheringLinked, linked}
 
 -- ** names
@@ -81,6 +82,19 @@ signals (suc (suc zero)) name = notified_2 (is_notify name)
 signals (suc (suc (suc zero))) name = notified_3 (is_notify name)
 signals (suc (suc (suc (suc class)))) name = past_fourth class (is_notify name)
 
+-- ** class handlers
+
+handlers : (class number : ℕ) → IfSome (signal_of definition class number) (λ s. handler_at linked.handlers class number ≡ class_handler_of definition class s.name)
+handlers zero zero = refl
+handlers zero (suc number) = tt
+handlers (suc zero) zero = refl
+handlers (suc zero) (suc number) = tt
+handlers (suc (suc zero)) zero = refl
+handlers (suc (suc zero)) (suc number) = tt
+handlers (suc (suc (suc zero))) zero = refl
+handlers (suc (suc (suc zero))) (suc number) = tt
+handlers (suc (suc (suc (suc class)))) number = tt
+
 -- ** instructions
 
 sets_amount : IsProperty definition linked (codes "amount") (Some 1)
@@ -108,4 +122,4 @@ at (suc zero) (suc block) n = tt
 at (suc (suc program)) block n = tt
 
 pub met : GatheringLinked
-met = record { slots = slots; signals = signals; at = at }
+met = record { slots = slots; signals = signals; handlers = handlers; at = at }

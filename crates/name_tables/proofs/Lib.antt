@@ -1,3 +1,4 @@
 pub mod Lookups
 pub mod Rows
 pub mod Numbers
+pub mod Inherited

@@ -1,6 +1,9 @@
 -- Names, each with the numbers that it has in classes.
 use Rattle.std.specs.Prelude.{◌≡◌, ℕ, Bool, cond, nat_eq, ◌&&◌, List, Option, None, Some, option_and_then, slice_get}
 use Rattle.ui_machine.specs.Definition.Names.{place_named, same_name}
+use Rattle.ui_machine.specs.Definition.Types.{GType}
+use Rattle.ui_machine.specs.Rules.Ancestry.{lineage}
+use Rattle.ui_machine.specs.Rules.EmissionPlan.{first_given}
 use Rattle.ui_machine.specs.Seq.{read}
 
 -- a name, and the number that it has in each class, by class
@@ -37,3 +40,11 @@ Adds old new class name number =
 -- no name's number differs
 abbrev pub SameNumbers : List Named → List Named → Type 0
 SameNumbers old new = (c : ℕ) (n : List ℕ) → number_of new c n ≡ number_of old c n
+
+-- the number that a class or else its nearest ancestor has a name under
+abbrev pub inherited_number : List GType → List Named → ℕ → List ℕ → Option ℕ
+inherited_number types names class name = first_given (λ c. number_of names c name) (lineage types class)
+
+-- each class has what it or its nearest ancestor had
+abbrev pub Inherits : List GType → List Named → List Named → Type 0
+Inherits types old new = (c : ℕ) (n : List ℕ) → number_of new c n ≡ inherited_number types old c n

@@ -1,5 +1,8 @@
--- What the steps of an addition do to names and to a name's numbers.
-use Rattle.std.specs.Prelude.{◌≡◌, ℕ, nat_eq, cond, is_some, List, [], ◌∷◌, ◌++◌, Option, None}
+-- What the steps of an addition and of an inheritance do to names and to a name's numbers.
+use Rattle.std.specs.Prelude.{◌≡◌, ℕ, nat_eq, cond, is_some, List, [], ◌∷◌, ◌++◌, Option, None, option_and_then}
+use Rattle.ui_machine.specs.Definition.Types.{GType}
+use Rattle.ui_machine.specs.Rules.Ancestry.{lineage, parent_of}
+use Rattle.ui_machine.specs.Rules.EmissionPlan.{first_given, or_else}
 use Rattle.ui_machine.specs.Seq.{read}
 use Rattle.name_tables.specs.Names.{Named, place_of, with_number}
 
@@ -14,3 +17,15 @@ ReadsSame old new = (c : ℕ) → read None new c ≡ read None old c
 -- no class's number differs but that of one class, which got this number unless it had one
 abbrev pub GivesNumber : List (Option ℕ) → List (Option ℕ) → ℕ → ℕ → Type 0
 GivesNumber old new class number = (c : ℕ) → read None new c ≡ with_number (nat_eq c class) number (read None old c)
+
+-- the number of a class's parent
+abbrev pub parent_number : List GType → List (Option ℕ) → ℕ → Option ℕ
+parent_number types numbers class = option_and_then (read None numbers) (parent_of types class)
+
+-- no class's number differs but that of one class, which got its parent's unless it had one
+abbrev pub InheritsNumber : List GType → List (Option ℕ) → List (Option ℕ) → ℕ → Type 0
+InheritsNumber types old new class = (c : ℕ) → read None new c ≡ cond (nat_eq c class) (or_else (read None old class) (parent_number types old class)) (read None old c)
+
+-- each class has the number that it or its nearest ancestor had
+abbrev pub InheritsNumbers : List GType → List (Option ℕ) → List (Option ℕ) → Type 0
+InheritsNumbers types old new = (c : ℕ) → read None new c ≡ first_given (read None old) (lineage types c)

@@ -1,13 +1,13 @@
 //! Names, each with the numbers that it has in classes.
 
 ghost use Rattle.std.specs.Prelude.{◌≡◌, [], Some, IfOk, IfSome, OnErr, OnOk, option_map, slice_get};
-ghost use Rattle.name_tables.specs.Names.{Adds, SameNumbers, number_at, place_of};
-ghost use Rattle.name_tables.specs.Steps.{GivesNumber, ReadsSame, with_name};
+ghost use Rattle.name_tables.specs.Names.{Adds, Inherits, SameNumbers, number_at, place_of};
+ghost use Rattle.name_tables.specs.Steps.{GivesNumber, InheritsNumber, InheritsNumbers, ReadsSame, parent_number, with_name};
 
 use indexmap::IndexMap;
 use std::alloc::{AllocError, Global};
 use std::marker::Model;
-use type_tree::TypeId;
+use type_tree::{TypeId, TypeTree};
 
 /// A name of a table, by its place in it.
 pub type NameId = usize;
@@ -68,6 +68,20 @@ impl NameTable {
         Ok(place)
     }
 
+    /// Each class that has no number of its own under a name gets that of its parent, if its parent has one, from the root down.
+    ///
+    /// # Errors
+    ///
+    /// `AllocError` if memory is refused.
+    pub fn inherit(&mut self, tree: &TypeTree) -> Result<(), AllocError>
+        ensures { OnOk result (Inherits tree.now self.old self.new) }
+    {
+        'names: for at in 0..self.names.len() {
+            inherit_numbers(&mut self.names[at], tree)?;
+        }
+        Ok(())
+    }
+
     /// Where a name is, if some class has it.
     pub fn find(&self, name: &str) -> Option<NameId>
         ensures found { result ≡ place_of self.now name.now }
@@ -105,4 +119,38 @@ fn give_number(numbers: &mut Vec<Option<u16>>, place: usize, number: u16) -> Res
         numbers[place] = Some(number);
     }
     Ok(())
+}
+
+// Each class without a number gets that of its parent, from the root down.
+fn inherit_numbers(numbers: &mut Vec<Option<u16>>, tree: &TypeTree) -> Result<(), AllocError>
+    ensures { OnOk result (InheritsNumbers tree.now numbers.old.items numbers.new.items) }
+{
+    // For the proof: a tree has few types, and parents come before their children.
+    let _root = tree.parent(TypeId::new(0));
+    'classes: for class in 0..tree.len() {
+        inherit_number(numbers, tree, TypeId::new(class as u16))?;
+    }
+    Ok(())
+}
+
+// A class without a number gets that of its parent, if its parent has one.
+fn inherit_number(
+    numbers: &mut Vec<Option<u16>>,
+    tree: &TypeTree,
+    class: TypeId,
+) -> Result<(), AllocError>
+    ensures { OnOk result (InheritsNumber tree.now numbers.old.items numbers.new.items class) }
+{
+    match parent_number(numbers, tree, class) {
+        Some(number) => give_number(numbers, class.index(), number),
+        None => Ok(()),
+    }
+}
+
+// The number of a class's parent.
+fn parent_number(numbers: &[Option<u16>], tree: &TypeTree, class: TypeId) -> Option<u16>
+    ensures { result ≡ parent_number tree.now numbers.now class }
+{
+    let parent = tree.parent(class)?;
+    *numbers.get(parent.index())?
 }

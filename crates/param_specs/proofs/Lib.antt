@@ -1,4 +1,5 @@
 pub mod Specs
+pub mod SlotRows
 pub mod Same
 pub mod Lists
 pub mod First

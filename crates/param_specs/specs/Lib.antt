@@ -3,3 +3,4 @@ pub mod View
 pub mod Table
 pub mod Validation
 pub mod Overriding
+pub mod SlotRows

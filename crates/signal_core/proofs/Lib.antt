@@ -17,3 +17,4 @@ pub mod Naming
 pub mod Inherited
 pub mod Telling
 pub mod Dashed
+pub mod PlacesOfSignals

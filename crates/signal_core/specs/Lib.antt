@@ -7,3 +7,4 @@ pub mod SignalView
 pub mod Sources
 pub mod Table
 pub mod TableLaws
+pub mod SignalRows

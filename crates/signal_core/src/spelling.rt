@@ -5,8 +5,12 @@ ghost use Rattle.ui_machine.specs.Definition.Names.{canonical};
 
 use std::alloc::{AllocError, Global};
 
-/// A text with `-` for `_`.
-pub(crate) fn canonical_text(alloc: Global, text: &str) -> Result<String, AllocError>
+/// A text with `-` for `_`, which is the canonical spelling of a name.
+///
+/// # Errors
+///
+/// `AllocError` if memory is refused.
+pub fn canonical_text(alloc: Global, text: &str) -> Result<String, AllocError>
     ensures { IfOk result (λ s. string_bytes s ≡ canonical text.now) }
 {
     let mut out = String::new(alloc);

@@ -1,9 +1,11 @@
 //! Which signals the types have, and the programs that classes name for them.
 
-ghost use Rattle.std.specs.Prelude.{◌≡◌, ◌*◌, ◌+◌, ◌<◌, ◌≤◌, [], None, Some, IfErr, IfNone, IfOk, IfSome, OnErr, OnOk, length, map, option_and_then, option_map, position, slice_get, string_bytes, true};
+ghost use Rattle.std.specs.Prelude.{◌≡◌, ◌*◌, ◌+◌, ◌<◌, ◌≤◌, ◌++◌, List, [], None, Some, IfErr, IfNone, IfOk, IfSome, OnErr, OnOk, length, map, option_and_then, option_map, position, slice_get, string_bytes, true};
 ghost use Rattle.ui_machine.specs.Definition.Names.{canonical, place_named, same_name};
+ghost use Rattle.ui_machine.specs.Definition.Signals as signals;
 ghost use Rattle.ui_machine.specs.Words as machine;
 ghost use Rattle.type_tree.specs.Tree.{IsTree};
+ghost use Rattle.signal_core.specs.SignalRows.{ArePlaces, HasSignals};
 ghost use Rattle.signal_core.specs.SignalView.{declared_view, signal_view};
 ghost use Rattle.signal_core.specs.Sources.{AreMarked, added_at, brought_by, brought_until, declared_of, declared_until, number_named, own_of, signals_of};
 ghost use Rattle.signal_core.specs.Table.{AddsHandler, AddsSignal, RenamesHandlers, SameHandlers, SameSignals, line_count, named_of, nothing_declared, with_program};
@@ -12,6 +14,7 @@ use crate::class_handler::ClassHandler;
 use crate::flags::SignalFlags;
 use crate::growing::add;
 use crate::signal::{DeclaredSignal, Signal};
+use crate::signal_rows::{SignalPlace, SignalRows, add_places};
 use crate::sources::{ancestor, came_before, mark, root, source_at, source_count, unmarked};
 use std::alloc::{AllocError, Global};
 use std::marker::Model;
@@ -255,6 +258,95 @@ impl SignalTable {
             mark(tree, t, at, marks);
         }
         Err(count)
+    }
+
+    /// The signal of a number, by where the signals of all types are: `None` where the type has not so many.
+    pub fn signal_in(
+        &self,
+        rows: &SignalRows,
+        tree: &TypeTree,
+        t: TypeId,
+        number: SignalId,
+    ) -> Option<DeclaredSignal<'_>>
+        requires rows { HasSignals tree.now self.now.signals rows.now }
+        requires known { t < length tree.now }
+        ensures { option_map declared_view result ≡ slice_get (signals_of tree.now self.now.signals t) number }
+    {
+        let _ = &self.own;
+        if number == 0 {
+            return Some(notify());
+        }
+        let place = rows.place(t, number as usize - 1)?;
+        Some(declared(&self.own(place.owner)[place.at as usize]))
+    }
+
+    // Where the signals of a type are that were declared.
+    pub(crate) fn places(
+        &self,
+        alloc: Global,
+        tree: &TypeTree,
+        t: TypeId,
+    ) -> Result<Vec<SignalPlace>, AllocError>
+        ensures places { IfOk result (λ places. ArePlaces self.now.signals places.items (declared_of tree.now self.now.signals t)) }
+        ensures few { IfOk result (λ places. length places.items ≤ 16384) }
+    {
+        let _ = &self.own;
+        let mut places = Vec::new(alloc);
+        let (mut class, mut height) = root(tree, t);
+        let mut marks = unmarked();
+        'line: loop {
+            self.add_brought(&mut places, tree, class, &mut marks)?;
+            if height == 0 {
+                return Ok(places);
+            }
+            height -= 1;
+            class = ancestor(tree, t, height);
+        }
+    }
+
+    // Adds where the signals are that a type brings, to those of its ancestors. What these bring is marked; then what the type brings is marked
+    // too.
+    fn add_brought(
+        &self,
+        places: &mut Vec<SignalPlace>,
+        tree: &TypeTree,
+        t: TypeId,
+        marks: &mut [bool],
+    ) -> Result<(), AllocError>
+        requires above { ArePlaces self.now.signals places.old.items (declared_until tree.now self.now.signals t 0) }
+        requires marks { AreMarked marks.old (brought_until tree.now t 0) }
+        ensures places { OnOk result (ArePlaces self.now.signals places.new.items (declared_of tree.now self.now.signals t)) }
+        ensures marks { OnOk result (AreMarked marks.new (brought_until tree.now t (length (brought_by tree.now t)))) }
+    {
+        let _ = &self.own;
+        for at in 0..source_count(tree, t) {
+            self.add_source(places, tree, t, at, marks)?;
+            mark(tree, t, at, marks);
+        }
+        Ok(())
+    }
+
+    // Adds where the signals are that come with what a type brings at a place. What was brought before is marked.
+    fn add_source(
+        &self,
+        places: &mut Vec<SignalPlace>,
+        tree: &TypeTree,
+        t: TypeId,
+        at: usize,
+        marks: &[bool],
+    ) -> Result<(), AllocError>
+        requires place { at < length (brought_by tree.now t) }
+        requires marks { AreMarked marks.now (brought_until tree.now t at) }
+        ensures { (before : List signals.Signal) → ArePlaces self.now.signals places.old.items before
+            → OnOk result (ArePlaces self.now.signals places.new.items (before ++ added_at tree.now self.now.signals t at)) }
+    {
+        let _ = &self.own;
+        if came_before(tree, t, at, marks) {
+            return Ok(());
+        }
+        let source = source_at(tree, t, at);
+        add_places(places, source, self.own(source).len())?;
+        Ok(())
     }
 
     /// How many signals a type has, `notify` among them.

@@ -53,6 +53,9 @@ unreachable-requires c =
     let none = sym c.signal.ensures ∙ ap (option_map declared_view) c.in_default.is in
     no_arm (beginning_emission d w (new_of m)) _ able (begin_unknown d w (new_of m) _ (rw c.count.ensures at c.class_of-class.ensures) none)
 
+pub emission-requires : goal.emission-requires
+emission-requires c = rw c.count.ensures c.requires.counted.links
+
 pub unreachable-requires-in_default-emission : goal.unreachable-requires-in_default-emission
 unreachable-requires-in_default-emission c =
     let d = c.args.definition.now in

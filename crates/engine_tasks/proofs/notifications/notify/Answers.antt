@@ -54,6 +54,9 @@ unreachable-requires c =
     let none = sym c.spec.ensures ∙ ap (option_map (λ (s : Bor Spec). spec_view s.now)) c.in_default.is in
     no_arm (notifying d w id c.args.slot) _ able (unnamed d w id c.args.slot _ (rw c.count.ensures at c.class_of-class.ensures) none)
 
+pub emission-requires : goal.emission-requires
+emission-requires c = rw c.count.ensures c.requires.counted.counts.links
+
 pub unreachable-requires-in_default-emission : goal.unreachable-requires-in_default-emission
 unreachable-requires-in_default-emission c =
     let d = c.args.definition.now in

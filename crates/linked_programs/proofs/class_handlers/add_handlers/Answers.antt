@@ -1,0 +1,31 @@
+use Rattle.std.proofs.Common.{◌≡◌, ◌+◌, List, suc, length, take, sym, ap, subst, ◌∙◌, arith}
+use Rattle.ui_machine.specs.Definition.Lookups.{class_of}
+use Rattle.ui_machine.specs.Definition.Names.{same_name}
+use Rattle.ui_machine.specs.Definition.Signals.{ClassHandler}
+use Rattle.ui_machine.specs.Rules.EmissionPlan.{handler_in}
+use Rattle.name_tables.specs.Names.{with_number}
+use Rattle.linked_programs.specs.Steps.{AddsAll}
+use Rattle.linked_programs.proofs.Adding.{adds_more, handler_in-more, take_past}
+use Rattle.linked_programs.proofs.Linking.{got_read}
+use Rattle.linked_programs.proofs.class_handlers.add_handlers.Goals as goal
+
+pub loop-at-preserved : goal.loop-at-preserved
+loop-at-preserved c =
+    let handlers = (class_of c.args.definition.now c.args.class).handlers in
+    let at = c.loop-at.at in
+    let h = c.index-handlers-at.result in
+    let next : at + 1 ≡ suc at = omega arith in
+    let got = got_read c.class_handlers-handlers.result.now handlers at h c.class_handlers-handlers.ensures c.loop-at-test.true c.index-handlers-at.is in
+    adds_more c.args.names.now c.loop-at.names c.add.new.self c.args.class c.program.result c.signal.result.now (handler_in (take at handlers)) (handler_in (take (at + 1) handlers)) c.loop-at.invariant
+    c.in_ok-add.ensures.ok
+    (λ n.
+    ap (λ k. handler_in (take k handlers) n) next
+    ∙ handler_in-more n handlers at h got
+    ∙ ap (λ name. with_number (same_name name n) h.program (handler_in (take at handlers) n)) (sym c.signal.ensures)
+    ∙ ap (λ p. with_number (same_name c.signal.result.now n) p (handler_in (take at handlers) n)) (sym c.program.ensures))
+
+pub returns : goal.returns
+returns c =
+    let handlers = (class_of c.args.definition.now c.args.class).handlers in
+    let long = ap length c.class_handlers-handlers.ensures in
+    subst (λ (hs : List ClassHandler). AddsAll c.args.names.now c.loop-at.names c.args.class (handler_in hs)) (take_past handlers c.loop-at.at (omega (arith, long, c.loop-at-test.false))) c.loop-at.invariant

@@ -1,0 +1,5 @@
+use Rattle.name_tables.proofs.Inherited.{InheritsBefore}
+use Rattle.name_tables.proofs.name_table.inherit_numbers.Given as goal
+
+abbrev pub invariant-classes : goal.invariant-classes
+invariant-classes l = InheritsBefore l.tree l.fn.numbers.items l.numbers.items l.class
