@@ -6,7 +6,7 @@ use Rattle.event_lines.specs.LineOutcome.{outcome_of}
 use Rattle.event_lines.specs.Texts.{lines_text}
 use Rattle.event_lines.specs.declared.line_handler.LineFault.{LineFault}
 use Rattle.event_lines.specs.declared.line_handler.LineFault.TheVariants as faults
-use Rattle.c_sessions.specs.Nobody.{alone, nobody}
+use Rattle.c_sessions.specs.Nobody.{held, nobody}
 use Rattle.c_sessions.specs.Unread.{lines_since, unread}
 use Rattle.c_sessions.specs.Buffers.{padded}
 use Rattle.c_sessions.specs.Handles.{Dispatches, FailsAs, Hears, KeepsAs, KeepsHearing, Starts, Takes, TakesFrom}
@@ -35,11 +35,11 @@ keeps_hearing line outcome before after session lent new same taken put hears =
 
 -- how it hears one by the answer of the code
 pub hears_by : (line : List ℕ) (result answer : Result (Unit {0}) LineFault) (old new : HostedSession) → result ≡ answer
-    → event_replies nobody (alone old.core) line (outcome_of result (lines_since old.core new.core)) (alone new.core)
-    → unread new ≡ unread old ++ lines_text (lines_since old.core new.core)
+    → event_replies nobody (held old) line (outcome_of result (lines_since (held old) (held new))) (held new)
+    → unread new ≡ unread old ++ lines_text (lines_since (held old) (held new))
     → Hears line (outcome_of answer) old new
 hears_by line result answer old new same replies left =
-    (subst (λ (r : Result (Unit {0}) LineFault). event_replies nobody (alone old.core) line (outcome_of r (lines_since old.core new.core)) (alone new.core)) same replies, left)
+    (subst (λ (r : Result (Unit {0}) LineFault). event_replies nobody (held old) line (outcome_of r (lines_since (held old) (held new))) (held new)) same replies, left)
 
 -- how the dispatch of a line ends that fails
 pub dispatches_failed : (line : List ℕ) (room : ℕ) (fault : LineFault) (before after : Option HostedSession) (status : Status) (written : List ℕ)

@@ -8,7 +8,7 @@ use Rattle.event_lines.specs.declared.line_handler.LineFault.TheVariants as faul
 use Rattle.event_lines.specs.declared.refusal.LineRefusal.{LineRefusal}
 use Rattle.ui_engine.specs.SessionView.{without_lines}
 use Rattle.c_sessions.specs.Buffers.{padded}
-use Rattle.c_sessions.specs.Nobody.{alone, nobody}
+use Rattle.c_sessions.specs.Nobody.{held, nobody}
 use Rattle.c_sessions.specs.Starting.{IsBuilt, IsRefused, IsStopped}
 use Rattle.c_sessions.specs.Unread.{lines_since, unread}
 use Rattle.c_sessions.specs.declared.hosted_session.HostedSession.{HostedSession}
@@ -40,8 +40,8 @@ Starts bytes room statuses.LineRefused kept written = ⊥
 -- a session hears a line that comes to this outcome, by the lines that are said of it, and these come behind those that were not taken
 abbrev pub Hears : List ℕ → (List (List ℕ) → Outcome) → HostedSession → HostedSession → Type 0
 Hears line outcome old new =
-    event_replies nobody (alone old.core) line (outcome (lines_since old.core new.core)) (alone new.core)
-    × (unread new ≡ unread old ++ lines_text (lines_since old.core new.core))
+    event_replies nobody (held old) line (outcome (lines_since (held old) (held new))) (held new)
+    × (unread new ≡ unread old ++ lines_text (lines_since (held old) (held new)))
 
 -- a session that is kept does
 abbrev pub KeepsHearing : List ℕ → (List (List ℕ) → Outcome) → Option HostedSession → Option HostedSession → Type 0
@@ -70,7 +70,7 @@ TakesFrom before count after old new =
     (count ≡ min (length before) (length (unread old)))
     × (after ≡ take count (unread old) ++ drop count before)
     × (unread new ≡ drop count (unread old))
-    × (without_lines new.core ≡ without_lines old.core)
+    × (without_lines (held new) ≡ without_lines (held old))
 
 -- bytes are taken of the lines of the session that is kept, if one is
 abbrev pub Takes : List ℕ → Option HostedSession → ℕ → Option HostedSession → List ℕ → Type 0

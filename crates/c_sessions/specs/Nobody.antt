@@ -1,12 +1,13 @@
--- Sessions without peers.
-use Rattle.std.specs.Prelude.{[]}
+-- Sessions that begin without peers.
 use Rattle.native_peers.specs.Seen.{Relations}
+use Rattle.native_peers.specs.StandIns.{Faults, stand_ins}
 use Rattle.ui_engine.specs.SessionView.{SessionState, state_at}
+use Rattle.c_sessions.specs.declared.hosted_session.HostedSession.{HostedSession}
 
--- no peer may do anything
+-- whatever was asked would answer no value; there is nobody to ask
 abbrev pub nobody : Relations
-nobody number state method args answer new = ⊥
+nobody number = Faults
 
--- the same session without any peers
-abbrev pub alone : SessionState → SessionState
-alone s = state_at [] s
+-- what a session has come to
+abbrev pub held : HostedSession → SessionState
+held h = state_at (stand_ins h.session.pool) h.session.core

@@ -6,7 +6,7 @@ use Rattle.c_sessions.specs.declared.hosted_session.HostedSession.{HostedSession
 
 -- the bytes of a session's lines that were not taken
 abbrev pub unread : HostedSession → List ℕ
-unread h = left_of h.core.world.transcript h.line h.byte
+unread h = left_of h.session.core.world.transcript h.line h.byte
 
 -- the lines that a session has said since
 abbrev pub lines_since : SessionState → SessionState → List (List ℕ)

@@ -1,29 +1,27 @@
-//! Event lines that a session without peers hears.
+//! Event lines that a session hears.
 
-ghost use Rattle.std.specs.Prelude.{◌≡◌, ◌++◌, []};
+ghost use Rattle.std.specs.Prelude.{◌≡◌, ◌++◌};
 ghost use Rattle.event_lines.specs.Events.{event_replies};
 ghost use Rattle.event_lines.specs.LineOutcome.{outcome_of};
 ghost use Rattle.event_lines.specs.Texts.{lines_text};
-ghost use Rattle.ui_engine.specs.SessionView.{IsSeated};
-ghost use Rattle.c_sessions.specs.Nobody.{alone, nobody};
+ghost use Rattle.c_sessions.specs.Nobody.{held, nobody};
 ghost use Rattle.c_sessions.specs.Unread.{lines_since, unread};
 
 use crate::hosted_session::HostedSession;
 use builder_defs::EventReader;
 use event_lines::LineFault;
-use native_peers::PeerPool;
+use native_peers::StandIn;
 use std::alloc::Global;
-use ui_engine::Core;
+use ui_engine::Session;
 
 impl HostedSession {
     /// A session of which no line was taken.
-    pub(crate) fn of(alloc: Global, core: Core) -> HostedSession
-        requires { IsSeated [] core }
-        ensures core { result.core ≡ core }
-        ensures unread { unread result ≡ lines_text core.world.transcript }
+    pub(crate) fn of(alloc: Global, session: Session<Option<StandIn>>) -> HostedSession
+        ensures session { result.session ≡ session }
+        ensures unread { unread result ≡ lines_text session.core.world.transcript }
     {
         HostedSession {
-            core,
+            session,
             events: EventReader::new(alloc),
             line: 0,
             byte: 0,
@@ -37,13 +35,12 @@ impl HostedSession {
     /// `Refused` by the first refusal of the line or of its event, which changes nothing, and `Stopped` where memory is refused or the
     /// session had stopped.
     pub fn dispatch_line(&mut self, alloc: Global, line: &[u8]) -> Result<(), LineFault>
-        ensures replies { event_replies nobody (alone self.old.core) line.now (outcome_of result (lines_since self.old.core self.new.core)) (alone self.new.core) }
-        ensures unread { unread self.new ≡ unread self.old ++ lines_text (lines_since self.old.core self.new.core) }
+        ensures replies { event_replies nobody (held self.old) line.now (outcome_of result (lines_since (held self.old) (held self.new))) (held self.new) }
+        ensures unread { unread self.new ≡ unread self.old ++ lines_text (lines_since (held self.old) (held self.new)) }
     {
-        let definition = self.core.definition();
+        let definition = self.session.definition();
         let event = self.events.read(alloc, definition, line)?;
-        let mut nobody = PeerPool::new(alloc);
-        self.core.dispatch(&mut nobody, event)?;
+        self.session.dispatch(event)?;
         Ok(())
     }
 }

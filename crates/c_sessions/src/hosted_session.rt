@@ -1,20 +1,18 @@
-//! Sessions without peers, whose lines are taken as a stream of bytes.
+//! Sessions that begin without peers, whose lines are taken as a stream of bytes.
 
-ghost use Rattle.std.specs.Prelude.{[]};
-ghost use Rattle.ui_engine.specs.SessionView.{IsSeated};
 ghost use Rattle.c_sessions.specs.Places.{IsPlace};
 
 use builder_defs::EventReader;
-use ui_engine::Core;
+use native_peers::StandIn;
+use ui_engine::Session;
 
-/// A session without peers, and how far its lines were taken.
+/// A session that began without peers, and how far its lines were taken.
 #[derive(Drop)]
 pub struct HostedSession {
-    pub(crate) core: Core,
+    pub(crate) session: Session<Option<StandIn>>,
     pub(crate) events: EventReader,
     // The first line of which a byte is left, and how many of its bytes were taken.
     pub(crate) line: usize,
     pub(crate) byte: usize,
-    ghost seated: { IsSeated [] core },
-    ghost place: { IsPlace core.world.transcript line byte },
+    ghost place: { IsPlace session.core.world.transcript line byte },
 }

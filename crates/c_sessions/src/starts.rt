@@ -4,7 +4,7 @@ ghost use Rattle.c_sessions.specs.Starting.{StartsAs};
 
 use crate::hosted_session::HostedSession;
 use event_lines::{Opening, judge, open};
-use native_peers::PeerPool;
+use native_peers::StandIn;
 use std::alloc::Global;
 
 /// What the bytes of a definition came to.
@@ -24,13 +24,11 @@ pub enum Started {
 pub fn start(alloc: Global, definition: &[u8]) -> Started
     ensures { StartsAs definition.now result }
 {
-    let nobody = PeerPool::new(alloc);
+    let nobody: Option<StandIn> = None;
     match open(alloc, judge(alloc, definition), nobody) {
         Opening::Refused { text, pool: _ } => Started::Refused(text),
         Opening::Unbegun(_) => Started::Unbegun,
-        Opening::Stopped(session) => {
-            Started::Stopped(HostedSession::of(alloc, session.into_core()))
-        }
-        Opening::Built(session) => Started::Built(HostedSession::of(alloc, session.into_core())),
+        Opening::Stopped(session) => Started::Stopped(HostedSession::of(alloc, session)),
+        Opening::Built(session) => Started::Built(HostedSession::of(alloc, session)),
     }
 }

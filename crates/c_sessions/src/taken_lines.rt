@@ -2,6 +2,7 @@
 
 ghost use Rattle.std.specs.Prelude.{◌≡◌, ◌++◌, [], ◌∷◌, IfNone, IfSome, drop, length, min, take};
 ghost use Rattle.ui_engine.specs.SessionView.{without_lines};
+ghost use Rattle.c_sessions.specs.Nobody.{held};
 ghost use Rattle.c_sessions.specs.Unread.{unread};
 
 use crate::hosted_session::HostedSession;
@@ -13,7 +14,7 @@ impl HostedSession {
         ensures count { result ≡ min (length out.old) (length (unread self.old)) }
         ensures bytes { out.new ≡ take result (unread self.old) ++ drop result out.old }
         ensures left { unread self.new ≡ drop result (unread self.old) }
-        ensures session { without_lines self.new.core ≡ without_lines self.old.core }
+        ensures session { without_lines (held self.new) ≡ without_lines (held self.old) }
     {
         'room: for place in 0..out.len() {
             let Some(byte) = self.next_byte() else {
@@ -29,9 +30,9 @@ impl HostedSession {
     fn next_byte(&mut self) -> Option<u8>
         ensures byte { IfSome result (λ byte. unread self.old ≡ byte ∷ unread self.new) }
         ensures none { IfNone result ((unread self.old ≡ []) × (self.new ≡ self.old)) }
-        ensures core { self.new.core ≡ self.old.core }
+        ensures session { self.new.session ≡ self.old.session }
     {
-        let line = self.core.transcript().get(self.line)?.as_bytes();
+        let line = self.session.transcript().get(self.line)?.as_bytes();
         match line.get(self.byte) {
             Some(byte) => {
                 let byte = *byte;
@@ -50,9 +51,9 @@ impl HostedSession {
     fn forget(&mut self)
         requires { unread self.now ≡ [] }
         ensures unread { unread self.new ≡ [] }
-        ensures core { self.new.core ≡ without_lines self.old.core }
+        ensures session { held self.new ≡ without_lines (held self.old) }
     {
-        self.core.forget();
+        self.session.forget();
         self.line = 0;
         self.byte = 0;
     }

@@ -26,7 +26,7 @@ use Rattle.engine_instructions.specs.CollectView.{collects, stops_at}
 use Rattle.engine_world.specs.Counting.{Counts, MayHold, OnlyCounts}
 use Rattle.engine_world.specs.TaskView.{agenda_of, emission_of, entries_to_come, task_of, tasks_of}
 use Rattle.engine_world.specs.declared.engine.Engine.{Engine}
-use Rattle.engine_world.specs.declared.task.Stack.{Stack}
+use Rattle.engine_world.specs.declared.stacks.Stack.{Stack}
 use Rattle.engine_world.specs.declared.task.Task as code
 use Rattle.engine_world.specs.declared.task.Task.TheVariants as tasks
 use Rattle.engine_world.proofs.Ableness.{able_as, first}

@@ -23,7 +23,7 @@ use Rattle.instance_tables.proofs.Disposed.{dispose_exact}
 use Rattle.signal_core.specs.Connected.{Connected}
 use Rattle.machine_laws.specs.GoneLaws.{Gone, pruned}
 use Rattle.machine_laws.proofs.GoneProofs.{hold_as}
-use Rattle.ui_machine.specs.State.Peers.{first_left}
+use Rattle.engine_world.specs.PeerPlaces.{AreAlike}
 use Rattle.engine_world.specs.Able.{Able, Leads, LeadsWithoutGone}
 use Rattle.engine_world.specs.Counting.{KeepsCounts}
 use Rattle.engine_world.specs.EngineView.{config_of}
@@ -33,7 +33,7 @@ use Rattle.engine_world.specs.View.{held_of, world_of}
 use Rattle.engine_world.specs.declared.engine.Engine.{Engine}
 use Rattle.engine_world.specs.declared.world.World as code
 use Rattle.engine_world.proofs.Ableness.{no_arm, none_stops}
-use Rattle.engine_world.proofs.Counts.{Exact, beside_of, closed_got, from_counted, handled, keeps_by, to_counted}
+use Rattle.engine_world.proofs.Counts.{Exact, beside_of, closed_passes, from_counted, handled, keeps_by, to_counted}
 use Rattle.engine_instructions.proofs.ObjectSteps.{dispose_stuck, disposes}
 use Rattle.engine_instructions.proofs.Pushed.{count_pushed, world_pushed}
 use Rattle.engine_instructions.proofs.Starting.{started_left}
@@ -41,11 +41,11 @@ use Rattle.engine_world.proofs.Registers.{stops_left}
 
 -- what is disposed held what it let go of; its handlers hold nothing
 pub keeps_disposed : (d : Definition) (e : Engine) (t : Store) (hs : Connected) (bs : Made) (w : code.World) (gone : Gone) (id : ℕ) (closing : Option ℕ) → (Knows d e.world.weak → Disposes d id e.world.table t)
-    → ((names : List (List ℕ)) → first_left w.seats names ≡ first_left e.world.seats names) → hs ≡ record e.world.handlers { handlers = hs.handlers }
+    → AreAlike e.world.seats w.seats → hs ≡ record e.world.handlers { handlers = hs.handlers }
     → w ≡ record (record e.world { table = t; handlers = hs; bindings = bs }) { seats = w.seats; transcript = w.transcript } → tasks_of d hs.handlers e.stack ≡ map (pruned gone) (agenda_of d e)
     → KeepsCounts d e (record e { world = w; closing = closing })
 keeps_disposed d e t hs bs w gone id closing disposes closes only is left =
-    keeps_by d e (record e { world = w; closing = closing }) (ap (λ (v : code.World). v.weak) is) refl (closed_got d e.world w closes (ap (λ (v : code.World). v.got_peers.items) is)) (ap (λ (v : code.World). v.context) is)
+    keeps_by d e (record e { world = w; closing = closing }) (ap (λ (v : code.World). v.weak) is) refl (closed_passes d e.world w closes (ap (λ (v : code.World). v.got_peers) is) (ap (λ (v : code.World). v.peer_numbers) is)) (ap (λ (v : code.World). v.context) is)
     (λ h. handled d e (record e { world = w; closing = closing }) hs (ap (λ (v : code.World). v.handlers) is) only refl h) (λ taken knows h.
     let b = map held_of e.world.builder.items in
     let a = agenda_of d e in

@@ -92,7 +92,8 @@ fn objects_to_make(engine: &Engine, definition: &Definition) -> u32
     ensures { result ≡ min (to_make (agenda_of definition.now engine.now)) u32.MAX }
 {
     let mut count: u32 = 0;
-    for task in &engine.stack.tasks {
+    let build = engine.stack.of_build();
+    for task in build {
         count = count.saturating_add(made_by(task, definition));
     }
     count

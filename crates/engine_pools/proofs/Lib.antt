@@ -11,7 +11,7 @@ mod KinMade
 pub mod Keeping
 pub mod Closings
 pub mod Known
-pub mod BoxByBox
+pub mod PeerByPeer
 pub mod Ends
 pub mod Fitting
 pub mod Replies

@@ -3,7 +3,6 @@
 ghost use Rattle.std.specs.Prelude.{◌≡◌, None, map, option_map};
 ghost use Rattle.ui_machine.specs.State.Config.{is_asked};
 ghost use Rattle.g_values.specs.View.{value_view};
-ghost use Rattle.native_peers.specs.Pool.{entries, relations, seen};
 ghost use Rattle.native_peers.specs.Seen.{Asks, SameRelations};
 ghost use Rattle.engine_world.specs.View.{world_of};
 ghost use Rattle.engine_pools.specs.PoolView.{IsAskable, closed_in, due, is_due};
@@ -11,15 +10,15 @@ ghost use Rattle.engine_pools.specs.PoolView.{IsAskable, closed_in, due, is_due}
 use engine_world::engine::Engine;
 use engine_world::task::DueCall;
 use g_values::Value;
-use native_peers::{Peer, PeerPool};
+use native_peers::Peers;
 
 /// Asks the peer of a due call, which is open. A fault is no value.
-pub(crate) fn ask(pool: &mut PeerPool, call: &DueCall) -> Option<Value>
-    requires asked { IsAskable (seen (λ p. (⟦<dyn Peer as Peer>⟧ p.peer.vtable).state p.peer.value) (entries pool.now)) call.now.peer call.now.method (map value_view call.now.args.items) }
+pub(crate) fn ask<P: Peers>(pool: &mut P, call: &DueCall) -> Option<Value>
+    requires asked { IsAskable (P.seen pool.now) call.now.peer call.now.method (map value_view call.now.args.items) }
     ensures asks { Asks call.now.peer
-        (seen (λ p. (⟦<dyn Peer as Peer>⟧ p.peer.vtable).state p.peer.value) (entries pool.old)) (seen (λ p. (⟦<dyn Peer as Peer>⟧ p.peer.vtable).state p.peer.value) (entries pool.new))
-        (relations (λ p. (⟦<dyn Peer as Peer>⟧ p.peer.vtable).moves p.peer.value) (entries pool.old)) call.now.method (map value_view call.now.args.items) (option_map value_view result) }
-    ensures same { SameRelations (relations (λ p. (⟦<dyn Peer as Peer>⟧ p.peer.vtable).moves p.peer.value) (entries pool.old)) (relations (λ p. (⟦<dyn Peer as Peer>⟧ p.peer.vtable).moves p.peer.value) (entries pool.new)) }
+        (P.seen pool.old) (P.seen pool.new)
+        (P.relations pool.old) call.now.method (map value_view call.now.args.items) (option_map value_view result) }
+    ensures same { SameRelations (P.relations pool.old) (P.relations pool.new) }
 {
     // For the proof: the kinds of the peer's methods are plain.
     let _shape = pool.shape(call.peer);
@@ -40,8 +39,8 @@ fn is_open(engine: &Engine, number: usize) -> bool
 }
 
 // Whether the box of a number is open, while the engine knows the peer to be closed.
-fn is_due(engine: &Engine, pool: &PeerPool, number: usize) -> bool
-    ensures { result ≡ is_due (world_of engine.now.world) (seen (λ p. (⟦<dyn Peer as Peer>⟧ p.peer.vtable).state p.peer.value) (entries pool.now)) number }
+fn is_due<P: Peers>(engine: &Engine, pool: &P, number: usize) -> bool
+    ensures { result ≡ is_due (world_of engine.now.world) (P.seen pool.now) number }
 {
     if number >= pool.left() {
         return false;
@@ -50,11 +49,11 @@ fn is_due(engine: &Engine, pool: &PeerPool, number: usize) -> bool
 }
 
 /// Closes the box of the peer that a step has closed, if it has closed one: the engine has left its number, and knows it to be closed.
-pub(crate) fn close_due(engine: &mut Engine, pool: &mut PeerPool)
-    ensures closed { seen (λ p. (⟦<dyn Peer as Peer>⟧ p.peer.vtable).state p.peer.value) (entries pool.new)
-        ≡ closed_in (due (world_of engine.old.world) (seen (λ p. (⟦<dyn Peer as Peer>⟧ p.peer.vtable).state p.peer.value) (entries pool.old)) engine.old.closing)
-        (seen (λ p. (⟦<dyn Peer as Peer>⟧ p.peer.vtable).state p.peer.value) (entries pool.old)) }
-    ensures same { SameRelations (relations (λ p. (⟦<dyn Peer as Peer>⟧ p.peer.vtable).moves p.peer.value) (entries pool.old)) (relations (λ p. (⟦<dyn Peer as Peer>⟧ p.peer.vtable).moves p.peer.value) (entries pool.new)) }
+pub(crate) fn close_due<P: Peers>(engine: &mut Engine, pool: &mut P)
+    ensures closed { P.seen pool.new
+        ≡ closed_in (due (world_of engine.old.world) (P.seen pool.old) engine.old.closing)
+        (P.seen pool.old) }
+    ensures same { SameRelations (P.relations pool.old) (P.relations pool.new) }
     ensures taken { engine.new ≡ record engine.old { closing = None } }
 {
     let Some(number) = engine.closing.take() else {

@@ -4,7 +4,6 @@ ghost use Rattle.std.specs.Prelude.{◌≡◌, MatchOption, None, true, is_some,
 ghost use Rattle.ui_machine.specs.State.Config.{is_asked};
 ghost use Rattle.ui_machine.specs.State.References.{in_task, same};
 ghost use Rattle.ui_machine.specs.State.Tasks.{Calling};
-ghost use Rattle.native_peers.specs.Pool.{entries, relations, seen};
 ghost use Rattle.native_peers.specs.Seen.{SameRelations};
 ghost use Rattle.engine_world.specs.Counting.{Counts, nothing};
 ghost use Rattle.ui_machine.specs.Steps.{question};
@@ -24,31 +23,31 @@ use engine_tasks::calls::{answer, question};
 use engine_world::engine::Engine;
 use engine_world::references::let_go_any;
 use engine_world::task::{DueCall, Task};
-use native_peers::{Peer, PeerPool};
+use native_peers::Peers;
 use std::alloc::AllocError;
 
 // Asks the open peer of a due call, and gives the program what it answers. Where no memory is found the peer has replied, and no line reports
 // it.
-fn ask_for(
+fn ask_for<P: Peers>(
     engine: &mut Engine,
     definition: &Definition,
-    pool: &mut PeerPool,
+    pool: &mut P,
     call: DueCall,
 ) -> Result<(), AllocError>
-    requires safe { ComesOfSafe definition.now (vec_capacity engine.now.stack.tasks) (calling_point definition.now (seen (λ p. (⟦<dyn Peer as Peer>⟧ p.peer.vtable).state p.peer.value) (entries pool.now)) engine.now call) }
+    requires safe { ComesOfSafe definition.now (vec_capacity engine.now.stack.tasks) (calling_point definition.now (P.seen pool.now) engine.now call) }
     requires none { NoneUnheld definition.now (calling_view definition.now engine.now call) }
     requires asked { is_asked (world_of engine.now.world) call.peer ≡ true }
     requires counted { Counts definition.now (λ o. in_task o (Calling (call_of call))) engine.now }
     ensures counted { OnOk result (Counts definition.now (λ o. same o call.object.0) engine.new) }
-    ensures follows { OnOk result (Follows definition.now (relations (λ p. (⟦<dyn Peer as Peer>⟧ p.peer.vtable).moves p.peer.value) (entries pool.old))
-        (calling_point definition.now (seen (λ p. (⟦<dyn Peer as Peer>⟧ p.peer.vtable).state p.peer.value) (entries pool.old)) engine.old call)
-        (record { pool = seen (λ p. (⟦<dyn Peer as Peer>⟧ p.peer.vtable).state p.peer.value) (entries pool.new); view = config_of definition.now engine.new })) }
-    ensures breaks { OnErr result (Breaks definition.now (relations (λ p. (⟦<dyn Peer as Peer>⟧ p.peer.vtable).moves p.peer.value) (entries pool.old))
-        (calling_point definition.now (seen (λ p. (⟦<dyn Peer as Peer>⟧ p.peer.vtable).state p.peer.value) (entries pool.old)) engine.old call)
-        (with_seen (seen (λ p. (⟦<dyn Peer as Peer>⟧ p.peer.vtable).state p.peer.value) (entries pool.new)) (world_of engine.new.world).peers) (world_of engine.new.world).transcript) }
+    ensures follows { OnOk result (Follows definition.now (P.relations pool.old)
+        (calling_point definition.now (P.seen pool.old) engine.old call)
+        (record { pool = P.seen pool.new; view = config_of definition.now engine.new })) }
+    ensures breaks { OnErr result (Breaks definition.now (P.relations pool.old)
+        (calling_point definition.now (P.seen pool.old) engine.old call)
+        (with_seen (P.seen pool.new) (world_of engine.new.world).peers) (world_of engine.new.world).transcript) }
     ensures concludes { OnOk result (Concludes definition.now engine.old call (config_of definition.now engine.new)) }
     ensures quiet { OnErr result (IsQuiet (world_of engine.old.world) (world_of engine.new.world)) }
-    ensures same { SameRelations (relations (λ p. (⟦<dyn Peer as Peer>⟧ p.peer.vtable).moves p.peer.value) (entries pool.old)) (relations (λ p. (⟦<dyn Peer as Peer>⟧ p.peer.vtable).moves p.peer.value) (entries pool.new)) }
+    ensures same { SameRelations (P.relations pool.old) (P.relations pool.new) }
     ensures room { SameRoom engine.old engine.new }
 {
     let value = ask(pool, &call);
@@ -94,26 +93,26 @@ pub(crate) fn take_call(engine: &mut Engine, definition: &Definition) -> Option<
 /// # Errors
 ///
 /// `AllocError` if no memory is found: then the peer has replied, and no line reports it.
-pub(crate) fn answer_call(
+pub(crate) fn answer_call<P: Peers>(
     engine: &mut Engine,
     definition: &Definition,
-    pool: &mut PeerPool,
+    pool: &mut P,
     call: DueCall,
 ) -> Result<(), AllocError>
-    requires safe { ComesOfSafe definition.now (vec_capacity engine.now.stack.tasks) (calling_point definition.now (seen (λ p. (⟦<dyn Peer as Peer>⟧ p.peer.vtable).state p.peer.value) (entries pool.now)) engine.now call) }
+    requires safe { ComesOfSafe definition.now (vec_capacity engine.now.stack.tasks) (calling_point definition.now (P.seen pool.now) engine.now call) }
     requires none { NoneUnheld definition.now (calling_view definition.now engine.now call) }
     requires asked { is_asked (world_of engine.now.world) call.peer ≡ true }
     requires counted { Counts definition.now (λ o. in_task o (Calling (call_of call))) engine.now }
     ensures counted { OnOk result (Counts definition.now nothing engine.new) }
-    ensures follows { OnOk result (Follows definition.now (relations (λ p. (⟦<dyn Peer as Peer>⟧ p.peer.vtable).moves p.peer.value) (entries pool.old))
-        (calling_point definition.now (seen (λ p. (⟦<dyn Peer as Peer>⟧ p.peer.vtable).state p.peer.value) (entries pool.old)) engine.old call)
-        (record { pool = (seen (λ p. (⟦<dyn Peer as Peer>⟧ p.peer.vtable).state p.peer.value) (entries pool.new)); view = config_of definition.now engine.new })) }
-    ensures breaks { OnErr result (Breaks definition.now (relations (λ p. (⟦<dyn Peer as Peer>⟧ p.peer.vtable).moves p.peer.value) (entries pool.old))
-        (calling_point definition.now (seen (λ p. (⟦<dyn Peer as Peer>⟧ p.peer.vtable).state p.peer.value) (entries pool.old)) engine.old call)
-        (with_seen (seen (λ p. (⟦<dyn Peer as Peer>⟧ p.peer.vtable).state p.peer.value) (entries pool.new)) (world_of engine.new.world).peers) (world_of engine.new.world).transcript) }
+    ensures follows { OnOk result (Follows definition.now (P.relations pool.old)
+        (calling_point definition.now (P.seen pool.old) engine.old call)
+        (record { pool = (P.seen pool.new); view = config_of definition.now engine.new })) }
+    ensures breaks { OnErr result (Breaks definition.now (P.relations pool.old)
+        (calling_point definition.now (P.seen pool.old) engine.old call)
+        (with_seen (P.seen pool.new) (world_of engine.new.world).peers) (world_of engine.new.world).transcript) }
     ensures concludes { OnOk result (Concludes definition.now engine.old call (config_of definition.now engine.new)) }
     ensures quiet { OnErr result (IsQuiet (world_of engine.old.world) (world_of engine.new.world)) }
-    ensures same { SameRelations (relations (λ p. (⟦<dyn Peer as Peer>⟧ p.peer.vtable).moves p.peer.value) (entries pool.old)) (relations (λ p. (⟦<dyn Peer as Peer>⟧ p.peer.vtable).moves p.peer.value) (entries pool.new)) }
+    ensures same { SameRelations (P.relations pool.old) (P.relations pool.new) }
     ensures room { SameRoom engine.old engine.new }
 {
     let object = call.object;

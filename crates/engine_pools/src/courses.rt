@@ -13,7 +13,6 @@ ghost use Rattle.law_typing.specs.Laws.WellRead.{WellRead};
 ghost use Rattle.law_typing.specs.Verdict.Accepted.{Accepted};
 ghost use Rattle.main_context.specs.Attached.{next_source, numbers_after};
 ghost use Rattle.main_context.specs.Dues.{due_of};
-ghost use Rattle.native_peers.specs.Pool.{entries, relations, seen};
 ghost use Rattle.native_peers.specs.Seen.{SameRelations};
 ghost use Rattle.engine_pools.specs.CallPoints.{point_of};
 ghost use Rattle.engine_pools.specs.Courses.{BeginsNext, GoesOn, IfEnded, IfGoesOn, IfHasEnded, IfUnderWay, IsUnderWay, Proceeds, sources_left};
@@ -27,7 +26,7 @@ use definitions::Definition;
 use engine_world::engine::Engine;
 use engine_world::task::Task;
 use main_context::{Batch, Due};
-use native_peers::{Peer, PeerPool};
+use native_peers::Peers;
 use std::alloc::AllocError;
 
 /// An event that has begun and not ended: it is in one of its dispatches.
@@ -84,31 +83,31 @@ pub fn begin_next(engine: &mut Engine, definition: &Definition, course: Course) 
 /// # Errors
 ///
 /// `AllocError` if no memory is found: the transcript is as far as the event came.
-pub fn advance(
+pub fn advance<P: Peers>(
     engine: &mut Engine,
     definition: &Definition,
-    pool: &mut PeerPool,
+    pool: &mut P,
     course: Course,
     most: u64,
 ) -> Result<Progress, AllocError>
     requires accepted { Accepted definition.now }
     requires well { WellRead definition.now }
     requires counted { Counts definition.now nothing engine.now }
-    requires goes_on { GoesOn definition.now (relations (λ p. (⟦<dyn Peer as Peer>⟧ p.peer.vtable).moves p.peer.value) (entries pool.now)) course
-        (point_of definition.now (seen (λ p. (⟦<dyn Peer as Peer>⟧ p.peer.vtable).state p.peer.value) (entries pool.now)) engine.now) }
+    requires goes_on { GoesOn definition.now (P.relations pool.now) course
+        (point_of definition.now (P.seen pool.now) engine.now) }
     requires roomy { IsRoomy definition.now (vec_capacity engine.now.stack.tasks) }
     ensures rests { IfEnded result (λ _. IsAtRest definition.now engine.new) }
-    ensures knows { IfEnded result (λ _. Knows (world_of engine.new.world) (seen (λ p. (⟦<dyn Peer as Peer>⟧ p.peer.vtable).state p.peer.value) (entries pool.new))) }
-    ensures resting { IfEnded result (λ _. Rests definition.now (world_at (seen (λ p. (⟦<dyn Peer as Peer>⟧ p.peer.vtable).state p.peer.value) (entries pool.new)) (world_of engine.new.world))) }
+    ensures knows { IfEnded result (λ _. Knows (world_of engine.new.world) (P.seen pool.new)) }
+    ensures resting { IfEnded result (λ _. Rests definition.now (world_at (P.seen pool.new) (world_of engine.new.world))) }
     ensures counted { IfUnderWay result (λ _. Counts definition.now nothing engine.new) }
     ensures proceeds { (event : Event) (w : World) (front : List (List ℕ)) →
-        IsUnderWay definition.now (relations (λ p. (⟦<dyn Peer as Peer>⟧ p.peer.vtable).moves p.peer.value) (entries pool.old)) event w front course
-        (point_of definition.now (seen (λ p. (⟦<dyn Peer as Peer>⟧ p.peer.vtable).state p.peer.value) (entries pool.old)) engine.old) →
-        Proceeds result definition.now (relations (λ p. (⟦<dyn Peer as Peer>⟧ p.peer.vtable).moves p.peer.value) (entries pool.old)) event w front
-        (point_of definition.now (seen (λ p. (⟦<dyn Peer as Peer>⟧ p.peer.vtable).state p.peer.value) (entries pool.new)) engine.new) }
+        IsUnderWay definition.now (P.relations pool.old) event w front course
+        (point_of definition.now (P.seen pool.old) engine.old) →
+        Proceeds result definition.now (P.relations pool.old) event w front
+        (point_of definition.now (P.seen pool.new) engine.new) }
     ensures made { IfUnderWay result (λ next. next.so_far.steps + engine.new.counted ≡ course.so_far.steps + engine.old.counted + most) }
     ensures most { IfEnded result (λ reply. reply.steps ≤ course.so_far.steps + engine.old.counted + most) }
-    ensures same { SameRelations (relations (λ p. (⟦<dyn Peer as Peer>⟧ p.peer.vtable).moves p.peer.value) (entries pool.old)) (relations (λ p. (⟦<dyn Peer as Peer>⟧ p.peer.vtable).moves p.peer.value) (entries pool.new)) }
+    ensures same { SameRelations (P.relations pool.old) (P.relations pool.new) }
     ensures grows { IsPrefix (world_of engine.old.world).transcript (world_of engine.new.world).transcript }
     ensures room { SameRoom engine.old engine.new }
 {

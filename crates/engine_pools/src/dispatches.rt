@@ -11,7 +11,6 @@ ghost use Rattle.engine_world.specs.View.{world_of};
 ghost use Rattle.engine_world.specs.TaskView.{task_in, agenda_of};
 ghost use Rattle.engine_world.specs.EngineView.{config_of};
 ghost use Rattle.ui_machine.specs.Prefix.{IsPrefix};
-ghost use Rattle.native_peers.specs.Pool.{entries, relations, seen};
 ghost use Rattle.native_peers.specs.Seen.{SameRelations};
 ghost use Rattle.engine_world.specs.Counting.{KeepsCounts};
 ghost use Rattle.engine_pools.specs.Courses.{nothing_yet};
@@ -26,7 +25,7 @@ use engine_world::lines::Line;
 use engine_world::references::push_task;
 use engine_world::task::Task;
 use g_values::Value;
-use native_peers::{Peer, PeerPool};
+use native_peers::Peers;
 use std::alloc::AllocError;
 
 /// What a dispatch led to.
@@ -76,24 +75,24 @@ pub fn begin_dispatch(engine: &mut Engine, definition: &Definition, task: Task)
 /// # Errors
 ///
 /// `AllocError` if no memory is found: the transcript is as far as the dispatch came.
-pub fn dispatch(
+pub fn dispatch<P: Peers>(
     engine: &mut Engine,
     definition: &Definition,
-    pool: &mut PeerPool,
+    pool: &mut P,
     task: Task,
 ) -> Result<Reply, AllocError>
     requires rests { IsAtRest definition.now engine.now }
     requires plain { HoldsNothing task }
     requires begun { TakesKnownHandlers engine.now.world.handlers.last task }
-    requires knows { Knows (world_of engine.now.world) (seen (λ p. (⟦<dyn Peer as Peer>⟧ p.peer.vtable).state p.peer.value) (entries pool.now)) }
-    requires safe { IsSafe definition.now (vec_capacity engine.now.stack.tasks) (beginning (world_at (seen (λ p. (⟦<dyn Peer as Peer>⟧ p.peer.vtable).state p.peer.value) (entries pool.now)) (world_of engine.now.world)) (task_in definition.now engine.now task)) }
+    requires knows { Knows (world_of engine.now.world) (P.seen pool.now) }
+    requires safe { IsSafe definition.now (vec_capacity engine.now.stack.tasks) (beginning (world_at (P.seen pool.now) (world_of engine.now.world)) (task_in definition.now engine.now task)) }
     ensures rests { OnOk result (IsAtRest definition.now engine.new) }
-    ensures knows { OnOk result (Knows (world_of engine.new.world) (seen (λ p. (⟦<dyn Peer as Peer>⟧ p.peer.vtable).state p.peer.value) (entries pool.new))) }
-    ensures carried { Carried result definition.now (relations (λ p. (⟦<dyn Peer as Peer>⟧ p.peer.vtable).moves p.peer.value) (entries pool.old))
-        (beginning (world_at (seen (λ p. (⟦<dyn Peer as Peer>⟧ p.peer.vtable).state p.peer.value) (entries pool.old)) (world_of engine.old.world)) (task_in definition.now engine.old task))
-        (world_at (seen (λ p. (⟦<dyn Peer as Peer>⟧ p.peer.vtable).state p.peer.value) (entries pool.new)) (world_of engine.new.world)) }
+    ensures knows { OnOk result (Knows (world_of engine.new.world) (P.seen pool.new)) }
+    ensures carried { Carried result definition.now (P.relations pool.old)
+        (beginning (world_at (P.seen pool.old) (world_of engine.old.world)) (task_in definition.now engine.old task))
+        (world_at (P.seen pool.new) (world_of engine.new.world)) }
     ensures few { IfOk result (λ reply. reply.steps ≤ most_steps) }
-    ensures same { SameRelations (relations (λ p. (⟦<dyn Peer as Peer>⟧ p.peer.vtable).moves p.peer.value) (entries pool.old)) (relations (λ p. (⟦<dyn Peer as Peer>⟧ p.peer.vtable).moves p.peer.value) (entries pool.new)) }
+    ensures same { SameRelations (P.relations pool.old) (P.relations pool.new) }
     ensures grows { IsPrefix (world_of engine.old.world).transcript (world_of engine.new.world).transcript }
     ensures room { SameRoom engine.old engine.new }
 {

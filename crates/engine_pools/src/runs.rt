@@ -3,7 +3,6 @@
 ghost use Rattle.std.specs.Prelude.{◌≡◌, ◌≤◌, ◌+◌, IfOk, OnOk, vec_capacity};
 ghost use Rattle.ui_machine.specs.Prefix.{IsPrefix};
 ghost use Rattle.ui_machine.specs.Steps.{most_steps};
-ghost use Rattle.native_peers.specs.Pool.{entries, relations, seen};
 ghost use Rattle.native_peers.specs.Seen.{SameRelations};
 ghost use Rattle.engine_world.specs.Counting.{Counts, nothing};
 ghost use Rattle.engine_world.specs.Room.{SameRoom};
@@ -18,21 +17,21 @@ use crate::calls::{answer_call, take_call};
 use crate::quiet_steps::step_quietly;
 use definitions::Definition;
 use engine_world::engine::{Engine, StepKind};
-use native_peers::{Peer, PeerPool};
+use native_peers::Peers;
 use std::alloc::AllocError;
 
 // Makes a step, if there is one to make. A call of an open peer asks it; the box of a peer that a step has closed is closed with it.
-fn step(
+fn step<P: Peers>(
     engine: &mut Engine,
     definition: &Definition,
-    pool: &mut PeerPool,
+    pool: &mut P,
 ) -> Result<StepKind, AllocError>
-    requires safe { ComesOfSafe definition.now (vec_capacity engine.now.stack.tasks) (point_of definition.now (seen (λ p. (⟦<dyn Peer as Peer>⟧ p.peer.vtable).state p.peer.value) (entries pool.now)) engine.now) }
+    requires safe { ComesOfSafe definition.now (vec_capacity engine.now.stack.tasks) (point_of definition.now (P.seen pool.now) engine.now) }
     requires counted { Counts definition.now nothing engine.now }
     ensures counted { OnOk result (Counts definition.now nothing engine.new) }
-    ensures stepped { Stepped result definition.now (relations (λ p. (⟦<dyn Peer as Peer>⟧ p.peer.vtable).moves p.peer.value) (entries pool.old))
-        (point_of definition.now (seen (λ p. (⟦<dyn Peer as Peer>⟧ p.peer.vtable).state p.peer.value) (entries pool.old)) engine.old) (point_of definition.now (seen (λ p. (⟦<dyn Peer as Peer>⟧ p.peer.vtable).state p.peer.value) (entries pool.new)) engine.new) }
-    ensures same { SameRelations (relations (λ p. (⟦<dyn Peer as Peer>⟧ p.peer.vtable).moves p.peer.value) (entries pool.old)) (relations (λ p. (⟦<dyn Peer as Peer>⟧ p.peer.vtable).moves p.peer.value) (entries pool.new)) }
+    ensures stepped { Stepped result definition.now (P.relations pool.old)
+        (point_of definition.now (P.seen pool.old) engine.old) (point_of definition.now (P.seen pool.new) engine.new) }
+    ensures same { SameRelations (P.relations pool.old) (P.relations pool.new) }
     ensures grows { IsPrefix (world_of engine.old.world).transcript (world_of engine.new.world).transcript }
     ensures room { SameRoom engine.old engine.new }
 {
@@ -48,18 +47,18 @@ fn step(
 }
 
 // Makes steps until a counted one is made or none is left, and answers whether one was made.
-fn advance(
+fn advance<P: Peers>(
     engine: &mut Engine,
     definition: &Definition,
-    pool: &mut PeerPool,
+    pool: &mut P,
 ) -> Result<bool, AllocError>
-    requires safe { ComesOfSafe definition.now (vec_capacity engine.now.stack.tasks) (point_of definition.now (seen (λ p. (⟦<dyn Peer as Peer>⟧ p.peer.vtable).state p.peer.value) (entries pool.now)) engine.now) }
+    requires safe { ComesOfSafe definition.now (vec_capacity engine.now.stack.tasks) (point_of definition.now (P.seen pool.now) engine.now) }
     requires counted { Counts definition.now nothing engine.now }
     ensures counted { OnOk result (Counts definition.now nothing engine.new) }
-    ensures advanced { Advanced result definition.now (relations (λ p. (⟦<dyn Peer as Peer>⟧ p.peer.vtable).moves p.peer.value) (entries pool.old))
-        (point_of definition.now (seen (λ p. (⟦<dyn Peer as Peer>⟧ p.peer.vtable).state p.peer.value) (entries pool.old)) engine.old) (point_of definition.now (seen (λ p. (⟦<dyn Peer as Peer>⟧ p.peer.vtable).state p.peer.value) (entries pool.new)) engine.new) }
+    ensures advanced { Advanced result definition.now (P.relations pool.old)
+        (point_of definition.now (P.seen pool.old) engine.old) (point_of definition.now (P.seen pool.new) engine.new) }
     ensures few { OnOk result (engine.old.counted ≤ most_steps → engine.new.counted ≤ most_steps) }
-    ensures same { SameRelations (relations (λ p. (⟦<dyn Peer as Peer>⟧ p.peer.vtable).moves p.peer.value) (entries pool.old)) (relations (λ p. (⟦<dyn Peer as Peer>⟧ p.peer.vtable).moves p.peer.value) (entries pool.new)) }
+    ensures same { SameRelations (P.relations pool.old) (P.relations pool.new) }
     ensures grows { IsPrefix (world_of engine.old.world).transcript (world_of engine.new.world).transcript }
     ensures room { SameRoom engine.old engine.new }
 {
@@ -77,18 +76,18 @@ fn advance(
 /// # Errors
 ///
 /// `AllocError` if no memory is found.
-pub(crate) fn run(
+pub(crate) fn run<P: Peers>(
     engine: &mut Engine,
     definition: &Definition,
-    pool: &mut PeerPool,
+    pool: &mut P,
 ) -> Result<(), AllocError>
-    requires safe { ComesOfSafe definition.now (vec_capacity engine.now.stack.tasks) (point_of definition.now (seen (λ p. (⟦<dyn Peer as Peer>⟧ p.peer.vtable).state p.peer.value) (entries pool.now)) engine.now) }
+    requires safe { ComesOfSafe definition.now (vec_capacity engine.now.stack.tasks) (point_of definition.now (P.seen pool.now) engine.now) }
     requires counted { Counts definition.now nothing engine.now }
     ensures counted { OnOk result (Counts definition.now nothing engine.new) }
-    ensures ran { Ran result definition.now (relations (λ p. (⟦<dyn Peer as Peer>⟧ p.peer.vtable).moves p.peer.value) (entries pool.old))
-        (point_of definition.now (seen (λ p. (⟦<dyn Peer as Peer>⟧ p.peer.vtable).state p.peer.value) (entries pool.old)) engine.old) (point_of definition.now (seen (λ p. (⟦<dyn Peer as Peer>⟧ p.peer.vtable).state p.peer.value) (entries pool.new)) engine.new) }
+    ensures ran { Ran result definition.now (P.relations pool.old)
+        (point_of definition.now (P.seen pool.old) engine.old) (point_of definition.now (P.seen pool.new) engine.new) }
     ensures few { OnOk result (engine.old.counted ≤ most_steps → engine.new.counted ≤ most_steps) }
-    ensures same { SameRelations (relations (λ p. (⟦<dyn Peer as Peer>⟧ p.peer.vtable).moves p.peer.value) (entries pool.old)) (relations (λ p. (⟦<dyn Peer as Peer>⟧ p.peer.vtable).moves p.peer.value) (entries pool.new)) }
+    ensures same { SameRelations (P.relations pool.old) (P.relations pool.new) }
     ensures grows { IsPrefix (world_of engine.old.world).transcript (world_of engine.new.world).transcript }
     ensures room { SameRoom engine.old engine.new }
 {
@@ -105,20 +104,20 @@ pub(crate) fn run(
 /// # Errors
 ///
 /// `AllocError` if no memory is found.
-pub(crate) fn run_for(
+pub(crate) fn run_for<P: Peers>(
     engine: &mut Engine,
     definition: &Definition,
-    pool: &mut PeerPool,
+    pool: &mut P,
     most: u64,
 ) -> Result<Option<u64>, AllocError>
-    requires safe { ComesOfSafe definition.now (vec_capacity engine.now.stack.tasks) (point_of definition.now (seen (λ p. (⟦<dyn Peer as Peer>⟧ p.peer.vtable).state p.peer.value) (entries pool.now)) engine.now) }
+    requires safe { ComesOfSafe definition.now (vec_capacity engine.now.stack.tasks) (point_of definition.now (P.seen pool.now) engine.now) }
     requires counted { Counts definition.now nothing engine.now }
     ensures counted { OnOk result (Counts definition.now nothing engine.new) }
-    ensures ran { RanFor result definition.now (relations (λ p. (⟦<dyn Peer as Peer>⟧ p.peer.vtable).moves p.peer.value) (entries pool.old))
-        (point_of definition.now (seen (λ p. (⟦<dyn Peer as Peer>⟧ p.peer.vtable).state p.peer.value) (entries pool.old)) engine.old) (point_of definition.now (seen (λ p. (⟦<dyn Peer as Peer>⟧ p.peer.vtable).state p.peer.value) (entries pool.new)) engine.new) }
+    ensures ran { RanFor result definition.now (P.relations pool.old)
+        (point_of definition.now (P.seen pool.old) engine.old) (point_of definition.now (P.seen pool.new) engine.new) }
     ensures made { IfOk result (λ left. engine.new.counted + steps_left left ≡ engine.old.counted + most) }
     ensures few { OnOk result (engine.old.counted ≤ most_steps → engine.new.counted ≤ most_steps) }
-    ensures same { SameRelations (relations (λ p. (⟦<dyn Peer as Peer>⟧ p.peer.vtable).moves p.peer.value) (entries pool.old)) (relations (λ p. (⟦<dyn Peer as Peer>⟧ p.peer.vtable).moves p.peer.value) (entries pool.new)) }
+    ensures same { SameRelations (P.relations pool.old) (P.relations pool.new) }
     ensures grows { IsPrefix (world_of engine.old.world).transcript (world_of engine.new.world).transcript }
     ensures room { SameRoom engine.old engine.new }
 {

@@ -1,5 +1,5 @@
 -- Counts that move as the machine's mentions do.
-use Rattle.std.proofs.Common.{◌≡◌, ℕ, zero, suc, ◌+◌, ◌-◌, ◌<◌, Bool, true, false, cond, nat_eq, nat_lt, List, ◌∷◌, length, map, Option, Some, None, slice_get, slice_set, Ok, refl, sym, ap, subst, ◌∙◌, arith}
+use Rattle.std.proofs.Common.{◌≡◌, ℕ, zero, suc, ◌+◌, ◌-◌, ◌<◌, Bool, true, false, cond, nat_eq, nat_lt, List, ◌∷◌, length, map, Option, Some, None, Vec, Global, slice_get, slice_set, Ok, refl, sym, ap, subst, ◌∙◌, arith}
 use Rattle.std.specs.Prelude.{IfOk, IfSome}
 use Rattle.std.proofs.lemmas.Bool.Decides.{nat_tests}
 use Rattle.ui_machine.specs.declared.arm.Arm.TheVariants as arms
@@ -11,7 +11,7 @@ use Rattle.ui_machine.specs.Rules.Construction.{lent}
 use Rattle.ui_machine.specs.Rules.NotifyQueue.{queued, raised, less_frozen, frozen_less}
 use Rattle.ui_machine.specs.State.Config.{BuilderEntry}
 use Rattle.ui_machine.specs.State.Objects.{Object, Objects, living, put, asked, changed, value_at, with_value}
-use Rattle.ui_machine.specs.State.Peers.{Peer, first_left}
+use Rattle.ui_machine.specs.State.Peers.{Peer}
 use Rattle.ui_machine.specs.State.References.{same, in_value, in_object, in_held, in_source, in_task, mentions, next_unheld}
 use Rattle.main_context.specs.Attached.{Attached}
 use Rattle.ui_machine.specs.State.Tasks.{Emission, Emitting, PlanEntry, Task}
@@ -28,7 +28,7 @@ use Rattle.instance_tables.proofs.Held.{total_put}
 use Rattle.instance_tables.proofs.Moves.{less_at}
 use Rattle.instance_tables.proofs.WriteExact.{write_exact}
 use Rattle.engine_world.specs.declared.engine.Engine.{Engine}
-use Rattle.engine_world.specs.declared.task.Stack.{Stack}
+use Rattle.engine_world.specs.declared.stacks.Stack.{Stack}
 use Rattle.engine_world.specs.declared.world.World.{World}
 use Rattle.bindings.specs.Made.{Made}
 use Rattle.engine_world.specs.EngineView.{config_of}
@@ -42,10 +42,10 @@ use Rattle.signal_core.specs.Connected.{Connected}
 use Rattle.ui_machine.specs.State.Handlers.{Handler}
 use Rattle.engine_world.specs.KnownHandlers.{AllTakeKnownHandlers}
 use Rattle.linked_programs.specs.Linked.{AreLinked, Linked}
-use Rattle.engine_world.specs.Counting.{OnlyCounts, Connects, Counts, IsCounted, KeepsCounts, PassesGot, in_emitted, in_subject, nothing}
-use Rattle.engine_world.specs.PeerPlaces.{AreGot}
+use Rattle.engine_world.specs.Counting.{OnlyCounts, Connects, Counts, IsCounted, KeepsCounts, PassesGot, PassesIn, in_emitted, in_subject, nothing}
+use Rattle.engine_world.specs.PeerPlaces.{AreAlike, AreGot, AreNumbered}
 use Rattle.engine_world.proofs.Floats.{if_ok_at, bind_ok}
-use Rattle.engine_world.proofs.GotPeers.{alike_got, lent_got}
+use Rattle.engine_world.proofs.GotPeers.{alike_got, alike_numbered, lent_got, names_lent}
 
 -- two changes of counts alone
 pub both_only : (t m n : Store) → OnlyCounts t m → OnlyCounts m n → OnlyCounts t n
@@ -261,14 +261,19 @@ keeps_same d e new table weak links passes context builder stack handlers = keep
 -- a line that was said
 pub keeps_said : (d : Definition) (e : Engine) (w : World) → w ≡ record e.world { transcript = w.transcript } → KeepsCounts d e (record e { world = w })
 keeps_said d e w is =
-    keeps_same d e (record e { world = w }) (ap (λ (v : World). v.table) is) (ap (λ (v : World). v.weak) is) refl (subst (λ (v : World). AreGot d v.seats v.got_peers.items) (sym is)) (ap (λ (v : World). v.context) is) (ap (λ (v : World). v.builder) is) refl (ap (λ (v : World). v.handlers) is)
+    keeps_same d e (record e { world = w }) (ap (λ (v : World). v.table) is) (ap (λ (v : World). v.weak) is) refl (subst (PassesIn d) (sym is)) (ap (λ (v : World). v.context) is) (ap (λ (v : World). v.builder) is) refl (ap (λ (v : World). v.handlers) is)
 
 -- a peer that became an object's
 pub keeps_lent : (d : Definition) (e : Engine) (peer : Option ℕ) (id : ℕ) (seats : List Peer) → seats ≡ lent peer id e.world.seats → IfSome peer (λ number. number < length e.world.seats)
     → KeepsCounts d e (record e { world = record e.world { seats = seats } })
 keeps_lent d e peer id seats is within =
     keeps_same d e (record e { world = record e.world { seats = seats } }) refl refl refl
-    (λ g. subst (λ (ps : List Peer). AreGot d ps e.world.got_peers.items) (sym is) (lent_got d e.world.seats peer id e.world.got_peers.items within g)) refl refl refl refl
+    (λ passes. record {
+      got = subst (λ (ps : List Peer). AreGot d ps e.world.got_peers.items) (sym is) (lent_got d e.world.seats peer id e.world.got_peers.items within passes.got);
+      numbered =
+          subst (λ (ps : List Peer). AreNumbered d ps e.world.peer_numbers.items) (sym is)
+          (alike_numbered d e.world.seats (lent peer id e.world.seats) e.world.peer_numbers.items (names_lent e.world.seats peer id within) passes.numbered);
+    }) refl refl refl refl
 
 -- an object that changed and holds what it held
 pub keeps_changed : (d : Definition) (e : Engine) (t : Store) → t ≡ with_objects e.world.table t.objects
@@ -356,9 +361,13 @@ same_tasks d e s is begun h = record {
 -- ** peers that are closed
 
 -- what is passed over stays so where the same peers are left
-pub closed_got : (d : Definition) (old new : World) → ((names : List (List ℕ)) → first_left new.seats names ≡ first_left old.seats names) → new.got_peers.items ≡ old.got_peers.items
-    → AreGot d old.seats old.got_peers.items → AreGot d new.seats new.got_peers.items
-closed_got d old new alike got are = subst (AreGot d new.seats) (sym got) (alike_got d old.seats new.seats old.got_peers.items alike are)
+pub closed_passes : (d : Definition) (old new : World) → AreAlike old.seats new.seats → new.got_peers ≡ old.got_peers → new.peer_numbers ≡ old.peer_numbers → PassesIn d old → PassesIn d new
+closed_passes d old new alike got numbers passes = record {
+  got = subst (λ (g : Vec ℕ Global). AreGot d new.seats g.items) (sym got) (alike_got d old.seats new.seats old.got_peers.items alike passes.got);
+  numbered =
+      subst (λ (k : Vec (Vec (Option ℕ) Global) Global). AreNumbered d new.seats k.items) (sym numbers)
+      (alike_numbered d old.seats new.seats old.peer_numbers.items alike.numbers passes.numbered);
+}
 
 -- ** what is to be finalised
 
@@ -370,11 +379,11 @@ finds_mentioned d e h =
 
 -- what is finalised held what it let go of; its handlers hold nothing
 pub keeps_finalised : (d : Definition) (e : Engine) (t : Store) (hs : Connected) (bs : Made) (w : World) (gone : Gone) (id n : ℕ) (closing : Option ℕ) → (Knows d e.world.weak → Finalises d id e.world.table t)
-    → ((names : List (List ℕ)) → first_left w.seats names ≡ first_left e.world.seats names) → hs ≡ record e.world.handlers { handlers = hs.handlers }
+    → AreAlike e.world.seats w.seats → hs ≡ record e.world.handlers { handlers = hs.handlers }
     → w ≡ record (record e.world { table = t; handlers = hs; bindings = bs }) { seats = w.seats; transcript = w.transcript } → tasks_of d hs.handlers e.stack ≡ map (pruned gone) (agenda_of d e)
     → KeepsCounts d e (record e { world = w; counted = n; closing = closing })
 keeps_finalised d e t hs bs w gone id n closing finalises closes only is left =
-    keeps_by d e (record e { world = w; counted = n; closing = closing }) (ap (λ (v : World). v.weak) is) refl (closed_got d e.world w closes (ap (λ (v : World). v.got_peers.items) is)) (ap (λ (v : World). v.context) is)
+    keeps_by d e (record e { world = w; counted = n; closing = closing }) (ap (λ (v : World). v.weak) is) refl (closed_passes d e.world w closes (ap (λ (v : World). v.got_peers) is) (ap (λ (v : World). v.peer_numbers) is)) (ap (λ (v : World). v.context) is)
     (λ h. handled d e (record e { world = w; counted = n; closing = closing }) hs (ap (λ (v : World). v.handlers) is) only refl h) (λ taken knows h.
     let b = map held_of e.world.builder.items in
     let a = agenda_of d e in

@@ -1,16 +1,15 @@
 -- Peers that are passed over: those of a place that are not left, from the first one on.
-use Rattle.std.proofs.Common.{◌≡◌, ◌<◌, ◌≤◌, ℕ, zero, suc, Bool, true, false, cond, nat_eq, List, [], ◌∷◌, drop, length, replicate, take, Option, None, Some, String, Global, option_map, is_some, slice_get, slice_set, string_bytes, is_none, refl, sym, ap, ◌∙◌, arith}
-use Rattle.std.specs.Prelude.{IfSome}
+use Rattle.std.proofs.Common.{◌≡◌, ◌<◌, ◌≤◌, ℕ, zero, suc, Bool, true, false, cond, nat_eq, List, [], ◌∷◌, drop, length, replicate, take, Option, None, Some, Vec, Global, is_some, slice_get, slice_set, is_none, refl, sym, ap, ◌∙◌, arith}
+use Rattle.std.specs.Prelude.{IfSome, IsSomeAnd, map}
+use Rattle.std.proofs.lemmas.Option.{slice_get_within}
 use Rattle.std.proofs.lemmas.Bool.Decides.{nat_tests}
-use Rattle.std.specs.Option.{option_map_or}
 use Rattle.ui_machine.specs.Definition.{Definition}
 use Rattle.ui_machine.specs.Definition.Names.{place_from, same_name}
 use Rattle.ui_machine.specs.Definition.Places.{Place}
 use Rattle.ui_machine.specs.Rules.Construction.{lent}
 use Rattle.ui_machine.specs.Seq.{read, write}
 use Rattle.ui_machine.specs.State.Peers.{Peer, closed_peer, first_left, if_left, is_left, no_peer, peer_number}
-use Rattle.definition_format.specs.Meaning.{name_bytes}
-use Rattle.engine_world.specs.PeerPlaces.{AreGot}
+use Rattle.engine_world.specs.PeerPlaces.{AreAlike, AreGot, AreNumbered, Numbered, first_of}
 use Rattle.engine_world.specs.SeatView.{closed_at}
 
 -- ** names whose peers are not left
@@ -38,51 +37,50 @@ module _ (peers : List Peer) where
       by false e = is
 
   -- what is passed over is not looked for
-  pub left_past : (names : List (List ℕ)) (n : ℕ) → first_left peers (take n names) ≡ None → first_left peers names ≡ first_left peers (drop n names)
-  left_past names zero none = refl
+  pub left_past : (numbers : List (Option ℕ)) (n : ℕ) → first_of peers (take n numbers) ≡ None → first_of peers numbers ≡ first_of peers (drop n numbers)
+  left_past numbers zero none = refl
   left_past [] (suc n) none = refl
-  left_past (name ∷ names) (suc n) none =
-      let both = none_both (peer_number peers name) (first_left peers (take n names)) none in
-      none_more (peer_number peers name) (first_left peers names) (first_left peers (drop n names)) both.0 (left_past names n both.1)
+  left_past (number ∷ numbers) (suc n) none =
+      let both = none_both number (first_of peers (take n numbers)) none in
+      none_more number (first_of peers numbers) (first_of peers (drop n numbers)) both.0 (left_past numbers n both.1)
 
-  -- one name more is passed over
-  pub one_past : (names : List (List ℕ)) (n : ℕ) (name : List ℕ) → slice_get names n ≡ Some name → if_left peers (peer_number peers name) None ≡ None
-      → first_left peers (take n names) ≡ None → first_left peers (take (suc n) names) ≡ None
-  one_past [] n name at not none = cc at
-  one_past (x ∷ names) zero name at not none =
-      let here : x ≡ name = cc at in
-      ap (λ y. if_left peers (peer_number peers y) None) here ∙ not
-  one_past (x ∷ names) (suc n) name at not none =
-      let both = none_both (peer_number peers x) (first_left peers (take n names)) none in
-      none_more (peer_number peers x) (first_left peers (take (suc n) names)) None both.0 (one_past names n name at not both.1)
+  -- one more is passed over
+  pub one_past : (numbers : List (Option ℕ)) (n : ℕ) (number : Option ℕ) → slice_get numbers n ≡ Some number → if_left peers number None ≡ None
+      → first_of peers (take n numbers) ≡ None → first_of peers (take (suc n) numbers) ≡ None
+  one_past [] n number at not none = absurd (cc at)
+  one_past (x ∷ numbers) zero number at not none =
+      let here : x ≡ number = cc at in
+      ap (λ y. if_left peers y None) here ∙ not
+  one_past (x ∷ numbers) (suc n) number at not none =
+      let both = none_both x (first_of peers (take n numbers)) none in
+      none_more x (first_of peers (take (suc n) numbers)) None both.0 (one_past numbers n number at not both.1)
 
   -- all are passed over
-  pub all_past : (names : List (List ℕ)) (n : ℕ) → length names ≤ n → first_left peers (take n names) ≡ None → first_left peers (take (length names) names) ≡ None
+  pub all_past : (numbers : List (Option ℕ)) (n : ℕ) → length numbers ≤ n → first_of peers (take n numbers) ≡ None → first_of peers (take (length numbers) numbers) ≡ None
   all_past [] n long none = refl
-  all_past (x ∷ names) zero long none = absurd (omega (arith, long))
-  all_past (x ∷ names) (suc n) long none =
-      let both = none_both (peer_number peers x) (first_left peers (take n names)) none in
-      none_more (peer_number peers x) (first_left peers (take (length names) names)) None both.0 (all_past names n (omega (arith, long)) both.1)
+  all_past (x ∷ numbers) zero long none = absurd (omega (arith, long))
+  all_past (x ∷ numbers) (suc n) long none =
+      let both = none_both x (first_of peers (take n numbers)) none in
+      none_more x (first_of peers (take (length numbers) numbers)) None both.0 (all_past numbers n (omega (arith, long)) both.1)
 
--- what is passed over of names, and the names behind
-pub past_names : (peers : List Peer) (names : List (String Global)) (n : ℕ) → first_left peers (take n (name_bytes names)) ≡ None
-    → first_left peers (name_bytes (drop n names)) ≡ first_left peers (name_bytes names)
-past_names peers names n none = ap (first_left peers) (names_behind names n) ∙ sym (left_past peers (name_bytes names) n none)
-  where
-    names_behind : (names : List (String Global)) (n : ℕ) → name_bytes (drop n names) ≡ drop n (name_bytes names)
-    names_behind names zero = refl
-    names_behind [] (suc n) = refl
-    names_behind (x ∷ names) (suc n) = names_behind names n
+  -- ** numbers that are those of names
 
--- the name at a place
-pub name_there : (names : List (String Global)) (n : ℕ) (name : String Global) → slice_get names n ≡ Some name → slice_get (name_bytes names) n ≡ Some (string_bytes name)
-name_there [] n name at = cc at
-name_there (x ∷ names) zero name at = ap (λ o. option_map string_bytes o) at
-name_there (x ∷ names) (suc n) name at = name_there names n name at
+  pub named_past : (names : List (List ℕ)) (n : ℕ) → first_of peers (take n (map (peer_number peers) names)) ≡ first_left peers (take n names)
+  named_past names zero = refl
+  named_past [] (suc n) = refl
+  named_past (name ∷ names) (suc n) = ap (if_left peers (peer_number peers name)) (named_past names n)
 
-pub as_many_names : (names : List (String Global)) → length (name_bytes names) ≡ length names
-as_many_names [] = refl
-as_many_names (x ∷ names) = ap (λ n. suc n) (as_many_names names)
+  pub named_left : (names : List (List ℕ)) → first_of peers (map (peer_number peers) names) ≡ first_left peers names
+  named_left [] = refl
+  named_left (name ∷ names) = ap (if_left peers (peer_number peers name)) (named_left names)
+
+  -- a peer that is left is there
+  pub left_within : (n : ℕ) → is_left (slice_get peers n) ≡ true → n < length peers
+  left_within n left = by (slice_get peers n) refl left
+    where
+      by : (o : Option Peer) → slice_get peers n ≡ o → is_left o ≡ true → n < length peers
+      by None e is = absurd (cc is)
+      by (Some p) e is = slice_get_within peers n p e
 
 -- ** peers that change
 
@@ -149,13 +147,17 @@ none_lent peers (Some k) id within names none =
     let x : Peer = record (read no_peer peers k) { holder = Some id } in
     none_still peers (write no_peer peers k x) (λ name. renamed 0 peers k x name refl within) (λ j. got_written peers k j x refl within) names none
 
--- and the same are left as one is closed
-pub left_closed : (peers : List Peer) (peer : Option ℕ) → IfSome peer (λ k. k < length peers) → (names : List (List ℕ))
-    → first_left (option_map_or (λ number. closed_at peers number) peer peers) names ≡ first_left peers names
-left_closed peers None within names = refl
-left_closed peers (Some k) within names =
+-- and all have their names
+pub names_lent : (peers : List Peer) (peer : Option ℕ) (id : ℕ) → IfSome peer (λ k. k < length peers) → (name : List ℕ) → peer_number (lent peer id peers) name ≡ peer_number peers name
+names_lent peers None id within name = refl
+names_lent peers (Some k) id within name = renamed 0 peers k (record (read no_peer peers k) { holder = Some id }) name refl within
+
+-- the same are left as one is closed
+pub alike_closed : (peers : List Peer) (k : ℕ) → k < length peers → AreAlike peers (closed_at peers k)
+alike_closed peers k within =
     let x : Peer = closed_peer (read no_peer peers k) in
-    same_first peers (write no_peer peers k x) (λ name. renamed 0 peers k x name refl within) (λ j. left_alike peers k j x refl within) names
+    let numbers : (name : List ℕ) → peer_number (write no_peer peers k x) name ≡ peer_number peers name = λ name. renamed 0 peers k x name refl within in
+    record { numbers = numbers; left = same_first peers (write no_peer peers k x) numbers (λ j. left_alike peers k j x refl within) }
 
 -- ** of each place
 
@@ -163,8 +165,30 @@ pub lent_got : (d : Definition) (peers : List Peer) (peer : Option ℕ) (id : �
     → AreGot d peers got → AreGot d (lent peer id peers) got
 lent_got d peers peer id got within are place p at = none_lent peers peer id within (take (read 0 got place) p.peers) (are place p at)
 
-pub alike_got : (d : Definition) (old new : List Peer) (got : List ℕ) → ((names : List (List ℕ)) → first_left new names ≡ first_left old names) → AreGot d old got → AreGot d new got
-alike_got d old new got alike are place p at = alike (take (read 0 got place) p.peers) ∙ are place p at
+pub alike_got : (d : Definition) (old new : List Peer) (got : List ℕ) → AreAlike old new → AreGot d old got → AreGot d new got
+alike_got d old new got alike are place p at = alike.left (take (read 0 got place) p.peers) ∙ are place p at
+
+same_numbers : (old new : List Peer) → ((name : List ℕ) → peer_number new name ≡ peer_number old name) → (names : List (List ℕ)) → map (peer_number old) names ≡ map (peer_number new) names
+same_numbers old new alike [] = refl
+same_numbers old new alike (name ∷ names) = rw (alike name, same_numbers old new alike names) refl
+
+-- the numbers stay where each peer has its name
+pub alike_numbered : (d : Definition) (old new : List Peer) (kept : List (Vec (Option ℕ) Global)) → ((name : List ℕ) → peer_number new name ≡ peer_number old name)
+    → AreNumbered d old kept → AreNumbered d new kept
+alike_numbered d old new kept alike are place p at = by (slice_get kept place) (are place p at)
+  where
+    by : (o : Option (Vec (Option ℕ) Global)) → IsSomeAnd o (λ numbers. Numbered old p.peers numbers.items) → IsSomeAnd o (λ numbers. Numbered new p.peers numbers.items)
+    by None is = is
+    by (Some numbers) is = is ∙ same_numbers old new alike p.peers
+
+-- the numbers that are kept of a place are those of its peers
+pub numbers_kept : (d : Definition) (peers : List Peer) (kept : List (Vec (Option ℕ) Global)) (place : ℕ) (p : Place) (numbers : List (Option ℕ)) → slice_get d.places place ≡ Some p
+    → IfSome (slice_get kept place) (λ ns. numbers ≡ ns.items) → AreNumbered d peers kept → Numbered peers p.peers numbers
+numbers_kept d peers kept place p numbers at is are = by (slice_get kept place) is (are place p at)
+  where
+    by : (o : Option (Vec (Option ℕ) Global)) → IfSome o (λ ns. numbers ≡ ns.items) → IsSomeAnd o (λ ns. Numbered peers p.peers ns.items) → Numbered peers p.peers numbers
+    by None e is = absurd is
+    by (Some ns) e is = e ∙ is
 
 -- nothing is passed over where no number is kept but 0
 none_got : (d : Definition) (peers : List Peer) (got : List ℕ) → ((place : ℕ) → read 0 got place ≡ 0) → AreGot d peers got

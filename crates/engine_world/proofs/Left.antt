@@ -11,7 +11,7 @@ use Rattle.engine_world.specs.View.{world_of}
 use Rattle.engine_world.specs.TaskView.{tasks_of, agenda_of}
 use Rattle.engine_world.specs.EngineView.{config_of}
 use Rattle.engine_world.specs.declared.engine.Engine.{Engine}
-use Rattle.engine_world.specs.declared.task.Stack.{Stack}
+use Rattle.engine_world.specs.declared.stacks.Stack.{Stack}
 
 -- the same tasks, where the same handlers are connected
 pub same_agenda : (d : Definition) (e new : Engine) → new.stack ≡ e.stack → new.world.handlers ≡ e.world.handlers → agenda_of d new ≡ agenda_of d e

@@ -23,11 +23,14 @@ pub mod Gone
 pub mod Held
 pub mod Named
 pub mod GotPeers
+pub mod PeerNumbers
 pub mod SameTurns
 pub mod Signals
 pub mod Rooms
 pub mod HandlerAdded
 pub mod Prototypes
+pub mod BuildTasks
+pub mod Dispose
 pub mod Building
 pub mod MakingSteps
 mod ConstructedRuns

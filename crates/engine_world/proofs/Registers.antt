@@ -28,7 +28,7 @@ use Rattle.ui_machine.specs.declared.arm.Halt.{Halt}
 use Rattle.engine_world.specs.View.{world_of}
 use Rattle.engine_world.specs.TaskView.{agenda_of, task_of, tasks_of}
 use Rattle.engine_world.specs.declared.engine.Engine.{Engine}
-use Rattle.engine_world.specs.declared.task.Stack.{Stack}
+use Rattle.engine_world.specs.declared.stacks.Stack.{Stack}
 use Rattle.engine_world.specs.declared.task.Task as code
 use Rattle.engine_world.specs.declared.task.Task.TheVariants as tasks
 use Rattle.frames.specs.declared.frame.Frame as frames

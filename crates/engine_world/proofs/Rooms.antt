@@ -21,7 +21,7 @@ use Rattle.engine_world.specs.Counting.{Counts, IsCounted, in_frame}
 use Rattle.engine_world.specs.TaskView.{agenda_of, task_in, task_of, tasks_of}
 use Rattle.engine_world.specs.View.{held_of}
 use Rattle.engine_world.specs.declared.engine.Engine.{Engine}
-use Rattle.engine_world.specs.declared.task.Stack.{Stack}
+use Rattle.engine_world.specs.declared.stacks.Stack.{Stack}
 use Rattle.engine_world.specs.declared.task.Task.{Task}
 use Rattle.engine_world.specs.declared.task.Task.TheVariants as tasks
 

@@ -18,7 +18,7 @@ use Rattle.signal_core.specs.declared.stage.Stage.TheVariants as stages
 use Rattle.engine_world.specs.TaskView.{emission_of, entries_to_come, task_of, tasks_of}
 use Rattle.engine_world.specs.TransferView.{due_later, due_now, entries_due_of}
 use Rattle.engine_world.specs.declared.task.Transfers.{Transfers}
-use Rattle.engine_world.specs.declared.task.Stack.{Stack}
+use Rattle.engine_world.specs.declared.stacks.Stack.{Stack}
 use Rattle.engine_world.specs.declared.task.Task as code
 use Rattle.engine_world.specs.declared.task.Task.TheVariants as tasks
 

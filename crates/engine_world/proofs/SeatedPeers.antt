@@ -9,10 +9,10 @@ use Rattle.std.specs.List.{AllByRecursion}
 use Rattle.ui_machine.specs.Definition.Names.{place_from, same_name}
 use Rattle.ui_machine.specs.Definition.Signals.{Method}
 use Rattle.ui_machine.specs.Seq.{read, write}
-use Rattle.ui_machine.specs.State.Peers.{Peer, first_left, if_left, is_left, no_peer, peer_number}
+use Rattle.ui_machine.specs.State.Peers.{Peer, if_left, is_left, no_peer, peer_number}
 use Rattle.g_values.proofs.Texts.{same_bytes}
-use Rattle.definition_format.specs.Meaning.{name_bytes}
 use Rattle.peer_shapes.specs.MethodViews.{is_plain_shape}
+use Rattle.engine_world.specs.PeerPlaces.{first_of}
 use Rattle.engine_world.specs.SeatView.{AreNumbers, HasPlainShape, seated}
 use Rattle.engine_world.specs.declared.seats.Seat.{Seat}
 use Rattle.engine_world.proofs.Building.{drop_at}
@@ -133,14 +133,13 @@ module _ (peers : List Peer) (rest : Option ℕ) where
       by true h = sym h
       by false h = cc h
 
-module _ (peers : List Peer) (names : List (String Global)) (i : ℕ) (name : String Global) (at : slice_get names i ≡ Some name) where
-  -- the names from one on
-  from : first_left peers (name_bytes (drop i names)) ≡ if_left peers (peer_number peers (string_bytes name)) (first_left peers (name_bytes (drop (suc i) names)))
-  from = ap (λ (l : List (String Global)). first_left peers (name_bytes l)) (drop_at names i name at)
+module _ (peers : List Peer) (numbers : List (Option ℕ)) (i : ℕ) (number : Option ℕ) (at : slice_get numbers i ≡ Some number) where
+  -- the numbers from one on
+  from : first_of peers (drop i numbers) ≡ if_left peers number (first_of peers (drop (suc i) numbers))
+  from = ap (first_of peers) (drop_at numbers i number at)
 
-  pub not_this : None ≡ if_left peers (peer_number peers (string_bytes name)) None
-      → first_left peers (name_bytes (drop i names)) ≡ first_left peers (name_bytes (drop (suc i) names))
-  not_this none = from ∙ none_before peers (first_left peers (name_bytes (drop (suc i) names))) (peer_number peers (string_bytes name)) none
+  pub not_this : None ≡ if_left peers number None → first_of peers (drop i numbers) ≡ first_of peers (drop (suc i) numbers)
+  not_this none = from ∙ none_before peers (first_of peers (drop (suc i) numbers)) number none
 
-  pub this_one : (number : ℕ) → Some number ≡ if_left peers (peer_number peers (string_bytes name)) None → first_left peers (name_bytes (drop i names)) ≡ Some number
-  this_one number some = from ∙ some_here peers (first_left peers (name_bytes (drop (suc i) names))) number (peer_number peers (string_bytes name)) some
+  pub this_one : (found : ℕ) → Some found ≡ if_left peers number None → first_of peers (drop i numbers) ≡ Some found
+  this_one found some = from ∙ some_here peers (first_of peers (drop (suc i) numbers)) found number some

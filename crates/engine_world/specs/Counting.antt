@@ -1,17 +1,20 @@
 -- What the engine counts of each object, beside what the machine mentions of it.
-use Rattle.std.specs.Prelude.{◌≡◌, ℕ, ◌+◌, ◌<◌, ◌≤◌, ◌^◌, IsSome}
+use Rattle.std.specs.Prelude.{◌≡◌, ℕ, ◌+◌, ◌<◌, ◌≤◌, ◌^◌, IsSome, List, Option, Vec}
+use Rattle.std.specs.Global.{Global}
 use Rattle.ui_machine.specs.Definition.{Definition}
 use Rattle.ui_machine.specs.State.Objects.{living}
+use Rattle.ui_machine.specs.State.Peers.{Peer}
 use Rattle.ui_machine.specs.State.References.{same, in_value, in_register, in_held, in_task, mentions}
 use Rattle.ui_machine.specs.State.Tasks.{Emission, Frame, Task, Beginning, Calling, Emitting, Running}
 use Rattle.instance_tables.specs.Store.{Store, count_of}
 use Rattle.engine_world.specs.declared.engine.Engine.{Engine}
+use Rattle.engine_world.specs.declared.world.World.{World}
 use Rattle.instance_tables.specs.Weak.{Knows}
 use Rattle.linked_programs.specs.Linked.{AreLinked}
 use Rattle.ui_machine.specs.Seq.{total}
 use Rattle.engine_world.specs.View.{world_of}
 use Rattle.engine_world.specs.KnownHandlers.{AllTakeKnownHandlers}
-use Rattle.engine_world.specs.PeerPlaces.{AreGot}
+use Rattle.engine_world.specs.PeerPlaces.{AreGot, AreNumbered}
 use Rattle.engine_world.specs.EngineView.{config_of}
 use Rattle.engine_world.specs.TaskView.{agenda_of, task_in}
 use Rattle.engine_world.specs.declared.task.Task as code
@@ -28,12 +31,19 @@ pub record Connects (d : Definition) (e : Engine) : Type 0 where
   pub to_come : e.world.handlers.to_come ≡ 0
   pub begun : AllTakeKnownHandlers e.world.handlers.last e.stack
 
--- what the engine passes over of each place's peers is not left
+-- the numbers of each place's peers are kept, and those that are passed over are not left
+pub record KeepsPeers (d : Definition) (peers : List Peer) (passed : List ℕ) (kept : List (Vec (Option ℕ) Global)) : Type 0 where
+  pub got : AreGot d peers passed
+  pub numbered : AreNumbered d peers kept
+
+abbrev pub PassesIn : Definition → World → Type 0
+PassesIn d w = KeepsPeers d w.seats w.got_peers.items w.peer_numbers.items
+
 abbrev pub PassesGot : Definition → Engine → Type 0
-PassesGot d e = AreGot d e.world.seats e.world.got_peers.items
+PassesGot d e = PassesIn d e.world
 
 -- Each object is counted as often as it is mentioned, and so often more as is said: so much holds a task that was taken off and is not done yet.
--- It is known which properties are weak, what the names in programs mean, which peers of a place are passed over, and what may be connected.
+-- It is known which properties are weak, what the names in programs mean, which peers a place has and which of them are passed over, and what may be connected.
 pub record Counts (d : Definition) (taken : ℕ → ℕ) (e : Engine) : Type 0 where
   pub knows : Knows d e.world.weak
   pub links : AreLinked d e.links

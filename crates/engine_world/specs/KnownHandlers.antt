@@ -1,7 +1,7 @@
 -- Emissions that go on: the handlers that are connected behind their beginning, and the transfers that they have left.
 use Rattle.std.specs.Prelude.{◌≡◌, ℕ, ◌≤◌, All, true, []}
 use Rattle.signal_core.specs.Emission.{Walk, is_over}
-use Rattle.engine_world.specs.declared.task.Stack.{Stack}
+use Rattle.engine_world.specs.declared.stacks.Stack.{Stack}
 use Rattle.engine_world.specs.declared.task.Task.{Task}
 use Rattle.engine_world.specs.declared.task.Task.TheVariants as tasks
 use Rattle.engine_world.specs.declared.task.Transfers.{Transfers}

@@ -20,4 +20,5 @@ pub mod EngineView
 pub mod Standing
 pub mod Counting
 pub mod Able
+pub mod BuildTasks
 pub mod Room

@@ -20,7 +20,7 @@ use Rattle.engine_world.specs.declared.task.Task.TheVariants as tasks
 use Rattle.engine_world.specs.declared.task.ForwardReference.{ForwardReference}
 use Rattle.engine_world.specs.declared.task.NewEmission.{NewEmission}
 use Rattle.engine_world.specs.declared.engine.Engine.{Engine}
-use Rattle.engine_world.specs.declared.task.Stack.{Stack}
+use Rattle.engine_world.specs.declared.stacks.Stack.{Stack}
 use Rattle.engine_world.specs.declared.task.Transfers.{Transfers}
 use Rattle.engine_world.specs.TransferView.{due_later, due_now, entries_due_of}
 pub use Rattle.engine_world.specs.MakingView.{making_of_code}

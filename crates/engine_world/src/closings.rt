@@ -8,7 +8,7 @@ ghost use Rattle.ui_machine.specs.Prefix.{IsPrefix};
 ghost use Rattle.ui_machine.specs.Rules.Disposal.{closing, is_first, peer_of, said_if};
 ghost use Rattle.ui_machine.specs.State.Config.{World};
 ghost use Rattle.ui_machine.specs.State.Objects.{living};
-ghost use Rattle.ui_machine.specs.State.Peers.{first_left};
+ghost use Rattle.engine_world.specs.PeerPlaces.{AreAlike};
 ghost use Rattle.engine_world.specs.ClosingView.{IsThere, closed_with, or_number, with_closed};
 ghost use Rattle.engine_world.specs.SeatView.{closed_at};
 ghost use Rattle.engine_world.specs.View.{line_if, with_line_if, world_of};
@@ -111,7 +111,7 @@ fn close(engine: &mut Engine, peer: Option<usize>)
       world = record engine.old.world { seats = option_map_or (λ number. closed_at engine.old.world.seats number) peer engine.old.world.seats };
       closing = or_number peer engine.old.closing;
     } }
-    ensures left { (names : List (List ℕ)) → first_left engine.new.world.seats names ≡ first_left engine.old.world.seats names }
+    ensures left { AreAlike engine.old.world.seats engine.new.world.seats }
 {
     let Some(number) = peer else {
         return;
@@ -138,7 +138,7 @@ pub fn say_and_close(
     ensures err { OnErr result (world_of engine.new.world ≡ world_of engine.old.world) }
     ensures grows { OnOk result (IsPrefix (world_of engine.old.world).transcript (world_of engine.new.world).transcript) }
     ensures closing { OnOk result (engine.new.closing ≡ or_number (option_map (λ (c : Closing). c.peer) closed) engine.old.closing) }
-    ensures left { (names : List (List ℕ)) → first_left engine.new.world.seats names ≡ first_left engine.old.world.seats names }
+    ensures left { AreAlike engine.old.world.seats engine.new.world.seats }
     ensures beside { engine.new ≡ record engine.old { world = record engine.old.world { seats = engine.new.world.seats; transcript = engine.new.world.transcript }; closing = engine.new.closing } }
 {
     let (peer, line) = match closed {

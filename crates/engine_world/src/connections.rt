@@ -209,7 +209,8 @@ fn has_handler_number(engine: &Engine, definition: &Definition) -> bool
     ensures { result ≡ nat_lt (engine.now.world.handlers.last + to_connect (agenda_of definition.now engine.now)) greatest_handler }
 {
     let mut taken = engine.world.handlers.last();
-    for task in &engine.stack.tasks {
+    let build = engine.stack.of_build();
+    for task in build {
         taken = task.taken_by(definition, taken);
     }
     taken < u64::MAX

@@ -10,7 +10,7 @@ ghost use Rattle.engine_world.specs.TaskView.{agenda_of};
 
 use crate::reserves::{Room, Spare};
 use crate::seats::Seats;
-use crate::task::Stack;
+use crate::stacks::Stack;
 use crate::world::World;
 use bindings::Bindings;
 use g_values::Value;
@@ -49,8 +49,8 @@ pub enum StepKind {
 }
 
 impl Engine {
-    /// Nothing is built yet, the names in programs mean this, there are these peers, so many of those of each place are known not to be left, and
-    /// there is nothing to do, with so much room for what comes.
+    /// Nothing is built yet, the names in programs mean this, there are these peers, those of each place have these numbers,
+    /// so many of them are known not to be left, and there is nothing to do, with so much room for what comes.
     ///
     /// # Errors
     ///
@@ -62,6 +62,7 @@ impl Engine {
         limits: Limits,
         seats: Seats,
         got_peers: Vec<usize>,
+        peer_numbers: Vec<Vec<Option<usize>>>,
         room: Room,
     ) -> Result<Self, AllocError>
         ensures world { IfOk result (λ e. (d : machine.Definition) → world_of e.world ≡ first_world d seats) }
@@ -69,6 +70,7 @@ impl Engine {
         ensures marks { IfOk result (λ e. e.world.weak ≡ weak) }
         ensures links { IfOk result (λ e. e.links ≡ links) }
         ensures got { IfOk result (λ e. e.world.got_peers ≡ got_peers) }
+        ensures numbers { IfOk result (λ e. e.world.peer_numbers ≡ peer_numbers) }
         ensures handlers { IfOk result (λ e. e.world.handlers ≡ none_connected limits.handlers 0) }
         ensures begun { IfOk result (λ e. AllTakeKnownHandlers 0 e.stack) }
         ensures closing { IfOk result (λ e. e.closing ≡ None) }
@@ -88,6 +90,7 @@ impl Engine {
                 builder: Vec::new(alloc),
                 seats,
                 got_peers,
+                peer_numbers,
                 transcript: Vec::new(alloc),
                 result: None,
             },

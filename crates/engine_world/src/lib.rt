@@ -23,6 +23,7 @@ pub mod refusals;
 pub mod reserves;
 pub mod seats;
 pub mod sources;
+pub mod stacks;
 pub mod task;
 pub mod transformations;
 pub mod weak_slots;

@@ -1,6 +1,6 @@
 //! Which peer an object gets as it is made.
 
-ghost use Rattle.std.specs.Prelude.{◌≡◌, ◌<◌, ◌||◌, ℕ, IfSome, None, Ok, Some, drop, is_some, length, not, slice_get, take};
+ghost use Rattle.std.specs.Prelude.{◌≡◌, ◌<◌, ◌||◌, ℕ, IfOk, IfSome, List, None, Ok, Some, drop, is_some, length, not, slice_get, take};
 ghost use Rattle.ui_machine.specs.Rules.Build.{first_peer};
 ghost use Rattle.ui_machine.specs.Rules.Construction.{has_shape, peer_left, peer_to_take};
 ghost use Rattle.definition_format.specs.Meaning.{name_bytes};
@@ -9,15 +9,16 @@ ghost use Rattle.engine_world.specs.Able.{Able};
 ghost use Rattle.ui_machine.specs.Definition as definition;
 ghost use Rattle.ui_machine.specs.Definition.Places as machine;
 ghost use Rattle.ui_machine.specs.Seq.{read};
-ghost use Rattle.ui_machine.specs.State.Peers.{first_left};
+ghost use Rattle.ui_machine.specs.State.Peers.{Peer};
 ghost use Rattle.engine_world.specs.GotNames.{AreAllGot};
-ghost use Rattle.engine_world.specs.PeerPlaces.{AreGot, is_there, own_peer, taken};
+ghost use Rattle.engine_world.specs.Counting.{PassesIn};
+ghost use Rattle.engine_world.specs.PeerPlaces.{AreGot, AreNumbered, Numbered, first_of, is_there, own_peer, taken};
 ghost use Rattle.engine_world.specs.View.{world_of};
 
 use crate::engine::Engine;
-use crate::places::entry_at;
 use crate::seats::Seats;
 use definitions::{Definition, ObjectEntry};
+use std::alloc::{AllocError, Global};
 use type_tree::TypeId;
 use ui_machine::Place;
 
@@ -61,27 +62,36 @@ fn has_shape(definition: &Definition, class: TypeId) -> bool
     definition.shape_number(class).is_some()
 }
 
-// The number of the peer of the first of these names.
-fn first_peer(seats: &Seats, names: &[String]) -> Option<usize>
-    ensures first { result ≡ first_peer seats.now (name_bytes names.now) }
-    ensures within { IfSome result (λ number. number < length seats.now) }
+// The numbers of the peers that a place names.
+pub(crate) fn numbers_at(numbers: &[Vec<Option<usize>>], place: Place) -> &[Option<usize>]
+    ensures { IfSome (slice_get numbers.now place.0) (λ kept. result.now ≡ kept.items) }
 {
-    match names {
+    match numbers.get(usize::from(place.0)) {
+        Some(numbers) => numbers.as_slice(),
+        None => &[],
+    }
+}
+
+// The first of these numbers.
+fn first_number(numbers: &[Option<usize>]) -> Option<usize>
+    ensures { (peers : List Peer) (names : List (List ℕ)) → Numbered peers names numbers.now → result ≡ first_peer peers names }
+{
+    match numbers {
         [] => None,
-        [name, ..] => seats.find(name.as_str()),
+        [number, ..] => *number,
     }
 }
 
 /// The peer that the object at a place of the build has for its own: it has one where its class has a shape.
 pub fn own_peer(engine: &Engine, definition: &Definition, place: Place) -> Option<usize>
     requires able { Able (own_peer definition.now (world_of engine.now.world) place.0) }
+    requires numbered { AreNumbered definition.now engine.now.world.seats engine.now.world.peer_numbers.items }
     ensures own { own_peer definition.now (world_of engine.now.world) place.0 ≡ Ok result }
     ensures within { IfSome result (λ number. number < length engine.now.world.seats) }
 {
-    let Some(entry) = entry_at(definition, place) else {
-        unreachable!()
-    };
-    first_peer(&engine.world.seats, entry.peers)
+    // For the proof: the clauses speak of the definition.
+    let _ = definition;
+    first_number(numbers_at(&engine.world.peer_numbers, place))
 }
 
 // The number that is kept of a place, and 0 where none is.
@@ -96,35 +106,41 @@ fn number_at(numbers: &[usize], place: Place) -> usize
     }
 }
 
-// The names from one on.
-fn names_from(names: &[String], from: usize) -> &[String]
-    ensures { result.now ≡ drop from names.now }
+// The numbers from one on.
+fn numbers_from(numbers: &[Option<usize>], from: usize) -> &[Option<usize>]
+    ensures { result.now ≡ drop from numbers.now }
 {
-    match names.get(from..) {
+    match numbers.get(from..) {
         Some(rest) => rest,
         None => &[],
     }
 }
 
-// The number of the first peer of these names that no object has got, where so many from the first one on are known not to be left.
-fn first_left(seats: &Seats, names: &[String], got: usize) -> Option<usize>
-    requires { first_left seats.now (take got (name_bytes names.now)) ≡ None }
-    ensures first { result ≡ first_left seats.now (name_bytes names.now) }
-    ensures within { IfSome result (λ number. number < length seats.now) }
+// The first of the peers of a place that no object has got.
+fn peer_left(engine: &Engine, place: Place) -> Option<usize>
+    ensures left { (d : definition.Definition) (p : machine.Place) → slice_get d.places place.0 ≡ Some p → PassesIn d engine.now.world → result ≡ peer_left (world_of engine.now.world) p }
+    ensures within { IfSome result (λ number. number < length engine.now.world.seats) }
 {
-    seats.first_left(names_from(names, got))
+    let numbers = numbers_at(&engine.world.peer_numbers, place);
+    let got = number_at(&engine.world.got_peers, place);
+    engine.world.seats.first_left(numbers_from(numbers, got))
 }
 
-/// Counts anew how many peers of a place, whose names these are, are not left, from where the count ended before. So all that is made of a
+/// Counts anew how many peers of a place, whose numbers these are, are not left, from where the count ended before. So all that is made of a
 /// prototype goes through its peers once.
-pub(crate) fn count_got(got: &mut Vec<usize>, seats: &Seats, place: Place, names: &[String])
-    ensures got { (d : definition.Definition) (p : machine.Place) → slice_get d.places place.0 ≡ Some p → p.peers ≡ name_bytes names.now
+pub(crate) fn count_got(
+    got: &mut Vec<usize>,
+    seats: &Seats,
+    place: Place,
+    numbers: &[Option<usize>],
+)
+    ensures got { (d : definition.Definition) (p : machine.Place) → slice_get d.places place.0 ≡ Some p → Numbered seats.now p.peers numbers.now
         → AreGot d seats.now got.old.items → AreGot d seats.now got.new.items }
-    ensures all { place.0 < length got.old.items → AreAllGot seats.now (name_bytes names.now) (read 0 got.new.items place.0) }
+    ensures all { place.0 < length got.old.items → AreAllGot seats.now numbers.now (read 0 got.new.items place.0) }
     ensures beside { (other : ℕ) → (other ≡ place.0 → ⊥) → read 0 got.new.items other ≡ read 0 got.old.items other }
     ensures len { length got.new.items ≡ length got.old.items }
 {
-    let number = seats.got(names, number_at(got, place));
+    let number = seats.got(numbers, number_at(got, place));
     let place = usize::from(place.0);
     if place < got.len() {
         got[place] = number;
@@ -139,7 +155,7 @@ pub fn new_peer(
     prototype: &ObjectEntry<'_>,
 ) -> NewPeer
     requires at { slice_get definition.now.places place.0 ≡ Some (entry_view prototype.now) }
-    requires got { AreGot definition.now engine.now.world.seats engine.now.world.got_peers.items }
+    requires passes { PassesIn definition.now engine.now.world }
     ensures there { is_there result ≡ (not (has_shape definition.now prototype.now.class) || is_some (peer_left (world_of engine.now.world) (entry_view prototype.now))) }
     ensures taken { taken result ≡ peer_to_take definition.now (world_of engine.now.world) (entry_view prototype.now) }
     ensures within { IfSome (taken result) (λ number. number < length engine.now.world.seats) }
@@ -147,9 +163,58 @@ pub fn new_peer(
     if !has_shape(definition, prototype.class) {
         return NewPeer::NotWanted;
     }
-    let got = number_at(&engine.world.got_peers, place);
-    match first_left(&engine.world.seats, prototype.peers, got) {
+    match peer_left(engine, place) {
         Some(number) => NewPeer::Left(number),
         None => NewPeer::NoneLeft,
     }
+}
+
+// The numbers of the peers of these names.
+fn numbers_of(
+    alloc: Global,
+    seats: &Seats,
+    names: &[String],
+) -> Result<Vec<Option<usize>>, AllocError>
+    ensures { IfOk result (λ numbers. Numbered seats.now (name_bytes names.now) numbers.items) }
+{
+    let mut numbers = Vec::with_capacity(alloc, names.len())?;
+    'names: for name in names {
+        numbers.push(seats.find(name.as_str()))?;
+    }
+    Ok(numbers)
+}
+
+// The numbers of the peers that a place names.
+fn numbers_for(
+    alloc: Global,
+    definition: &Definition,
+    seats: &Seats,
+    place: usize,
+) -> Result<Vec<Option<usize>>, AllocError>
+    ensures { IfOk result (λ numbers. IfSome (slice_get definition.now.places place) (λ p. Numbered seats.now p.peers numbers.items)) }
+{
+    match definition.object(place) {
+        Some(entry) => numbers_of(alloc, seats, entry.peers),
+        None => Ok(Vec::new(alloc)),
+    }
+}
+
+/// The numbers of the peers that each place names.
+///
+/// # Errors
+///
+/// `AllocError` if memory is refused.
+pub fn peer_numbers(
+    alloc: Global,
+    definition: &Definition,
+    seats: &Seats,
+) -> Result<Vec<Vec<Option<usize>>>, AllocError>
+    ensures { IfOk result (λ kept. AreNumbered definition.now seats.now kept.items) }
+{
+    let count = definition.place_count();
+    let mut kept = Vec::with_capacity(alloc, count)?;
+    'places: for place in 0..count {
+        kept.push(numbers_for(alloc, definition, seats, place)?)?;
+    }
+    Ok(kept)
 }

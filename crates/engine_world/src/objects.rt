@@ -22,7 +22,7 @@ ghost use Rattle.engine_world.specs.Counting.{KeepsCounts, MayBeHeld};
 use crate::construct_steps::{GivenAt, construction};
 use crate::engine::Engine;
 use crate::lines::Line;
-use crate::object_peers::count_got;
+use crate::object_peers::{count_got, numbers_at};
 use crate::places::entry_at;
 use crate::references::push_task;
 use crate::seats::Seats;
@@ -114,7 +114,7 @@ pub fn make(
         &mut engine.world.got_peers,
         &engine.world.seats,
         place,
-        entry.peers,
+        numbers_at(&engine.world.peer_numbers, place),
     );
     let object = create_object(engine, definition, class, place, values, peer)?;
     let told = Line::Construct {

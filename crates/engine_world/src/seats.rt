@@ -3,11 +3,11 @@
 ghost use Rattle.std.specs.Prelude.{◌≡◌, ◌<◌, ◌∷◌, ◌++◌, [], List, None, Some, IfSome, IsTrue, OnErr, OnOk, length, option_and_then, option_map, slice_get, string_bytes, take};
 ghost use Rattle.ui_machine.specs.Definition.Types.{GType};
 ghost use Rattle.ui_machine.specs.Rules.Construction.{lent};
-ghost use Rattle.ui_machine.specs.State.Peers.{Peer, first_left, if_left, is_left, method_of, peer_number};
+ghost use Rattle.ui_machine.specs.State.Peers.{Peer, if_left, is_left, method_of, peer_number};
 ghost use Rattle.peer_shapes.specs.MethodViews.{is_plain_shape};
 ghost use Rattle.peer_shapes.specs.MethodViews.{lent_view as lent_method};
-ghost use Rattle.definition_format.specs.Meaning.{name_bytes};
 ghost use Rattle.engine_world.specs.GotNames.{AreAllGot};
+ghost use Rattle.engine_world.specs.PeerPlaces.{first_of};
 ghost use Rattle.engine_world.specs.SeatView.{HasKnownKinds, closed_at, lent_view, new_peer};
 
 use peer_shapes::{MethodRef, Shape};
@@ -145,12 +145,12 @@ impl Seats {
         }
     }
 
-    // The number of the peer of a name, if no object has got it.
-    fn find_left(&self, name: &str) -> Option<usize>
-        ensures found { result ≡ if_left self.now (peer_number self.now name.now) None }
+    // The peer of this number, if there is one and no object has got it.
+    fn left(&self, number: Option<usize>) -> Option<usize>
+        ensures found { result ≡ if_left self.now number None }
         ensures within { IfSome result (λ number. number < length self.now) }
     {
-        let number = self.find(name)?;
+        let number = number?;
         if self.is_left(number) {
             Some(number)
         } else {
@@ -158,30 +158,30 @@ impl Seats {
         }
     }
 
-    /// The number of the first peer of these names that no object has got. It goes through the names from the first one on.
-    pub(crate) fn first_left(&self, names: &[String]) -> Option<usize>
-        ensures first { result ≡ first_left self.now (name_bytes names.now) }
+    /// The first of the peers of these numbers that no object has got. It goes through the numbers from the first one on.
+    pub(crate) fn first_left(&self, numbers: &[Option<usize>]) -> Option<usize>
+        ensures first { result ≡ first_of self.now numbers.now }
         ensures within { IfSome result (λ number. number < length self.now) }
     {
-        'names: for name in names {
-            if let Some(number) = self.find_left(name.as_str()) {
-                return Some(number);
+        'numbers: for number in numbers {
+            if let Some(left) = self.left(*number) {
+                return Some(left);
             }
         }
         None
     }
 
-    /// How many of these names from the first one on are not of peers that are left, where it is known of so many that they are not.
-    pub(crate) fn got(&self, names: &[String], known: usize) -> usize
-        ensures got { first_left self.now (take known (name_bytes names.now)) ≡ None → first_left self.now (take result (name_bytes names.now)) ≡ None }
-        ensures all { AreAllGot self.now (name_bytes names.now) result }
+    /// How many of these numbers from the first one on are not of peers that are left, where it is known of so many that they are not.
+    pub(crate) fn got(&self, numbers: &[Option<usize>], known: usize) -> usize
+        ensures got { first_of self.now (take known numbers.now) ≡ None → first_of self.now (take result numbers.now) ≡ None }
+        ensures all { AreAllGot self.now numbers.now result }
     {
-        'names: for number in known..names.len() {
-            if self.find_left(names[number].as_str()).is_some() {
-                return number;
+        'numbers: for place in known..numbers.len() {
+            if self.left(numbers[place]).is_some() {
+                return place;
             }
         }
-        names.len()
+        numbers.len()
     }
 
     /// The peer of a number becomes an object's.

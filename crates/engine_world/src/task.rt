@@ -1,10 +1,7 @@
-//! Tasks, and the stack of those that are left.
+//! Tasks.
 
-ghost use Rattle.std.specs.Prelude.{◌≡◌, ◌+◌, ◌<◌, ℕ, List, [], ◌∷◌, reverse, map, vec_capacity, vec_len, IfOk, IfSome, MatchOption};
-ghost use Rattle.ui_machine.specs.Definition as machine;
-ghost use Rattle.ui_machine.specs.State.Tasks as config;
-ghost use Rattle.ui_machine.specs.State.Handlers.{Handler};
-ghost use Rattle.engine_world.specs.TaskView.{making_of_code, task_of, tasks_of};
+ghost use Rattle.std.specs.Prelude.{◌≡◌, [], ◌∷◌, reverse, map, MatchOption};
+ghost use Rattle.engine_world.specs.TaskView.{making_of_code};
 
 use bindings::DueTransfers;
 use bytecode::Register;
@@ -12,7 +9,7 @@ use definition_format::Request;
 use frames::Frame;
 use g_values::Value;
 use signal_core::Cursor;
-use std::alloc::{AllocError, Global};
+use std::alloc::Global;
 use std::marker::Model;
 use ui_machine::{ObjectId, Place, ProgramId, SignalId, Slot};
 
@@ -252,73 +249,19 @@ pub enum Task {
     },
 }
 
-/// The tasks that are left, the first on top, in room that is reserved once.
-#[derive(Drop)]
-pub struct Stack {
-    pub tasks: Vec<Task>,
-}
+impl Task {
+    ghost use Rattle.engine_world.specs.BuildTasks.{is_of_build};
 
-impl Stack {
-    ghost use Rattle.ui_machine.specs.Definition as machine;
-    ghost use Rattle.ui_machine.specs.State.Tasks as config;
-    ghost use Rattle.ui_machine.specs.State.Handlers.{Handler};
-    ghost use Rattle.engine_world.specs.KnownHandlers.{AllTakeKnownHandlers, TakesKnownHandlers};
-    ghost use Rattle.engine_world.specs.TaskView.{task_of, tasks_of};
-
-    /// Nothing to do, and room for so many tasks.
-    ///
-    /// # Errors
-    ///
-    /// `AllocError` if memory is refused. No other call asks for memory.
-    pub fn new(alloc: Global, most: usize) -> Result<Self, AllocError>
-        ensures tasks { IfOk result (λ s. (d : machine.Definition) (hs : List Handler) → tasks_of d hs s ≡ []) }
-        ensures begun { IfOk result (λ s. (last : ℕ) → AllTakeKnownHandlers last s) }
-        ensures room { IfOk result (λ s. vec_capacity s.tasks ≡ most) }
+    /// Whether it is the rest of the build.
+    pub fn is_of_build(&self) -> bool
+        ensures { result ≡ is_of_build self.now }
     {
-        let tasks = Vec::with_capacity(alloc, most)?;
-        Ok(Stack { tasks })
-    }
-
-    /// Puts a task before the others, in the room that is there.
-    pub fn push(&mut self, task: Task)
-        requires room { vec_len self.now.tasks < vec_capacity self.now.tasks }
-        ensures tasks { (d : machine.Definition) (hs : List Handler) → tasks_of d hs self.new ≡ task_of d hs task ∷ tasks_of d hs self.old }
-        ensures begun { (last : ℕ) → TakesKnownHandlers last task → AllTakeKnownHandlers last self.old → AllTakeKnownHandlers last self.new }
-        ensures taken { vec_len self.new.tasks ≡ vec_len self.old.tasks + 1 }
-        ensures room { vec_capacity self.new.tasks ≡ vec_capacity self.old.tasks }
-    {
-        self.tasks.push_reserved(task);
-    }
-
-    /// The first task.
-    pub fn first(&self) -> Option<&Task>
-        ensures { (d : machine.Definition) (hs : List Handler) → MatchOption result (tasks_of d hs self.now ≡ [])
-            (λ task. (rest : List config.Task) × (tasks_of d hs self.now ≡ task_of d hs task.now ∷ rest)) }
-    {
-        self.tasks.last()
-    }
-
-    /// Takes the first task. Its room is there again.
-    pub fn pop(&mut self) -> Option<Task>
-        ensures tasks { (d : machine.Definition) (hs : List Handler) → MatchOption result
-            ((tasks_of d hs self.old ≡ []) × (tasks_of d hs self.new ≡ []))
-            (λ task. tasks_of d hs self.old ≡ task_of d hs task ∷ tasks_of d hs self.new) }
-        ensures begun { (last : ℕ) → AllTakeKnownHandlers last self.old → AllTakeKnownHandlers last self.new }
-        ensures first { IfSome result (λ task. (last : ℕ) → AllTakeKnownHandlers last self.old → TakesKnownHandlers last task) }
-        ensures given { MatchOption result (vec_len self.new.tasks ≡ vec_len self.old.tasks) (λ _. vec_len self.old.tasks ≡ vec_len self.new.tasks + 1) }
-        ensures free { IfSome result (λ _. vec_len self.new.tasks < vec_capacity self.new.tasks) }
-        ensures room { vec_capacity self.new.tasks ≡ vec_capacity self.old.tasks }
-    {
-        self.tasks.pop()
-    }
-
-    /// Leaves nothing to do.
-    pub fn clear(&mut self)
-        ensures tasks { (d : machine.Definition) (hs : List Handler) → tasks_of d hs self.new ≡ [] }
-        ensures begun { (last : ℕ) → AllTakeKnownHandlers last self.new }
-        ensures free { vec_len self.new.tasks ≡ 0 }
-        ensures room { vec_capacity self.new.tasks ≡ vec_capacity self.old.tasks }
-    {
-        self.tasks.clear();
+        matches!(
+            self,
+            Task::Building { .. }
+                | Task::Adopting { .. }
+                | Task::Binding { .. }
+                | Task::Connecting { .. }
+        )
     }
 }

@@ -34,6 +34,8 @@ pub struct World {
     pub seats: Seats,
     /// Of each place, how many of its peers from the first one on are known not to be left.
     pub got_peers: Vec<usize>,
+    /// Of each place, the numbers of the peers that it names.
+    pub peer_numbers: Vec<Vec<Option<usize>>>,
     pub transcript: Vec<String>,
     pub result: Option<Value>,
 }

@@ -4,13 +4,11 @@ use Rattle.std.specs.Prelude.{IfSome, OnErr, string_bytes, ◌⊎◌}
 use Rattle.std.proofs.KnownBytes.{Appends-trans}
 use Rattle.ui_machine.specs.Definition.{Definition}
 use Rattle.ui_machine.specs.Runs.{of_build, Carries}
-use Rattle.ui_machine.specs.State.Peers.{Peer, PeerState}
+use Rattle.ui_machine.specs.State.Peers.{Peer}
 use Rattle.builder_defs.specs.Denoted.{denoted}
 use Rattle.native_peers.specs.Matching.{as_peers}
-use Rattle.native_peers.specs.Pool.{entries, seen}
 use Rattle.native_peers.specs.Seen.{Relations, SameRelations, Seen}
-use Rattle.native_peers.specs.declared.entries.NamedPeer.{NamedPeer}
-use Rattle.native_peers.specs.declared.pools.PeerPool.{PeerPool}
+use Rattle.native_peers.specs.declared.pooled_peers.Peers.{Ghosts}
 use Rattle.law_pools.specs.MatchedPools.{AllFree}
 use Rattle.engine_pools.specs.declared.dispatches.Reply.{Reply}
 use Rattle.ui_engine.specs.Endings.{closed_if, taken_closed}
@@ -23,7 +21,7 @@ use Rattle.ui_engine.specs.declared.faults.SessionFault.TheVariants as faults
 use Rattle.ui_engine.specs.declared.session.Session.{Session}
 use Rattle.ui_engine.specs.SessionView.{SessionState, without_lines, building, state_at, Comes}
 use Rattle.event_lines.specs.declared.opening.Opening.TheVariants as code
-use Rattle.event_lines.specs.OpeningView.{IsOpening, Leaves, Opened}
+use Rattle.event_lines.specs.OpeningView.{IsOpening, Opened}
 use Rattle.event_lines.specs.CheckView.{IsUnread, IsRejected}
 use Rattle.law_pools.specs.Needs.{Mismatch, mismatch}
 use Rattle.law_typing.specs.Verdict.Judges.{Judges}
@@ -64,30 +62,30 @@ left_so pool left s is = is ∙ sym (closed_so pool s.world.peers) ∙ ap (taken
 
 -- ** openings
 
-module _ {I : Type 0} {Held : I → Type 0} (state_of : NamedPeer I Held → PeerState) (may : Relations) (peers : List Peer) (old : PeerPool I Held) (bytes : List ℕ) where
+module _ {P : Type 0} {g : Ghosts P} (see : P → List Seen) (may : Relations) (peers : List Peer) (old : P) (bytes : List ℕ) where
   -- the opening of what is not accepted
-  pub opens_refused : (text : String Global) (pool : PeerPool I Held) → pool ≡ old → IsUnread bytes (string_bytes text) ⊎ IsRejected bytes (string_bytes text)
-      → Opened state_of may peers old bytes (code.Refused text pool)
+  pub opens_refused : (text : String Global) (pool : P) → pool ≡ old → IsUnread bytes (string_bytes text) ⊎ IsRejected bytes (string_bytes text)
+      → Opened {g = g} see may peers old bytes (code.Refused text pool)
   opens_refused text pool same (inl (refusal, denotes, is)) = record { opening = refused refusal; is = is; opens = denotes; leaves = same }
   opens_refused text pool same (inr (d, fault, denotes, judged, is)) = record { opening = rejected d fault; is = is; opens = (denotes, judged); leaves = same }
 
   -- that for which no memory was found
-  pub opens_unbegun : (pool : PeerPool I Held) → pool ≡ old → Opened state_of may peers old bytes (code.Unbegun pool)
+  pub opens_unbegun : (pool : P) → pool ≡ old → Opened {g = g} see may peers old bytes (code.Unbegun pool)
   opens_unbegun pool same = record { opening = unbegun; is = tt; opens = tt; leaves = same }
 
   module _ (d : Definition) (denotes : denoted bytes ≡ Ok d) (judged : Judges d None) where
     -- that of what is accepted, but does not match
-    pub opens_mismatched : (text : String Global) (pool : PeerPool I Held) → pool ≡ old → (m : Mismatch) × (mismatch d peers ≡ Some m) × (string_bytes text ≡ mismatch_text m)
-        → Opened state_of may peers old bytes (code.Refused text pool)
+    pub opens_mismatched : (text : String Global) (pool : P) → pool ≡ old → (m : Mismatch) × (mismatch d peers ≡ Some m) × (string_bytes text ≡ mismatch_text m)
+        → Opened {g = g} see may peers old bytes (code.Refused text pool)
     opens_mismatched text pool same lack = record { opening = mismatched d lack.0; is = lack.2; opens = (denotes, judged, lack.1); leaves = same }
 
-    module _ (session : Session I Held) (taken : IsTaken bytes d peers) where
+    module _ (session : Session P g) (taken : IsTaken bytes d peers) where
       abbrev s : SessionState
-      s = state_at (seen state_of (entries session.pool)) session.core
+      s = state_at (see session.pool) session.core
 
       -- that of what is built
-      pub opens_built : (reply : Reply) → Leaves state_of old (code.Built session) → Comes (Ok reply) (building may d peers) d s → Opened state_of may peers old bytes (code.Built session)
-      opens_built reply leaves comes = record {
+      pub opens_built : (reply : Reply) → Comes (Ok reply) (building may d peers) d s → Opened {g = g} see may peers old bytes (code.Built session)
+      opens_built reply comes = record {
         opening = built s;
         is = refl;
         opens = (
@@ -98,12 +96,12 @@ module _ {I : Type 0} {Held : I → Type 0} (state_of : NamedPeer I Held → Pee
             goes_on = comes.goes_on;
           },
         );
-        leaves = leaves;
+        leaves = tt;
       }
 
       -- that of what broke off in the build
-      pub opens_stopped : (fault : SessionFault) → Leaves state_of old (code.Stopped session) → Comes (Err fault) (building may d peers) d s → Opened state_of may peers old bytes (code.Stopped session)
-      opens_stopped faults.OutOfMemory leaves comes = record {
+      pub opens_stopped : (fault : SessionFault) → Comes (Err fault) (building may d peers) d s → Opened {g = g} see may peers old bytes (code.Stopped session)
+      opens_stopped faults.OutOfMemory comes = record {
         opening = stopped s;
         is = refl;
         opens = (
@@ -113,11 +111,11 @@ module _ {I : Type 0} {Held : I → Type 0} (state_of : NamedPeer I Held → Pee
             stops = comes.stops;
           },
         );
-        leaves = leaves;
+        leaves = tt;
       }
-      opens_stopped faults.Stopped leaves comes = absurd comes
-      opens_stopped faults.ClockBack leaves comes = absurd comes
-      opens_stopped faults.Released leaves comes = absurd comes
+      opens_stopped faults.Stopped comes = absurd comes
+      opens_stopped faults.ClockBack comes = absurd comes
+      opens_stopped faults.Released comes = absurd comes
 
 -- where what is said of a refusal is so
 pub on_err : {A E : Type 0} {P : Type 0} (r : Result A E) → P → OnErr r P
@@ -254,11 +252,11 @@ module _ (replies : Replies SessionState) (old : SessionState) (build : List ℕ
 
 -- ** which opening the code's is
 
-module _ {I : Type 0} {Held : I → Type 0} (state_of : NamedPeer I Held → PeerState) (may : Relations) (peers : List Peer) (bytes : List ℕ) (session : Session I Held) where
+module _ {P : Type 0} {g : Ghosts P} (see : P → List Seen) (may : Relations) (peers : List Peer) (bytes : List ℕ) (session : Session P g) where
   abbrev state : SessionState
-  state = state_at (seen state_of (entries session.pool)) session.core
+  state = state_at (see session.pool) session.core
 
-  open_stopped : (opening : Opening) → IsOpening state_of (code.Stopped session) opening → Opens may peers bytes opening → Opens may peers bytes (stopped state)
+  open_stopped : (opening : Opening) → IsOpening see (code.Stopped session) opening → Opens may peers bytes opening → Opens may peers bytes (stopped state)
   open_stopped (refused r) is opens = absurd is
   open_stopped (rejected d fault) is opens = absurd is
   open_stopped (mismatched d m) is opens = absurd is
@@ -266,7 +264,7 @@ module _ {I : Type 0} {Held : I → Type 0} (state_of : NamedPeer I Held → Pee
   open_stopped (stopped s) is opens = subst (λ (t : SessionState). Opens may peers bytes (stopped t)) (sym is) opens
   open_stopped (built s) is opens = absurd is
 
-  open_built : (opening : Opening) → IsOpening state_of (code.Built session) opening → Opens may peers bytes opening → Opens may peers bytes (built state)
+  open_built : (opening : Opening) → IsOpening see (code.Built session) opening → Opens may peers bytes opening → Opens may peers bytes (built state)
   open_built (refused r) is opens = absurd is
   open_built (rejected d fault) is opens = absurd is
   open_built (mismatched d m) is opens = absurd is
@@ -275,12 +273,12 @@ module _ {I : Type 0} {Held : I → Type 0} (state_of : NamedPeer I Held → Pee
   open_built (built s) is opens = subst (λ (t : SessionState). Opens may peers bytes (built t)) (sym is) opens
 
   -- where a session was built, the bytes denote its definition
-  pub denoted_where_built : (old : PeerPool I Held) → Opened state_of may peers old bytes (code.Built session) → denoted bytes ≡ Ok state.definition
+  pub denoted_where_built : (old : P) → Opened {g = g} see may peers old bytes (code.Built session) → denoted bytes ≡ Ok state.definition
   denoted_where_built old o = (open_built o.opening o.is o.opens).0.denoted
 
-module _ {I : Type 0} {Held : I → Type 0} (state_of : NamedPeer I Held → PeerState) (may : Relations) (old : PeerPool I Held) (bytes : List ℕ) (first last : Option (List ℕ)) (r r' : ℕ) (a c : Sent) (status : ℕ) (torn : Bool) (unread : Type 0) where
+module _ {P : Type 0} (see : P → List Seen) (may : Relations) (old : P) (bytes : List ℕ) (first last : Option (List ℕ)) (r r' : ℕ) (a c : Sent) (status : ℕ) (torn : Bool) (unread : Type 0) where
   abbrev pool_seen : List Seen
-  pool_seen = seen state_of (entries old)
+  pool_seen = see old
 
   abbrev pub IsWritten : List ℕ → ℕ → Type 0
   IsWritten whole answer = (out : List ℕ) × Concludes whole answer status torn out × Sends 0 0 a c out
@@ -290,37 +288,37 @@ module _ {I : Type 0} {Held : I → Type 0} (state_of : NamedPeer I Held → Pee
       (input : List ℕ) × IfSome first (λ known. known ≡ input) × (text : List ℕ) × Ran may (as_peers pool_seen) left bytes (lines_of input) status torn unread first last text × Sends r r' a c text
 
   -- nothing was begun with the pool
-  kept : (pool : PeerPool I Held) → pool ≡ old → seen state_of (entries pool) ≡ map seen_of (as_peers pool_seen)
-  kept pool same = ap (λ (l : PeerPool I Held). seen state_of (entries l)) same ∙ sym (seen_free pool_seen)
+  kept : (pool : P) → pool ≡ old → see pool ≡ map seen_of (as_peers pool_seen)
+  kept pool same = ap (λ (l : P). see l) same ∙ sym (seen_free pool_seen)
 
-  pub ran_stopped : (session : Session I Held) (left : List Seen) → Opened state_of may (as_peers pool_seen) old bytes (code.Stopped session) → left ≡ taken_closed session.core.world.peers (seen state_of (entries session.pool)) → unread
+  pub ran_stopped : {g : Ghosts P} (session : Session P g) (left : List Seen) → Opened {g = g} see may (as_peers pool_seen) old bytes (code.Stopped session) → left ≡ taken_closed session.core.world.peers (see session.pool) → unread
       → IsWritten (lines_text session.core.world.transcript ++ build_stopped) 3 → RanOver left
-  ran_stopped session left o closes un w =
+  ran_stopped {g} session left o closes un w =
       let input = any_bytes first in
-      let s = state_at (seen state_of (entries session.pool)) session.core in (
+      let s = state_at (see session.pool) session.core in (
         input.0,
         input.1,
         w.0,
         record {
           opening = stopped s;
-          opens = open_stopped state_of may (as_peers pool_seen) bytes session o.opening o.is o.opens;
-          proceeds = (un, left_so (seen state_of (entries session.pool)) left session.core closes, w.1);
+          opens = open_stopped see may (as_peers pool_seen) bytes session o.opening o.is o.opens;
+          proceeds = (un, left_so (see session.pool) left session.core closes, w.1);
         },
         sends_more r r' a c w.0 w.2,
       )
 
-  pub ran_unbegun : (pool : PeerPool I Held) → Opened state_of may (as_peers pool_seen) old bytes (code.Unbegun pool) → unread → IsWritten nothing_begun 3 → RanOver (seen state_of (entries pool))
-  ran_unbegun pool o un w =
+  pub ran_unbegun : {g : Ghosts P} (pool : P) → Opened {g = g} see may (as_peers pool_seen) old bytes (code.Unbegun pool) → unread → IsWritten nothing_begun 3 → RanOver (see pool)
+  ran_unbegun {g} pool o un w =
       let input = any_bytes first in
       (input.0, input.1, w.0, record { opening = unbegun; opens = tt; proceeds = (un, kept pool o.leaves, w.1) }, sends_more r r' a c w.0 w.2)
 
-  pub ran_refused : (text : String Global) (pool : PeerPool I Held) → Opened state_of may (as_peers pool_seen) old bytes (code.Refused text pool) → unread → IsWritten (line_of (string_bytes text)) 1 → RanOver (seen state_of (entries pool))
-  ran_refused text pool o un w = by o.opening o.is o.opens
+  pub ran_refused : {g : Ghosts P} (text : String Global) (pool : P) → Opened {g = g} see may (as_peers pool_seen) old bytes (code.Refused text pool) → unread → IsWritten (line_of (string_bytes text)) 1 → RanOver (see pool)
+  ran_refused {g} text pool o un w = by o.opening o.is o.opens
     where
       input : (input : List ℕ) × IfSome first (λ known. known ≡ input)
       input = any_bytes first
 
-      by : (opening : Opening) → IsOpening state_of (code.Refused text pool) opening → Opens may (as_peers pool_seen) bytes opening → RanOver (seen state_of (entries pool))
+      by : (opening : Opening) → IsOpening {g = g} see (code.Refused text pool) opening → Opens may (as_peers pool_seen) bytes opening → RanOver (see pool)
       by (refused refusal) is opens =
           let written = subst (λ t. IsWritten (line_of t) 1) is w in
           (input.0, input.1, written.0, record { opening = refused refusal; opens = opens; proceeds = (un, kept pool o.leaves, written.1) }, sends_more r r' a c written.0 written.2)
@@ -335,17 +333,17 @@ module _ {I : Type 0} {Held : I → Type 0} (state_of : NamedPeer I Held → Pee
       by (built s) is opens = absurd is
 
   -- the events were handled, whose peers might do what they might at the beginning
-  pub ran_built : (later : Relations) (session : Session I Held) (pool : List Seen) (core : SessionState) (left : List Seen) → Opened state_of may (as_peers pool_seen) old bytes (code.Built session) → SameRelations may later → left ≡ taken_closed core.world.peers pool
-      → PlaysOver (event_replies later) (without_lines (state_at (seen state_of (entries session.pool)) session.core)) (lines_text session.core.world.transcript) torn unread first last r r' a status c (state_at pool core) → RanOver left
-  ran_built later session pool core left o same closes t =
-      let s = state_at (seen state_of (entries session.pool)) session.core in
+  pub ran_built : {g : Ghosts P} (later : Relations) (session : Session P g) (pool : List Seen) (core : SessionState) (left : List Seen) → Opened {g = g} see may (as_peers pool_seen) old bytes (code.Built session) → SameRelations may later → left ≡ taken_closed core.world.peers pool
+      → PlaysOver (event_replies later) (without_lines (state_at (see session.pool) session.core)) (lines_text session.core.world.transcript) torn unread first last r r' a status c (state_at pool core) → RanOver left
+  ran_built {g} later session pool core left o same closes t =
+      let s = state_at (see session.pool) session.core in
       let told = told_before same t.3 in (
         t.0,
         t.1,
         t.2,
         record {
           opening = built s;
-          opens = open_built state_of may (as_peers pool_seen) bytes session o.opening o.is o.opens;
+          opens = open_built see may (as_peers pool_seen) bytes session o.opening o.is o.opens;
           proceeds = record {
             new = state_at pool core;
             file_run = told;

@@ -1,9 +1,8 @@
 //! The lines of the event file, from the first to the one that ends the run.
 
 ghost use Rattle.std.specs.Prelude.{◌≡◌, ◌≢◌, ◌≤◌, ℕ, List, true, ◌||◌, IfOk, IfSome, MatchResult, false};
-ghost use Rattle.native_peers.specs.Pool.{entries, relations, seen};
 ghost use Rattle.native_peers.specs.Seen.{SameRelations};
-ghost use Rattle.ui_engine.specs.SessionView.{IsSeated, state_at, without_lines};
+ghost use Rattle.ui_engine.specs.SessionView.{state_at, without_lines};
 ghost use Rattle.ui_machine.specs.Limits.{most_lines};
 ghost use Rattle.event_lines.specs.Lines.{lines_of};
 ghost use Rattle.event_lines.specs.EventFileRun.{EventFileRun, ends};
@@ -20,15 +19,15 @@ use crate::line_reader::{Found, LineReader};
 use crate::slices::follow;
 use crate::writing::put_outcome;
 use builder_defs::EventReader;
-use native_peers::Peer;
+use native_peers::Peers;
 use std::alloc::Global;
 use ui_engine::Session;
 use ui_machine::DeviceFault;
 
 // Hands the session the line that was found, and says what came of it.
-fn tell<W: Writer>(
+fn tell<P: Peers, W: Writer>(
     alloc: Global,
-    session: &mut Session,
+    session: &mut Session<P>,
     events: &mut EventReader,
     number: u64,
     found: Found,
@@ -37,13 +36,11 @@ fn tell<W: Writer>(
     writer: &mut W,
 ) -> Result<LineOutcome, DeviceFault>
     requires writer { W.failed writer.old ≡ false }
-    requires seated { IsSeated (seen (λ p. (⟦<dyn Peer as Peer>⟧ p.peer.vtable).state p.peer.value) (entries session.now.pool)) session.now.core }
-    ensures tells { Tells (relations (λ p. (⟦<dyn Peer as Peer>⟧ p.peer.vtable).moves p.peer.value) (entries session.old.pool)) (state_at (seen (λ p. (⟦<dyn Peer as Peer>⟧ p.peer.vtable).state p.peer.value) (entries session.old.pool)) session.old.core) number found buffer.now result
-        (W.sent writer.old) gather.old (W.sent writer.new) gather.new (state_at (seen (λ p. (⟦<dyn Peer as Peer>⟧ p.peer.vtable).state p.peer.value) (entries session.new.pool)) session.new.core) }
+    ensures tells { Tells (P.relations session.old.pool) (state_at (P.seen session.old.pool) session.old.core) number found buffer.now result
+        (W.sent writer.old) gather.old (W.sent writer.new) gather.new (state_at (P.seen session.new.pool) session.new.core) }
     ensures goes_on { IfOk result (λ outcome. (said : List (List ℕ)) → ends (outcome_with outcome said) ≡ false → (number ≤ most_lines) × (found ≡ Found.Whole)) }
     ensures marks { MatchResult result (λ _. W.failed writer.new ≡ false) (λ _. W.failed writer.new ≡ true) }
-    ensures seated { IsSeated (seen (λ p. (⟦<dyn Peer as Peer>⟧ p.peer.vtable).state p.peer.value) (entries session.new.pool)) session.new.core }
-    ensures same { SameRelations (relations (λ p. (⟦<dyn Peer as Peer>⟧ p.peer.vtable).moves p.peer.value) (entries session.old.pool)) (relations (λ p. (⟦<dyn Peer as Peer>⟧ p.peer.vtable).moves p.peer.value) (entries session.new.pool)) }
+    ensures same { SameRelations (P.relations session.old.pool) (P.relations session.new.pool) }
 {
     let known = session.transcript().len();
     match start_line(alloc, session, events, number, found, buffer) {
@@ -61,25 +58,23 @@ fn tell<W: Writer>(
 /// Hands the lines of a reader to a session, says what comes of them, and answers the status: 0; 5 where a line was refused; 3 where
 /// the run stopped within one; 4 where a device failed. Before each read, and at the end, all that was said is written. After a fault
 /// nothing is read or written.
-pub fn handle_lines<R: Reader, W: Writer>(
+pub fn handle_lines<P: Peers, R: Reader, W: Writer>(
     alloc: Global,
-    session: &mut Session,
+    session: &mut Session<P>,
     reader: &mut R,
     gather: &mut Gather,
     writer: &mut W,
 ) -> u8
     requires reader { R.failed reader.old ≡ false }
     requires writer { W.failed writer.old ≡ false }
-    requires seated { IsSeated (seen (λ p. (⟦<dyn Peer as Peer>⟧ p.peer.vtable).state p.peer.value) (entries session.now.pool)) session.now.core }
     ensures file_run { (input : List ℕ) × IfSome (R.left reader.old) (λ known. known ≡ input) × (text : List ℕ) ×
-        EventFileRun (event_replies (relations (λ p. (⟦<dyn Peer as Peer>⟧ p.peer.vtable).moves p.peer.value) (entries session.old.pool))) without_lines (state_at (seen (λ p. (⟦<dyn Peer as Peer>⟧ p.peer.vtable).state p.peer.value) (entries session.old.pool)) session.old.core)
+        EventFileRun (event_replies (P.relations session.old.pool)) without_lines (state_at (P.seen session.old.pool) session.old.core)
         gather.old (lines_of input) result (W.failed writer.new)
-        (reader.new ≡ reader.old) (R.left reader.old) (R.left reader.new) text (state_at (seen (λ p. (⟦<dyn Peer as Peer>⟧ p.peer.vtable).state p.peer.value) (entries session.new.pool)) session.new.core)
+        (reader.new ≡ reader.old) (R.left reader.old) (R.left reader.new) text (state_at (P.seen session.new.pool) session.new.core)
         × Sends (R.reads reader.old) (R.reads reader.new) (W.sent writer.old) (W.sent writer.new) text }
     ensures failed { result ≡ 4 → (R.failed reader.new || W.failed writer.new) ≡ true }
     ensures works { result ≢ 4 → (R.failed reader.new ≡ false) × (W.failed writer.new ≡ false) }
-    ensures seated { IsSeated (seen (λ p. (⟦<dyn Peer as Peer>⟧ p.peer.vtable).state p.peer.value) (entries session.new.pool)) session.new.core }
-    ensures same { SameRelations (relations (λ p. (⟦<dyn Peer as Peer>⟧ p.peer.vtable).moves p.peer.value) (entries session.old.pool)) (relations (λ p. (⟦<dyn Peer as Peer>⟧ p.peer.vtable).moves p.peer.value) (entries session.new.pool)) }
+    ensures same { SameRelations (P.relations session.old.pool) (P.relations session.new.pool) }
 {
     let mut lines = LineReader {
         chunk: Chunk::new(),

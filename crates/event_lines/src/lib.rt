@@ -30,7 +30,7 @@ pub use ending::Ending;
 pub use line_handler::LineFault;
 pub use opening::{Opening, open};
 pub use refusal::LineRefusal;
-pub use whole_runs::run;
+pub use whole_runs::{Over, run, run_with};
 
 /// The most bytes of an event line, without its LF.
 pub const MAX_LINE_BYTES: usize = 65_536;

@@ -2,13 +2,11 @@
 
 ghost use Rattle.std.specs.Prelude.{◌≡◌};
 ghost use Rattle.ui_machine.specs.Prefix.{IsPrefix};
-ghost use Rattle.native_peers.specs.Pool.{entries, relations, seen};
-ghost use Rattle.ui_engine.specs.SessionView.{IsSeated};
 ghost use Rattle.event_lines.specs.LineStarts.{LineBegins};
 
 use crate::refusal::LineRefusal;
 use builder_defs::{EventError, EventReader};
-use native_peers::Peer;
+use native_peers::Peers;
 use std::alloc::Global;
 use ui_engine::{Progress, Session, SessionFault};
 
@@ -56,16 +54,14 @@ impl From<SessionFault> for LineFault {
 /// # Errors
 ///
 /// `Refused` by the first refusal of the line or of its event, and `Stopped` where memory is refused or the session had stopped.
-pub fn begin(
+pub fn begin<P: Peers>(
     alloc: Global,
-    session: &mut Session,
+    session: &mut Session<P>,
     events: &mut EventReader,
     line: &[u8],
 ) -> Result<Progress, LineFault>
-    requires seated { IsSeated (seen (λ p. (⟦<dyn Peer as Peer>⟧ p.peer.vtable).state p.peer.value) (entries session.now.pool)) session.now.core }
     ensures grows { IsPrefix session.old.core.world.transcript session.new.core.world.transcript }
-    ensures begins { LineBegins result (relations (λ p. (⟦<dyn Peer as Peer>⟧ p.peer.vtable).moves p.peer.value) (entries session.old.pool)) (seen (λ p. (⟦<dyn Peer as Peer>⟧ p.peer.vtable).state p.peer.value) (entries session.old.pool)) session.old.core line.now session.new.core }
-    ensures seated { IsSeated (seen (λ p. (⟦<dyn Peer as Peer>⟧ p.peer.vtable).state p.peer.value) (entries session.new.pool)) session.new.core }
+    ensures begins { LineBegins result (P.relations session.old.pool) (P.seen session.old.pool) session.old.core line.now session.new.core }
     ensures pool { session.new.pool ≡ session.old.pool }
 {
     let definition = session.definition();

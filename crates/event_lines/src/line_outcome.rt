@@ -2,8 +2,6 @@
 
 ghost use Rattle.std.specs.Prelude.{◌≡◌, ℕ, List};
 ghost use Rattle.ui_machine.specs.Prefix.{IsPrefix};
-ghost use Rattle.native_peers.specs.Pool.{entries, relations, seen};
-ghost use Rattle.ui_engine.specs.SessionView.{IsSeated};
 ghost use Rattle.event_lines.specs.EventFileRun.{ends, status_after, is_blank};
 ghost use Rattle.event_lines.specs.LineOutcome.{outcome_with};
 ghost use Rattle.event_lines.specs.LineStarts.{GoesOnWhole, IfBegun, LineStarts};
@@ -14,7 +12,7 @@ use crate::line_handler::{LineFault, begin};
 use crate::line_reader::Found;
 use crate::refusal::LineRefusal;
 use builder_defs::EventReader;
-use native_peers::Peer;
+use native_peers::Peers;
 use std::alloc::Global;
 use ui_engine::{Progress, Session};
 
@@ -69,20 +67,18 @@ pub enum LineStart {
 }
 
 /// Begins the line that was found in the session, unless the run refuses it or passes over it.
-pub fn start_line(
+pub fn start_line<P: Peers>(
     alloc: Global,
-    session: &mut Session,
+    session: &mut Session<P>,
     events: &mut EventReader,
     number: u64,
     found: Found,
     buffer: &[u8],
 ) -> LineStart
-    requires seated { IsSeated (seen (λ p. (⟦<dyn Peer as Peer>⟧ p.peer.vtable).state p.peer.value) (entries session.now.pool)) session.now.core }
-    ensures starts { (line : List ℕ) → IsOf found buffer.now line → LineStarts result (relations (λ p. (⟦<dyn Peer as Peer>⟧ p.peer.vtable).moves p.peer.value) (entries session.old.pool)) (seen (λ p. (⟦<dyn Peer as Peer>⟧ p.peer.vtable).state p.peer.value) (entries session.old.pool)) session.old.core number buffer.now line session.new.core }
-    ensures begun { IfBegun result (relations (λ p. (⟦<dyn Peer as Peer>⟧ p.peer.vtable).moves p.peer.value) (entries session.old.pool)) (seen (λ p. (⟦<dyn Peer as Peer>⟧ p.peer.vtable).state p.peer.value) (entries session.old.pool)) session.old.core buffer.now session.new.core }
+    ensures starts { (line : List ℕ) → IsOf found buffer.now line → LineStarts result (P.relations session.old.pool) (P.seen session.old.pool) session.old.core number buffer.now line session.new.core }
+    ensures begun { IfBegun result (P.relations session.old.pool) (P.seen session.old.pool) session.old.core buffer.now session.new.core }
     ensures grows { IsPrefix session.old.core.world.transcript session.new.core.world.transcript }
     ensures goes_on { GoesOnWhole result number found }
-    ensures seated { IsSeated (seen (λ p. (⟦<dyn Peer as Peer>⟧ p.peer.vtable).state p.peer.value) (entries session.new.pool)) session.new.core }
     ensures pool { session.new.pool ≡ session.old.pool }
 {
     if found == Found::NoMemory {

@@ -6,7 +6,6 @@ ghost use Rattle.law_pools.specs.Needs.{Mismatch, mismatch};
 ghost use Rattle.law_typing.specs.Verdict.Judges.{Judges};
 ghost use Rattle.builder_defs.specs.Denoted.{denoted};
 ghost use Rattle.native_peers.specs.Matching.{as_peers};
-ghost use Rattle.native_peers.specs.Pool.{entries, relations, seen};
 ghost use Rattle.native_peers.specs.Seen.{SameRelations};
 ghost use Rattle.ui_engine.specs.SessionView.{IsWhy};
 ghost use Rattle.event_lines.specs.CheckView.{IsJudged};
@@ -14,30 +13,30 @@ ghost use Rattle.event_lines.specs.OpeningView.{Opened, pool_in};
 ghost use Rattle.event_lines.specs.Texts.{mismatch_text};
 
 use crate::definition_checks::Judgement;
-use native_peers::{Peer, PeerPool};
+use native_peers::Peers;
 use std::alloc::{AllocError, Global};
 use ui_engine::{Refused, Session, StartFault, Started};
 use verified::Verified;
 
 /// What the bytes of a definition came to, with the pool.
 #[derive(Drop)]
-pub enum Opening {
+pub enum Opening<P: Peers> {
     /// Reading or the verdict refuses them, or the pool does not match them: the name of the fault and its fields; the pool is as it was.
-    Refused { text: String, pool: PeerPool },
+    Refused { text: String, pool: P },
     /// No memory was found before the build; the pool is as it was.
-    Unbegun(PeerPool),
+    Unbegun(P),
     /// No memory was found in the build.
-    Stopped(Session),
+    Stopped(Session<P>),
     /// The definition is built.
-    Built(Session),
+    Built(Session<P>),
 }
 
 /// Builds what some bytes were judged to be with the peers of a pool, if it is a definition.
-pub fn open(alloc: Global, judgement: Judgement, pool: PeerPool) -> Opening
+pub fn open<P: Peers>(alloc: Global, judgement: Judgement, pool: P) -> Opening<P>
     requires judged { (bytes : List ℕ) × IsJudged bytes judgement }
     ensures opened { (bytes : List ℕ) → IsJudged bytes judgement →
-        Opened (λ p. (⟦<dyn Peer as Peer>⟧ p.peer.vtable).state p.peer.value) (relations (λ p. (⟦<dyn Peer as Peer>⟧ p.peer.vtable).moves p.peer.value) (entries pool)) (as_peers (seen (λ p. (⟦<dyn Peer as Peer>⟧ p.peer.vtable).state p.peer.value) (entries pool))) pool bytes result }
-    ensures same { SameRelations (relations (λ p. (⟦<dyn Peer as Peer>⟧ p.peer.vtable).moves p.peer.value) (entries pool)) (relations (λ p. (⟦<dyn Peer as Peer>⟧ p.peer.vtable).moves p.peer.value) (entries (pool_in result))) }
+        Opened P.seen (P.relations pool) (as_peers (P.seen pool)) pool bytes result }
+    ensures same { SameRelations (P.relations pool) (P.relations (pool_in result)) }
 {
     match judgement {
         Judgement::Refused(text) => return Opening::Refused { text, pool },
@@ -67,9 +66,9 @@ fn fault_text(alloc: Global, fault: &StartFault) -> Option<String>
 }
 
 // The opening of a verified definition that no session began with.
-fn unstarted(alloc: Global, refused: Refused) -> Opening
-    ensures opened { (bytes : List ℕ) (d : Definition) → denoted bytes ≡ Ok d → Judges d None → IsWhy refused.fault (mismatch d (as_peers (seen (λ p. (⟦<dyn Peer as Peer>⟧ p.peer.vtable).state p.peer.value) (entries refused.pool)))) →
-        Opened (λ p. (⟦<dyn Peer as Peer>⟧ p.peer.vtable).state p.peer.value) (relations (λ p. (⟦<dyn Peer as Peer>⟧ p.peer.vtable).moves p.peer.value) (entries refused.pool)) (as_peers (seen (λ p. (⟦<dyn Peer as Peer>⟧ p.peer.vtable).state p.peer.value) (entries refused.pool))) refused.pool bytes result }
+fn unstarted<P: Peers>(alloc: Global, refused: Refused<P>) -> Opening<P>
+    ensures opened { (bytes : List ℕ) (d : Definition) → denoted bytes ≡ Ok d → Judges d None → IsWhy refused.fault (mismatch d (as_peers (P.seen refused.pool))) →
+        Opened P.seen (P.relations refused.pool) (as_peers (P.seen refused.pool)) refused.pool bytes result }
     ensures same { pool_in result ≡ refused.pool }
 {
     let text = fault_text(alloc, &refused.fault);
@@ -81,11 +80,11 @@ fn unstarted(alloc: Global, refused: Refused) -> Opening
 }
 
 // Builds a definition that is judged to be an accepted one.
-fn build(alloc: Global, verified: Verified, pool: PeerPool) -> Opening
+fn build<P: Peers>(alloc: Global, verified: Verified, pool: P) -> Opening<P>
     requires judged { Judges verified None }
     ensures opened { (bytes : List ℕ) → denoted bytes ≡ Ok verified →
-        Opened (λ p. (⟦<dyn Peer as Peer>⟧ p.peer.vtable).state p.peer.value) (relations (λ p. (⟦<dyn Peer as Peer>⟧ p.peer.vtable).moves p.peer.value) (entries pool)) (as_peers (seen (λ p. (⟦<dyn Peer as Peer>⟧ p.peer.vtable).state p.peer.value) (entries pool))) pool bytes result }
-    ensures same { SameRelations (relations (λ p. (⟦<dyn Peer as Peer>⟧ p.peer.vtable).moves p.peer.value) (entries pool)) (relations (λ p. (⟦<dyn Peer as Peer>⟧ p.peer.vtable).moves p.peer.value) (entries (pool_in result))) }
+        Opened P.seen (P.relations pool) (as_peers (P.seen pool)) pool bytes result }
+    ensures same { SameRelations (P.relations pool) (P.relations (pool_in result)) }
 {
     // For the proof: a verified definition is accepted.
     let _ = verified.definition();

@@ -3,9 +3,8 @@
 ghost use Rattle.std.specs.Prelude.{◌≡◌, ◌≤◌, ◌++◌, [], Ok, ℕ, List, drop, length, take, true, false, IfOk, MatchResult};
 ghost use Rattle.ui_machine.specs.State.Config.{World};
 ghost use Rattle.ui_machine.specs.State.Tasks.{Event};
-ghost use Rattle.native_peers.specs.Pool.{entries, relations, seen};
 ghost use Rattle.native_peers.specs.Seen.{SameRelations};
-ghost use Rattle.ui_engine.specs.SessionView.{ComesOn, IsSeated, without_lines};
+ghost use Rattle.ui_engine.specs.SessionView.{ComesOn, without_lines};
 ghost use Rattle.event_lines.specs.Slices.{Follows, IsBegun, PutsMore};
 ghost use Rattle.event_lines.specs.Texts.{lines_text, stopped_line};
 
@@ -13,7 +12,7 @@ use crate::devices::Writer;
 use crate::gather::Gather;
 use crate::line_outcome::LineOutcome;
 use crate::writing::{put_lines, put_stopped};
-use native_peers::Peer;
+use native_peers::Peers;
 use ui_engine::{Progress, Session};
 use ui_machine::DeviceFault;
 
@@ -21,8 +20,8 @@ use ui_machine::DeviceFault;
 const SLICE_STEPS: u64 = 64;
 
 // Says the lines of a session behind the first so many, unless the writer has failed, and has the session forget all of them.
-fn put_new<W: Writer>(
-    session: &mut Session,
+fn put_new<P: Peers, W: Writer>(
+    session: &mut Session<P>,
     known: usize,
     put: Result<(), DeviceFault>,
     gather: &mut Gather,
@@ -49,8 +48,8 @@ fn put_new<W: Writer>(
 }
 
 // Says the lines with which an event stopped, and that it did.
-fn stop<W: Writer>(
-    session: &mut Session,
+fn stop<P: Peers, W: Writer>(
+    session: &mut Session<P>,
     number: u64,
     put: Result<(), DeviceFault>,
     gather: &mut Gather,
@@ -74,8 +73,8 @@ fn stop<W: Writer>(
 /// # Errors
 ///
 /// `DeviceFault` if a device fails. It is not called again.
-pub fn follow<W: Writer>(
-    session: &mut Session,
+pub fn follow<P: Peers, W: Writer>(
+    session: &mut Session<P>,
     begun: Progress,
     known: usize,
     number: u64,
@@ -84,13 +83,11 @@ pub fn follow<W: Writer>(
 ) -> Result<LineOutcome, DeviceFault>
     requires known { known ≤ length session.now.core.world.transcript }
     requires works { W.failed writer.old ≡ false }
-    requires begun { IsBegun begun (relations (λ p. (⟦<dyn Peer as Peer>⟧ p.peer.vtable).moves p.peer.value) (entries session.now.pool)) (seen (λ p. (⟦<dyn Peer as Peer>⟧ p.peer.vtable).state p.peer.value) (entries session.now.pool)) session.now.core }
-    requires seated { IsSeated (seen (λ p. (⟦<dyn Peer as Peer>⟧ p.peer.vtable).state p.peer.value) (entries session.now.pool)) session.now.core }
-    ensures follows { (event : Event) (w : World) → ComesOn (Ok begun) (relations (λ p. (⟦<dyn Peer as Peer>⟧ p.peer.vtable).moves p.peer.value) (entries session.old.pool)) session.old.core.definition event w [] (seen (λ p. (⟦<dyn Peer as Peer>⟧ p.peer.vtable).state p.peer.value) (entries session.old.pool)) session.old.core →
-        Follows (relations (λ p. (⟦<dyn Peer as Peer>⟧ p.peer.vtable).moves p.peer.value) (entries session.old.pool)) session.old.core.definition event w (take known session.old.core.world.transcript) number result (W.sent writer.old) gather.old (W.sent writer.new) gather.new (seen (λ p. (⟦<dyn Peer as Peer>⟧ p.peer.vtable).state p.peer.value) (entries session.new.pool)) session.new.core }
+    requires begun { IsBegun begun (P.relations session.now.pool) (P.seen session.now.pool) session.now.core }
+    ensures follows { (event : Event) (w : World) → ComesOn (Ok begun) (P.relations session.old.pool) session.old.core.definition event w [] (P.seen session.old.pool) session.old.core →
+        Follows (P.relations session.old.pool) session.old.core.definition event w (take known session.old.core.world.transcript) number result (W.sent writer.old) gather.old (W.sent writer.new) gather.new (P.seen session.new.pool) session.new.core }
     ensures marks { MatchResult result (λ _. W.failed writer.new ≡ false) (λ _. W.failed writer.new ≡ true) }
-    ensures seated { IsSeated (seen (λ p. (⟦<dyn Peer as Peer>⟧ p.peer.vtable).state p.peer.value) (entries session.new.pool)) session.new.core }
-    ensures same { SameRelations (relations (λ p. (⟦<dyn Peer as Peer>⟧ p.peer.vtable).moves p.peer.value) (entries session.old.pool)) (relations (λ p. (⟦<dyn Peer as Peer>⟧ p.peer.vtable).moves p.peer.value) (entries session.new.pool)) }
+    ensures same { SameRelations (P.relations session.old.pool) (P.relations session.new.pool) }
 {
     let mut progress = begun;
     let mut known = known;

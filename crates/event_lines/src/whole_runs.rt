@@ -3,9 +3,8 @@
 ghost use Rattle.std.specs.Prelude.{◌≡◌, ◌≢◌, codes, ℕ, List, map, string_bytes, [], ◌∷◌, ◌++◌, true, ◌||◌, IfSome, OnErr, MatchResult, false};
 ghost use Rattle.builder_defs.specs.Denoted.{denoted};
 ghost use Rattle.native_peers.specs.Matching.{as_peers};
-ghost use Rattle.native_peers.specs.Pool.{entries, relations, seen};
 ghost use Rattle.native_peers.specs.Seen.{SameRelations};
-ghost use Rattle.ui_engine.specs.SessionView.{IsSeated, state_at, without_lines};
+ghost use Rattle.ui_engine.specs.SessionView.{state_at, without_lines};
 ghost use Rattle.event_lines.specs.EventFileRun.{EventFileRun};
 ghost use Rattle.event_lines.specs.Events.{event_replies};
 ghost use Rattle.event_lines.specs.Lines.{lines_of};
@@ -19,7 +18,7 @@ use crate::event_file::handle_lines;
 use crate::gather::Gather;
 use crate::opening::{Opening, open};
 use crate::writing::{put_lines, put_parts};
-use native_peers::{Peer, PeerPool};
+use native_peers::{Peers, Vacant};
 use std::alloc::Global;
 use std::mem;
 use ui_engine::Session;
@@ -30,10 +29,10 @@ use ui_machine::DeviceFault;
 /// a line was refused. The first of 1, 3 and 4 ends the run. All that was said is written before anything is read. Nothing is read where the
 /// definition is refused or not built. At the end each peer is closed that an object has got; where nothing was begun the pool is left as it
 /// was.
-pub fn run<R: Reader, W: Writer>(
+pub fn run<P: Peers + Vacant, R: Reader, W: Writer>(
     alloc: Global,
     definition: &[u8],
-    pool: &mut PeerPool,
+    pool: &mut P,
     reader: &mut R,
     writer: &mut W,
 ) -> u8
@@ -41,47 +40,47 @@ pub fn run<R: Reader, W: Writer>(
     requires writer { W.failed writer.old ≡ false }
     // Where the reader's bytes are not known, there are bytes for which it holds.
     ensures ran { (input : List ℕ) × IfSome (R.left reader.old) (λ known. known ≡ input) × (text : List ℕ) ×
-        Ran (relations (λ p. (⟦<dyn Peer as Peer>⟧ p.peer.vtable).moves p.peer.value) (entries pool.old)) (as_peers (seen (λ p. (⟦<dyn Peer as Peer>⟧ p.peer.vtable).state p.peer.value) (entries pool.old))) (seen (λ p. (⟦<dyn Peer as Peer>⟧ p.peer.vtable).state p.peer.value) (entries pool.new))
+        Ran (P.relations pool.old) (as_peers (P.seen pool.old)) (P.seen pool.new)
         definition.now (lines_of input) result (W.failed writer.new)
         (reader.new ≡ reader.old) (R.left reader.old) (R.left reader.new) text
         × Sends (R.reads reader.old) (R.reads reader.new) (W.sent writer.old) (W.sent writer.new) text }
     ensures unread { OnErr (denoted definition.now) (reader.new ≡ reader.old) }
     ensures failed { result ≡ 4 → (R.failed reader.new || W.failed writer.new) ≡ true }
     ensures works { result ≢ 4 → (R.failed reader.new ≡ false) × (W.failed writer.new ≡ false) }
-    ensures same { SameRelations (relations (λ p. (⟦<dyn Peer as Peer>⟧ p.peer.vtable).moves p.peer.value) (entries pool.old)) (relations (λ p. (⟦<dyn Peer as Peer>⟧ p.peer.vtable).moves p.peer.value) (entries pool.new)) }
+    ensures same { SameRelations (P.relations pool.old) (P.relations pool.new) }
 {
-    let taken = mem::replace(pool, PeerPool::new(alloc));
+    let taken = mem::replace(pool, P::vacant(alloc));
     let Over { status, pool: left } = run_with(alloc, definition, taken, reader, writer);
     *pool = left;
     status
 }
 
-// A status, and the pool that is left.
+/// What a run comes to: its status, and the pool that is left.
 #[derive(Drop)]
-struct Over {
-    status: u8,
-    pool: PeerPool,
+pub struct Over<P> {
+    pub status: u8,
+    pub pool: P,
 }
 
-// Runs a definition with a pool.
-fn run_with<R: Reader, W: Writer>(
+/// The same as [`run`] with a pool that is handed over, and handed back with the status.
+pub fn run_with<P: Peers, R: Reader, W: Writer>(
     alloc: Global,
     definition: &[u8],
-    pool: PeerPool,
+    pool: P,
     reader: &mut R,
     writer: &mut W,
-) -> Over
+) -> Over<P>
     requires reader { R.failed reader.old ≡ false }
     requires writer { W.failed writer.old ≡ false }
     ensures ran { (input : List ℕ) × IfSome (R.left reader.old) (λ known. known ≡ input) × (text : List ℕ) ×
-        Ran (relations (λ p. (⟦<dyn Peer as Peer>⟧ p.peer.vtable).moves p.peer.value) (entries pool)) (as_peers (seen (λ p. (⟦<dyn Peer as Peer>⟧ p.peer.vtable).state p.peer.value) (entries pool))) (seen (λ p. (⟦<dyn Peer as Peer>⟧ p.peer.vtable).state p.peer.value) (entries result.pool))
+        Ran (P.relations pool) (as_peers (P.seen pool)) (P.seen result.pool)
         definition.now (lines_of input) result.status (W.failed writer.new)
         (reader.new ≡ reader.old) (R.left reader.old) (R.left reader.new) text
         × Sends (R.reads reader.old) (R.reads reader.new) (W.sent writer.old) (W.sent writer.new) text }
     ensures unread { OnErr (denoted definition.now) (reader.new ≡ reader.old) }
     ensures failed { result.status ≡ 4 → (R.failed reader.new || W.failed writer.new) ≡ true }
     ensures works { result.status ≢ 4 → (R.failed reader.new ≡ false) × (W.failed writer.new ≡ false) }
-    ensures same { SameRelations (relations (λ p. (⟦<dyn Peer as Peer>⟧ p.peer.vtable).moves p.peer.value) (entries pool)) (relations (λ p. (⟦<dyn Peer as Peer>⟧ p.peer.vtable).moves p.peer.value) (entries result.pool)) }
+    ensures same { SameRelations (P.relations pool) (P.relations result.pool) }
 {
     match open(alloc, judge(alloc, definition), pool) {
         Opening::Refused { text, pool } => {
@@ -161,24 +160,22 @@ fn put_build<W: Writer>(
 }
 
 // The lines of the build, and those of the events.
-fn play<R: Reader, W: Writer>(
+fn play<P: Peers, R: Reader, W: Writer>(
     alloc: Global,
-    session: &mut Session,
+    session: &mut Session<P>,
     reader: &mut R,
     writer: &mut W,
 ) -> u8
     requires reader { R.failed reader.old ≡ false }
     requires writer { W.failed writer.old ≡ false }
-    requires seated { IsSeated (seen (λ p. (⟦<dyn Peer as Peer>⟧ p.peer.vtable).state p.peer.value) (entries session.now.pool)) session.now.core }
     ensures plays { (input : List ℕ) × IfSome (R.left reader.old) (λ known. known ≡ input) × (text : List ℕ) ×
-        EventFileRun (event_replies (relations (λ p. (⟦<dyn Peer as Peer>⟧ p.peer.vtable).moves p.peer.value) (entries session.old.pool))) without_lines (without_lines (state_at (seen (λ p. (⟦<dyn Peer as Peer>⟧ p.peer.vtable).state p.peer.value) (entries session.old.pool)) session.old.core))
+        EventFileRun (event_replies (P.relations session.old.pool)) without_lines (without_lines (state_at (P.seen session.old.pool) session.old.core))
         (lines_text session.old.core.world.transcript) (lines_of input) result (W.failed writer.new)
-        (reader.new ≡ reader.old) (R.left reader.old) (R.left reader.new) text (state_at (seen (λ p. (⟦<dyn Peer as Peer>⟧ p.peer.vtable).state p.peer.value) (entries session.new.pool)) session.new.core)
+        (reader.new ≡ reader.old) (R.left reader.old) (R.left reader.new) text (state_at (P.seen session.new.pool) session.new.core)
         × Sends (R.reads reader.old) (R.reads reader.new) (W.sent writer.old) (W.sent writer.new) text }
     ensures failed { result ≡ 4 → (R.failed reader.new || W.failed writer.new) ≡ true }
     ensures works { result ≢ 4 → (R.failed reader.new ≡ false) × (W.failed writer.new ≡ false) }
-    ensures seated { IsSeated (seen (λ p. (⟦<dyn Peer as Peer>⟧ p.peer.vtable).state p.peer.value) (entries session.new.pool)) session.new.core }
-    ensures same { SameRelations (relations (λ p. (⟦<dyn Peer as Peer>⟧ p.peer.vtable).moves p.peer.value) (entries session.old.pool)) (relations (λ p. (⟦<dyn Peer as Peer>⟧ p.peer.vtable).moves p.peer.value) (entries session.new.pool)) }
+    ensures same { SameRelations (P.relations session.old.pool) (P.relations session.new.pool) }
 {
     let mut gather = Gather::new();
     let put = put_lines(&mut gather, writer, session.transcript());

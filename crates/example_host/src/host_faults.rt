@@ -47,8 +47,8 @@ impl From<NotAdded> for HostFault {
     }
 }
 
-impl From<Refused> for HostFault {
-    fn from(refused: Refused) -> HostFault {
+impl<P: Drop> From<Refused<P>> for HostFault {
+    fn from(refused: Refused<P>) -> HostFault {
         HostFault::Start(refused.fault)
     }
 }

@@ -5,9 +5,6 @@
 mod button;
 mod host_faults;
 
-ghost use Rattle.native_peers.specs.Pool.{entries, seen};
-ghost use Rattle.ui_engine.specs.SessionView.{IsSeated};
-
 use builder_defs::{ReadError, read_definition};
 use button::{Button, DEFINITION};
 use checked_events::is_event_of;
@@ -15,7 +12,7 @@ use definition_format::Event;
 use g_values::Value;
 use host_faults::HostFault;
 use host_peers::Tally;
-use native_peers::{Peer, PeerPool};
+use native_peers::{Peer, PeerPool, Peers};
 use std::alloc::Global;
 use std::process::ExitCode;
 use ui_engine::{Finished, Session, SessionFault, Started};
@@ -34,22 +31,42 @@ fn report(rt: &HostRuntime, fault: &HostFault) -> ExitCode {
     ExitCode::FAILURE
 }
 
-// Runs the definition over some events, and ends the session whatever came of them.
+// Runs the definition with a pool of one peer, and says what is left of that.
 fn run(rt: &HostRuntime) -> Result<(), HostFault> {
     let alloc = rt.alloc();
     let verified = verified(alloc)?;
     let mut pool = PeerPool::new(alloc);
     let clicks = Box::new(alloc, Tally::new(alloc)?)?;
     pool.add("clicks", clicks)?;
-    let Started { mut session, build } = Session::start(alloc, verified, pool)?;
+    let Ended { played, peers } = run_with(rt, verified, pool)?;
+    print_peer(rt, peers)?;
+    played
+}
+
+// What the events came to, and the peers that are left.
+#[derive(Drop)]
+struct Ended<P> {
+    played: Result<(), HostFault>,
+    peers: P,
+}
+
+// Runs a definition with its peers over some events, and ends the session whatever came of them.
+fn run_with<P: Peers>(
+    rt: &HostRuntime,
+    verified: Verified,
+    peers: P,
+) -> Result<Ended<P>, HostFault> {
+    let Started { mut session, build } = Session::start(rt.alloc(), verified, peers)?;
     let played = match build {
         Ok(_) => play(rt, &mut session),
         Err(_) => Err(HostFault::Stopped),
     };
     let Finished { transcript, pool } = session.finish();
     print_lines(rt, transcript.as_slice())?;
-    print_peer(rt, pool)?;
-    played
+    Ok(Ended {
+        played,
+        peers: pool,
+    })
 }
 
 // Reads the definition and verifies it.
@@ -67,9 +84,7 @@ fn verified(alloc: Global) -> Result<Verified, HostFault> {
 }
 
 // The lines of the build, and then events as they come.
-fn play(rt: &HostRuntime, session: &mut Session) -> Result<(), HostFault>
-    requires { IsSeated (seen (λ p. (⟦<dyn Peer as Peer>⟧ p.peer.vtable).state p.peer.value) (entries session.now.pool)) session.now.core }
-{
+fn play<P: Peers>(rt: &HostRuntime, session: &mut Session<P>) -> Result<(), HostFault> {
     let Some(button) = Button::find(session.definition()) else {
         return Err(HostFault::NoButton);
     };
@@ -86,10 +101,11 @@ fn play(rt: &HostRuntime, session: &mut Session) -> Result<(), HostFault>
 }
 
 // Carries out an event, if it is one of the definition, and prints the lines that it leads to and what it answers.
-fn carry_out(rt: &HostRuntime, session: &mut Session, event: Event) -> Result<(), HostFault>
-    requires { IsSeated (seen (λ p. (⟦<dyn Peer as Peer>⟧ p.peer.vtable).state p.peer.value) (entries session.now.pool)) session.now.core }
-    ensures { IsSeated (seen (λ p. (⟦<dyn Peer as Peer>⟧ p.peer.vtable).state p.peer.value) (entries session.new.pool)) session.new.core }
-{
+fn carry_out<P: Peers>(
+    rt: &HostRuntime,
+    session: &mut Session<P>,
+    event: Event,
+) -> Result<(), HostFault> {
     if !is_event_of(session.definition(), &event) {
         println!(rt; "that is no event of the definition")?;
         return Ok(());
@@ -111,10 +127,7 @@ fn carry_out(rt: &HostRuntime, session: &mut Session, event: Event) -> Result<()
 }
 
 // Prints the lines that were said, and has the session forget them.
-fn take_lines(rt: &HostRuntime, session: &mut Session) -> Result<(), HostFault>
-    requires { IsSeated (seen (λ p. (⟦<dyn Peer as Peer>⟧ p.peer.vtable).state p.peer.value) (entries session.now.pool)) session.now.core }
-    ensures { IsSeated (seen (λ p. (⟦<dyn Peer as Peer>⟧ p.peer.vtable).state p.peer.value) (entries session.new.pool)) session.new.core }
-{
+fn take_lines<P: Peers>(rt: &HostRuntime, session: &mut Session<P>) -> Result<(), HostFault> {
     print_lines(rt, session.transcript())?;
     session.forget();
     Ok(())

@@ -1,7 +1,6 @@
 //! Programs that run with the peers which the host makes for a definition.
 
 ghost use Rattle.std.specs.Prelude.{IfOk, List, ℕ};
-ghost use Rattle.native_peers.specs.Pool.{entries, seen};
 ghost use Rattle.native_peers.specs.Seen.{Seen};
 ghost use Rattle.host_peers.specs.Stock.{stocked_pool};
 
@@ -10,10 +9,10 @@ use crate::screens::Screen;
 use crate::stock_lists::{StockKind, stock};
 use crate::tallies::Tally;
 use definitions::Definition;
-use native_peers::{Peer, PeerPool};
+use native_peers::{PeerPool, Peers};
 use std::alloc::{AllocError, Global};
 
-/// A program that runs with a pool of peers.
+/// A program that runs with a pool of peers, whatever pool it is.
 pub trait PoolProgram: Drop {
     /// What it asks of its peers: their names, and the states that they begin in.
     ghost asks: { Self → List Seen → Type 0 };
@@ -21,9 +20,9 @@ pub trait PoolProgram: Drop {
     /// The statuses that it may answer, where its peers are as it asks.
     ghost answers: { Self → ℕ → Type 0 };
 
-    /// Runs with a pool of peers, and answers a status.
-    fn run(self, pool: PeerPool) -> u8
-        requires { asks self (seen (λ p. (⟦<dyn Peer as Peer>⟧ p.peer.vtable).state p.peer.value) (entries pool)) }
+    /// Runs with the peers of a pool, and answers a status.
+    fn run<Q: Peers>(self, pool: Q) -> u8
+        requires { asks self (Q.seen pool) }
         ensures { answers self result };
 }
 

@@ -1,3 +1,4 @@
+pub mod Alone
 pub mod Asking
 pub mod Closing
 pub mod Finding

@@ -24,3 +24,8 @@ module _ {N : Type 0} (see : N → Seen) (items : List N) (name : List ℕ) wher
   somebody k x e is =
       ap at (same_place 0 items ∙ e)
       ∙ (slice_get-map as_peer (map see items) k ∙ ap (option_map as_peer) (slice_get-map see items k ∙ ap (option_map see) is))
+
+-- the names that are seen of peers are theirs
+pub names_seen : {N : Type 0} (see : N → Seen) (items : List N) → map (λ (s : Seen). s.name) (map see items) ≡ map (λ x. (see x).name) items
+names_seen see [] = refl
+names_seen see (x ∷ xs) = ap (λ ns. (see x).name ∷ ns) (names_seen see xs)

@@ -17,7 +17,7 @@ use crate::shapes::is_same_shape;
 use peer_shapes::{Method, Shape};
 
 // Whether a peer with these methods is of the shape that is needed. Where none is needed, no peer is.
-fn has_shape(needed: Option<&Shape>, methods: &[Method]) -> bool
+pub(crate) fn has_shape(needed: Option<&Shape>, methods: &[Method]) -> bool
     ensures { result ≡ is_shaped (option_map (λ s. s.now) needed.entry) (map method_view methods.now) }
 {
     match needed {
@@ -50,7 +50,7 @@ fn is_of(needs: &[Need<'_>], number: usize, name: &str) -> bool
 }
 
 // Whether something needs the peer of a name, most likely the need of this number.
-fn is_needed(name: &str, needs: &[Need<'_>], likely: usize) -> bool
+pub(crate) fn is_needed(name: &str, needs: &[Need<'_>], likely: usize) -> bool
     ensures { result ≡ list_any (λ n. same_name n.name.now name.now) needs.now }
 {
     if is_of(needs, likely, name) {

@@ -30,58 +30,56 @@ the_peer {N} items k P is = by (slice_get items k) refl is
 pub holds : {N : Type 0} (items : List N) (k : ℕ) (x : N) (P : N → Type 0) → slice_get items k ≡ Some x → IsSomeAnd (slice_get items k) P → P x
 holds {N} items k x P at is = subst (λ (o : Option N). IsSomeAnd o P) at is
 
-module _ {N : Type 0} (see : N → Seen) where
-  -- these peers, as the engine knows them
-  abbrev pub known : List N → List Peer
-  known xs = map forgotten (as_peers (map see xs))
+-- these peers, as the engine knows them
+abbrev pub known : List Seen → List Peer
+known xs = map forgotten (as_peers xs)
 
-  place_known : (i : ℕ) (xs : List N) (name : List ℕ) → place_from (λ (p : Peer). p.name) i (known xs) name ≡ place_from (λ x. (see x).name) i xs name
-  place_known i [] name = refl
-  place_known i (x ∷ xs) name = ap (cond (same_name (see x).name name) (Some i)) (place_known (suc i) xs name)
+place_known : (i : ℕ) (xs : List Seen) (name : List ℕ) → place_from (λ (p : Peer). p.name) i (known xs) name ≡ place_from (λ (x : Seen). x.name) i xs name
+place_known i [] name = refl
+place_known i (x ∷ xs) name = ap (cond (same_name x.name name) (Some i)) (place_known (suc i) xs name)
 
-  names_same : (xs : List N) → map (λ (p : Peer). p.name) (as_peers (map see xs)) ≡ map (λ x. (see x).name) xs
-  names_same [] = refl
-  names_same (x ∷ xs) = ap (λ ns. (see x).name ∷ ns) (names_same xs)
+names_same : (xs : List Seen) → map (λ (p : Peer). p.name) (as_peers xs) ≡ map (λ (x : Seen). x.name) xs
+names_same [] = refl
+names_same (x ∷ xs) = ap (λ ns. x.name ∷ ns) (names_same xs)
 
-  -- the k-th peer of a pool, where no two have one name
-  module _ (items : List N) (k : ℕ) (x : N) (at : slice_get items k ≡ Some x) where
-    -- a need of its name has its methods
-    module _ (needs : List Need) (apart : no_two same_name (map (λ x. (see x).name) items) ≡ true) (matches : mismatch_with needs (as_peers (map see items)) ≡ None) (name : List ℕ) (named : name ≡ (see x).name) (likely : ℕ) where
-      needed : shape_likely needs likely name ≡ Some (see x).state.shape
-      needed =
-          ap (shape_likely needs likely) named
-          ∙ shape_of_need needs (as_peers (map see items)) k (as_peer (see x))
-          (slice_get-map as_peer (map see items) k ∙ ap (option_map as_peer) (slice_get-map see items k ∙ ap (option_map see) at))
-          (ap (λ ns. no_two same_name ns) (names_same items) ∙ apart) matches likely
+-- the k-th peer of a pool, where no two have one name
+module _ (items : List Seen) (k : ℕ) (x : Seen) (at : slice_get items k ≡ Some x) where
+  -- a need of its name has its methods
+  module _ (needs : List Need) (apart : no_two same_name (map (λ (x : Seen). x.name) items) ≡ true) (matches : mismatch_with needs (as_peers items) ≡ None) (name : List ℕ) (named : name ≡ x.name) (likely : ℕ) where
+    needed : shape_likely needs likely name ≡ Some x.state.shape
+    needed =
+        ap (shape_likely needs likely) named
+        ∙ shape_of_need needs (as_peers items) k (as_peer x)
+        (slice_get-map as_peer items k ∙ ap (option_map as_peer) at)
+        (ap (λ ns. no_two same_name ns) (names_same items) ∙ apart) matches likely
 
-      pub needed_shape : (shape : List Method) → Some shape ≡ shape_likely needs likely name → shape ≡ (see x).state.shape
-      needed_shape shape is = let same : ◌≡◌ {A = Option (List Method)} (Some shape) (Some (see x).state.shape) = is ∙ needed in cc same
+    pub needed_shape : (shape : List Method) → Some shape ≡ shape_likely needs likely name → shape ≡ x.state.shape
+    needed_shape shape is = let same : ◌≡◌ {A = Option (List Method)} (Some shape) (Some x.state.shape) = is ∙ needed in cc same
 
-      pub never_none : None ≡ shape_likely needs likely name → ⊥
-      never_none is = let never : ◌≡◌ {A = Option (List Method)} None (Some (see x).state.shape) = is ∙ needed in cc never
+    pub never_none : None ≡ shape_likely needs likely name → ⊥
+    never_none is = let never : ◌≡◌ {A = Option (List Method)} None (Some x.state.shape) = is ∙ needed in cc never
 
-    -- none of those before it has its name
-    pub new_name : (seats : List Peer) (name : List ℕ) → seats ≡ known (take k items) → name ≡ (see x).name → no_two same_name (map (λ x. (see x).name) items) ≡ true → peer_number seats name ≡ None
-    new_name seats name so_far named apart =
-        ap (λ s. peer_number s name) so_far
-        ∙ ap (peer_number (known (take k items))) named
-        ∙ place_known 0 (take k items) (see x).name
-        ∙ fresh (λ x. (see x).name) items k x at apart
+  -- none of those before it has its name
+  pub new_name : (seats : List Peer) (name : List ℕ) → seats ≡ known (take k items) → name ≡ x.name → no_two same_name (map (λ (x : Seen). x.name) items) ≡ true → peer_number seats name ≡ None
+  new_name seats name so_far named apart =
+      ap (λ s. peer_number s name) so_far
+      ∙ ap (peer_number (known (take k items))) named
+      ∙ place_known 0 (take k items) x.name
+      ∙ fresh (λ (x : Seen). x.name) items k x at apart
 
-    -- one more is known
-    one_seated : known (take (k + 1) items) ≡ known (take k items) ++ new_peer (see x).name (see x).state.shape (see x).state.is_open ∷ []
-    one_seated =
-        ap (λ xs. known xs) (one_taken items k x at)
-        ∙ ap (λ ss. map forgotten (as_peers ss)) (map-append see (take k items) (x ∷ []))
-        ∙ ap (λ ps. map forgotten ps) (map-append as_peer (map see (take k items)) (see x ∷ []))
-        ∙ map-append forgotten (as_peers (map see (take k items))) (as_peer (see x) ∷ [])
+  -- one more is known
+  one_seated : known (take (k + 1) items) ≡ known (take k items) ++ new_peer x.name x.state.shape x.state.is_open ∷ []
+  one_seated =
+      ap (λ xs. known xs) (one_taken items k x at)
+      ∙ ap (λ ps. map forgotten ps) (map-append as_peer (take k items) (x ∷ []))
+      ∙ map-append forgotten (as_peers (take k items)) (as_peer x ∷ [])
 
-    pub seated : (seats new : List Peer) (name : List ℕ) (shape : List Method) (is_open : Bool) → seats ≡ known (take k items) → new ≡ seats ++ new_peer name shape is_open ∷ []
-        → name ≡ (see x).name → shape ≡ (see x).state.shape → is_open ≡ (see x).state.is_open → new ≡ known (take (k + 1) items)
-    seated seats new name shape is_open so_far added named shaped opened =
-        added
-        ∙ ap (λ s. s ++ new_peer name shape is_open ∷ []) so_far
-        ∙ ap (λ n. known (take k items) ++ new_peer n shape is_open ∷ []) named
-        ∙ ap (λ m. known (take k items) ++ new_peer (see x).name m is_open ∷ []) shaped
-        ∙ ap (λ o. known (take k items) ++ new_peer (see x).name (see x).state.shape o ∷ []) opened
-        ∙ sym one_seated
+  pub seated : (seats new : List Peer) (name : List ℕ) (shape : List Method) (is_open : Bool) → seats ≡ known (take k items) → new ≡ seats ++ new_peer name shape is_open ∷ []
+      → name ≡ x.name → shape ≡ x.state.shape → is_open ≡ x.state.is_open → new ≡ known (take (k + 1) items)
+  seated seats new name shape is_open so_far added named shaped opened =
+      added
+      ∙ ap (λ s. s ++ new_peer name shape is_open ∷ []) so_far
+      ∙ ap (λ n. known (take k items) ++ new_peer n shape is_open ∷ []) named
+      ∙ ap (λ m. known (take k items) ++ new_peer x.name m is_open ∷ []) shaped
+      ∙ ap (λ o. known (take k items) ++ new_peer x.name x.state.shape o ∷ []) opened
+      ∙ sym one_seated

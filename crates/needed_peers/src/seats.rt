@@ -4,11 +4,10 @@ ghost use Rattle.std.specs.Prelude.{◌≡◌, IfOk, None, map, option_map};
 ghost use Rattle.law_peers.specs.Forgetting.{forgotten};
 ghost use Rattle.law_pools.specs.Needs.{mismatch_with};
 ghost use Rattle.native_peers.specs.Matching.{as_peers, need_view};
-ghost use Rattle.native_peers.specs.Pool.{entries, seen};
 ghost use Rattle.needed_peers.specs.Needing.{shape_likely, shape_needed};
 
 use engine_world::seats::Seats;
-use native_peers::{Need, Peer, PeerPool};
+use native_peers::{Need, Peers};
 use peer_shapes::Shape;
 use std::alloc::{AllocError, Global};
 
@@ -38,14 +37,14 @@ fn shape_for<'a>(needs: &[Need<'a>], likely: usize, name: &str) -> Option<&'a Sh
     }
 }
 
-/// The peers of a pool that matches what is needed, in the pool's order: each under its name and with its methods, no object's, and open as it is.
+/// The peers of a session that match what is needed, in their order: each under its name and with its methods, no object's, and open as it is.
 ///
 /// # Errors
 ///
 /// `AllocError` if memory is refused.
-pub fn seats(alloc: Global, pool: &PeerPool, needs: &[Need<'_>]) -> Result<Seats, AllocError>
-    requires matches { mismatch_with (map need_view needs.now) (as_peers (seen (λ p. (⟦<dyn Peer as Peer>⟧ p.peer.vtable).state p.peer.value) (entries pool.now))) ≡ None }
-    ensures { IfOk result (λ seats. seats ≡ map forgotten (as_peers (seen (λ p. (⟦<dyn Peer as Peer>⟧ p.peer.vtable).state p.peer.value) (entries pool.now)))) }
+pub fn seats<P: Peers>(alloc: Global, pool: &P, needs: &[Need<'_>]) -> Result<Seats, AllocError>
+    requires matches { mismatch_with (map need_view needs.now) (as_peers (P.seen pool.now)) ≡ None }
+    ensures { IfOk result (λ seats. seats ≡ map forgotten (as_peers (P.seen pool.now))) }
 {
     let mut seats = Seats::new(alloc);
     'peers: for k in 0..pool.left() {

@@ -4,4 +4,5 @@ mod InParts
 mod Served
 mod TakenProofs
 mod Forgetting
+mod Widths
 pub mod Slices

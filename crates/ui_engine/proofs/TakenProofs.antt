@@ -1,7 +1,6 @@
 -- How the boxes are closed whose peers objects have got.
-use Rattle.std.proofs.Common.{◌≡◌, refl, ap, sym, ◌∙◌, ℕ, zero, suc, ◌+◌, ◌<◌, ◌≤◌, Bool, true, false, List, [], ◌∷◌, map, length, take, Option, None, Some, arith}
+use Rattle.std.proofs.Common.{◌≡◌, refl, ap, sym, ◌∙◌, ℕ, zero, suc, ◌+◌, ◌<◌, ◌≤◌, Bool, true, false, List, [], ◌∷◌, length, take, Option, None, Some, arith}
 use Rattle.std.specs.Prelude.{is_some, slice_get, slice_set, option_map}
-use Rattle.std.proofs.lemmas.List.{length-map}
 use Rattle.ui_machine.specs.Seq.{read}
 use Rattle.ui_machine.specs.State.Peers.{Peer}
 use Rattle.native_peers.specs.Moves.{closed}
@@ -61,9 +60,9 @@ taken_long [] pool = refl
 taken_long (p ∷ peers) [] = refl
 taken_long (p ∷ peers) (s ∷ pool) = ap (λ n. suc n) (taken_long peers pool)
 
-pub inside_still : {N : Type 0} (see : N → Seen) (now old : List N) (peers : List Peer) (n : ℕ) → map see now ≡ taken_closed peers (map see old) → n < length old → n < length now
-inside_still see now old peers n is inside =
-    let long : length now ≡ length old = sym (length-map now see) ∙ ap (λ (l : List Seen). length l) is ∙ taken_long peers (map see old) ∙ length-map old see in
+pub inside_still : (now old : List Seen) (peers : List Peer) (n : ℕ) → now ≡ taken_closed peers old → n < length old → n < length now
+inside_still now old peers n is inside =
+    let long : length now ≡ length old = ap (λ (l : List Seen). length l) is ∙ taken_long peers old in
     omega (arith, long, inside)
 
 pub taken_on : (n : ℕ) (peers : List Peer) (old now new : List Seen) → now ≡ taken_closed (take n peers) old → new ≡ closed_at_if (is_taken peers n) n now → new ≡ taken_closed (take (n + 1) peers) old
@@ -71,8 +70,8 @@ taken_on n peers old now new is closes =
     let next : suc n ≡ n + 1 = omega arith in
     closes ∙ ap (λ (l : List Seen). closed_at_if (is_taken peers n) n l) is ∙ taken_more n peers old ∙ ap (λ k. taken_closed (take k peers) old) next
 
-pub taken_end : {N : Type 0} (see : N → Seen) (now old : List N) (peers : List Peer) (n : ℕ) → map see now ≡ taken_closed (take n peers) (map see old) → length old ≤ n → map see now ≡ taken_closed peers (map see old)
-taken_end see now old peers n is all = is ∙ taken_all n peers (map see old) (let long = length-map old see in omega (arith, long, all))
+pub taken_end : (now old : List Seen) (peers : List Peer) (n : ℕ) → now ≡ taken_closed (take n peers) old → length old ≤ n → now ≡ taken_closed peers old
+taken_end now old peers n is all = is ∙ taken_all n peers old all
 
 -- whether an object has got it
 pub taken_there : {A : Type 0} (f : A → ℕ) (held : Option A) (peers : List Peer) (n : ℕ) (p : Peer) → slice_get peers n ≡ Some p → p.holder ≡ option_map f held → is_some held ≡ is_taken peers n

@@ -2,6 +2,7 @@ pub mod Phases
 pub mod SessionView
 pub mod BuildBegins
 pub mod Endings
+pub mod Widths
 pub use Rattle.engine_pools.specs.Dispatched
 pub use Rattle.engine_pools.specs.PoolView
 pub use Rattle.engine_pools.specs.Promises

@@ -8,7 +8,6 @@ ghost use Rattle.ui_machine.specs.State.Tasks as config;
 ghost use Rattle.law_sessions.specs.Sessions.{EventRead};
 ghost use Rattle.law_typing.specs.Good.Requests.{RequestRead};
 ghost use Rattle.definition_format.specs.Meaning.{event_of, request_of};
-ghost use Rattle.native_peers.specs.Pool.{entries, relations, seen};
 ghost use Rattle.native_peers.specs.Seen.{SameRelations};
 ghost use Rattle.engine_pools.specs.Courses.{HasCome, IfEnded, IfGoesOn, IfHasEnded, IfUnderWay, nothing_yet};
 ghost use Rattle.engine_pools.specs.PoolView.{Knows, world_at};
@@ -23,7 +22,7 @@ use engine_pools::{Course, Progress, Reply, advance, begin_dispatch, begin_next,
 use engine_world::engine::Engine;
 use engine_world::task::Task;
 use main_context::{Batch, TurnError};
-use native_peers::{Peer, PeerPool};
+use native_peers::Peers;
 use std::marker::Model;
 use verified::Verified;
 
@@ -84,13 +83,13 @@ impl Core {
     /// # Errors
     ///
     /// As `Session::dispatch`.
-    pub fn dispatch(&mut self, pool: &mut PeerPool, event: Event) -> Result<Reply, SessionFault>
+    pub fn dispatch<P: Peers>(&mut self, pool: &mut P, event: Event) -> Result<Reply, SessionFault>
         requires read { EventRead self.now.definition (event_of event) }
-        requires seated { IsSeated (seen (λ p. (⟦<dyn Peer as Peer>⟧ p.peer.vtable).state p.peer.value) (entries pool.now)) self.now }
-        ensures answers { AnswersEvent (relations (λ p. (⟦<dyn Peer as Peer>⟧ p.peer.vtable).moves p.peer.value) (entries pool.old)) self.old.stopped result (state_at (seen (λ p. (⟦<dyn Peer as Peer>⟧ p.peer.vtable).state p.peer.value) (entries pool.old)) self.old) (event_of event) (state_at (seen (λ p. (⟦<dyn Peer as Peer>⟧ p.peer.vtable).state p.peer.value) (entries pool.new)) self.new) }
-        ensures keeps { self.old.stopped ≡ false → refusal self.old.world (event_of event) ≡ None → EventKeeps self.old.definition (world_at (seen (λ p. (⟦<dyn Peer as Peer>⟧ p.peer.vtable).state p.peer.value) (entries pool.old)) self.old.world) (event_of event) }
-        ensures seated { IsSeated (seen (λ p. (⟦<dyn Peer as Peer>⟧ p.peer.vtable).state p.peer.value) (entries pool.new)) self.new }
-        ensures same { SameRelations (relations (λ p. (⟦<dyn Peer as Peer>⟧ p.peer.vtable).moves p.peer.value) (entries pool.old)) (relations (λ p. (⟦<dyn Peer as Peer>⟧ p.peer.vtable).moves p.peer.value) (entries pool.new)) }
+        requires seated { IsSeated (P.seen pool.now) self.now }
+        ensures answers { AnswersEvent (P.relations pool.old) self.old.stopped result (state_at (P.seen pool.old) self.old) (event_of event) (state_at (P.seen pool.new) self.new) }
+        ensures keeps { self.old.stopped ≡ false → refusal self.old.world (event_of event) ≡ None → EventKeeps self.old.definition (world_at (P.seen pool.old) self.old.world) (event_of event) }
+        ensures seated { IsSeated (P.seen pool.new) self.new }
+        ensures same { SameRelations (P.relations pool.old) (P.relations pool.new) }
         ensures grows { IsPrefix self.old.world.transcript self.new.world.transcript }
     {
         let course = match self.begin(pool, event)? {
@@ -109,13 +108,13 @@ impl Core {
     /// # Errors
     ///
     /// As `Session::begin`.
-    pub fn begin(&mut self, pool: &PeerPool, event: Event) -> Result<Progress, SessionFault>
+    pub fn begin<P: Peers>(&mut self, pool: &P, event: Event) -> Result<Progress, SessionFault>
         requires read { EventRead self.now.definition (event_of event) }
-        requires seated { IsSeated (seen (λ p. (⟦<dyn Peer as Peer>⟧ p.peer.vtable).state p.peer.value) (entries pool.now)) self.now }
-        ensures begins { BeginsEvent (relations (λ p. (⟦<dyn Peer as Peer>⟧ p.peer.vtable).moves p.peer.value) (entries pool.now)) self.old.stopped result (seen (λ p. (⟦<dyn Peer as Peer>⟧ p.peer.vtable).state p.peer.value) (entries pool.now)) self.old (event_of event) self.new }
-        ensures keeps { self.old.stopped ≡ false → refusal self.old.world (event_of event) ≡ None → EventKeeps self.old.definition (world_at (seen (λ p. (⟦<dyn Peer as Peer>⟧ p.peer.vtable).state p.peer.value) (entries pool.now)) self.old.world) (event_of event) }
-        ensures seated { IsSeated (seen (λ p. (⟦<dyn Peer as Peer>⟧ p.peer.vtable).state p.peer.value) (entries pool.now)) self.new }
-        ensures in_course { IfUnderWay result (λ course. HasCourse (relations (λ p. (⟦<dyn Peer as Peer>⟧ p.peer.vtable).moves p.peer.value) (entries pool.now)) course (seen (λ p. (⟦<dyn Peer as Peer>⟧ p.peer.vtable).state p.peer.value) (entries pool.now)) self.new) }
+        requires seated { IsSeated (P.seen pool.now) self.now }
+        ensures begins { BeginsEvent (P.relations pool.now) self.old.stopped result (P.seen pool.now) self.old (event_of event) self.new }
+        ensures keeps { self.old.stopped ≡ false → refusal self.old.world (event_of event) ≡ None → EventKeeps self.old.definition (world_at (P.seen pool.now) self.old.world) (event_of event) }
+        ensures seated { IsSeated (P.seen pool.now) self.new }
+        ensures in_course { IfUnderWay result (λ course. HasCourse (P.relations pool.now) course (P.seen pool.now) self.new) }
         ensures none { IfUnderWay result (λ course. course.so_far.steps + self.new.counted ≡ 0) }
         ensures ended { IfEnded result (λ reply. reply ≡ nothing_yet) }
         ensures grows { IsPrefix self.old.world.transcript self.new.world.transcript }
@@ -131,13 +130,17 @@ impl Core {
     }
 
     // Begins a request, unless it names an object that was released.
-    fn begin_request(&mut self, pool: &PeerPool, request: Request) -> Result<Progress, SessionFault>
+    fn begin_request<P: Peers>(
+        &mut self,
+        pool: &P,
+        request: Request,
+    ) -> Result<Progress, SessionFault>
         requires goes_on { self.now.stopped ≡ false }
         requires read { RequestRead self.now.definition (request_of request) }
-        requires knows { Knows self.now.world (seen (λ p. (⟦<dyn Peer as Peer>⟧ p.peer.vtable).state p.peer.value) (entries pool.now)) }
-        ensures begins { BeginsBy (relations (λ p. (⟦<dyn Peer as Peer>⟧ p.peer.vtable).moves p.peer.value) (entries pool.now)) (refusal self.old.world (config.request (request_of request))) result (seen (λ p. (⟦<dyn Peer as Peer>⟧ p.peer.vtable).state p.peer.value) (entries pool.now)) self.old (config.request (request_of request)) self.new }
-        ensures keeps { refusal self.old.world (config.request (request_of request)) ≡ None → EventKeeps self.old.definition (world_at (seen (λ p. (⟦<dyn Peer as Peer>⟧ p.peer.vtable).state p.peer.value) (entries pool.now)) self.old.world) (config.request (request_of request)) }
-        ensures seated { IsSeated (seen (λ p. (⟦<dyn Peer as Peer>⟧ p.peer.vtable).state p.peer.value) (entries pool.now)) self.new }
+        requires knows { Knows self.now.world (P.seen pool.now) }
+        ensures begins { BeginsBy (P.relations pool.now) (refusal self.old.world (config.request (request_of request))) result (P.seen pool.now) self.old (config.request (request_of request)) self.new }
+        ensures keeps { refusal self.old.world (config.request (request_of request)) ≡ None → EventKeeps self.old.definition (world_at (P.seen pool.now) self.old.world) (config.request (request_of request)) }
+        ensures seated { IsSeated (P.seen pool.now) self.new }
         ensures none { IfUnderWay result (λ course. course.so_far.steps + self.new.counted ≡ 0) }
         ensures ended { IfEnded result (λ reply. reply ≡ nothing_yet) }
         ensures grows { IsPrefix self.old.world.transcript self.new.world.transcript }
@@ -158,12 +161,12 @@ impl Core {
 
     // Begins a turn of the main loop: the sources that are ready and have the least priority number run, each in a dispatch of its own. Where
     // no memory is found the session stops.
-    fn begin_turn(&mut self, pool: &PeerPool, moment: u64) -> Result<Progress, SessionFault>
+    fn begin_turn<P: Peers>(&mut self, pool: &P, moment: u64) -> Result<Progress, SessionFault>
         requires goes_on { self.now.stopped ≡ false }
-        requires knows { Knows self.now.world (seen (λ p. (⟦<dyn Peer as Peer>⟧ p.peer.vtable).state p.peer.value) (entries pool.now)) }
-        ensures begins { BeginsBy (relations (λ p. (⟦<dyn Peer as Peer>⟧ p.peer.vtable).moves p.peer.value) (entries pool.now)) (refusal self.old.world (config.turn moment)) result (seen (λ p. (⟦<dyn Peer as Peer>⟧ p.peer.vtable).state p.peer.value) (entries pool.now)) self.old (config.turn moment) self.new }
-        ensures keeps { refusal self.old.world (config.turn moment) ≡ None → EventKeeps self.old.definition (world_at (seen (λ p. (⟦<dyn Peer as Peer>⟧ p.peer.vtable).state p.peer.value) (entries pool.now)) self.old.world) (config.turn moment) }
-        ensures seated { IsSeated (seen (λ p. (⟦<dyn Peer as Peer>⟧ p.peer.vtable).state p.peer.value) (entries pool.now)) self.new }
+        requires knows { Knows self.now.world (P.seen pool.now) }
+        ensures begins { BeginsBy (P.relations pool.now) (refusal self.old.world (config.turn moment)) result (P.seen pool.now) self.old (config.turn moment) self.new }
+        ensures keeps { refusal self.old.world (config.turn moment) ≡ None → EventKeeps self.old.definition (world_at (P.seen pool.now) self.old.world) (config.turn moment) }
+        ensures seated { IsSeated (P.seen pool.now) self.new }
         ensures none { IfUnderWay result (λ course. course.so_far.steps + self.new.counted ≡ 0) }
         ensures ended { IfEnded result (λ reply. reply ≡ nothing_yet) }
         ensures grows { IsPrefix self.old.world.transcript self.new.world.transcript }
@@ -182,12 +185,12 @@ impl Core {
     }
 
     // Begins the first source of a turn that has begun, if there is one.
-    fn begin_sources(&mut self, pool: &PeerPool, batch: Batch) -> Progress
+    fn begin_sources<P: Peers>(&mut self, pool: &P, batch: Batch) -> Progress
         requires goes_on { self.now.stopped ≡ false }
-        requires knows { Knows self.now.world (seen (λ p. (⟦<dyn Peer as Peer>⟧ p.peer.vtable).state p.peer.value) (entries pool.now)) }
-        ensures comes { (event : config.Event) (w : World) → HasCome self.old.definition (relations (λ p. (⟦<dyn Peer as Peer>⟧ p.peer.vtable).moves p.peer.value) (entries pool.now)) event w batch nothing_yet (world_at (seen (λ p. (⟦<dyn Peer as Peer>⟧ p.peer.vtable).state p.peer.value) (entries pool.now)) self.old.world) →
-            ComesOn (Ok result) (relations (λ p. (⟦<dyn Peer as Peer>⟧ p.peer.vtable).moves p.peer.value) (entries pool.now)) self.old.definition event w [] (seen (λ p. (⟦<dyn Peer as Peer>⟧ p.peer.vtable).state p.peer.value) (entries pool.now)) self.new }
-        ensures seated { IsSeated (seen (λ p. (⟦<dyn Peer as Peer>⟧ p.peer.vtable).state p.peer.value) (entries pool.now)) self.new }
+        requires knows { Knows self.now.world (P.seen pool.now) }
+        ensures comes { (event : config.Event) (w : World) → HasCome self.old.definition (P.relations pool.now) event w batch nothing_yet (world_at (P.seen pool.now) self.old.world) →
+            ComesOn (Ok result) (P.relations pool.now) self.old.definition event w [] (P.seen pool.now) self.new }
+        ensures seated { IsSeated (P.seen pool.now) self.new }
         ensures none { IfGoesOn result (λ course. course.so_far.steps + self.new.counted ≡ 0) }
         ensures ended { IfHasEnded result (λ reply. reply ≡ nothing_yet) }
         ensures grows { IsPrefix self.old.world.transcript self.new.world.transcript }
@@ -209,20 +212,20 @@ impl Core {
     /// # Errors
     ///
     /// As `Session::advance`.
-    pub fn advance(
+    pub fn advance<P: Peers>(
         &mut self,
-        pool: &mut PeerPool,
+        pool: &mut P,
         course: Course,
         most: u64,
     ) -> Result<Progress, SessionFault>
-        requires in_course { HasCourse (relations (λ p. (⟦<dyn Peer as Peer>⟧ p.peer.vtable).moves p.peer.value) (entries pool.now)) course (seen (λ p. (⟦<dyn Peer as Peer>⟧ p.peer.vtable).state p.peer.value) (entries pool.now)) self.now }
-        ensures comes { (event : config.Event) (w : World) (front : List (List ℕ)) → InCourse (relations (λ p. (⟦<dyn Peer as Peer>⟧ p.peer.vtable).moves p.peer.value) (entries pool.old)) self.old.definition event w front course (seen (λ p. (⟦<dyn Peer as Peer>⟧ p.peer.vtable).state p.peer.value) (entries pool.old)) self.old →
-            ComesOn result (relations (λ p. (⟦<dyn Peer as Peer>⟧ p.peer.vtable).moves p.peer.value) (entries pool.old)) self.old.definition event w front (seen (λ p. (⟦<dyn Peer as Peer>⟧ p.peer.vtable).state p.peer.value) (entries pool.new)) self.new }
-        ensures in_course { IfUnderWay result (λ course. HasCourse (relations (λ p. (⟦<dyn Peer as Peer>⟧ p.peer.vtable).moves p.peer.value) (entries pool.new)) course (seen (λ p. (⟦<dyn Peer as Peer>⟧ p.peer.vtable).state p.peer.value) (entries pool.new)) self.new) }
-        ensures seated { IsSeated (seen (λ p. (⟦<dyn Peer as Peer>⟧ p.peer.vtable).state p.peer.value) (entries pool.new)) self.new }
+        requires in_course { HasCourse (P.relations pool.now) course (P.seen pool.now) self.now }
+        ensures comes { (event : config.Event) (w : World) (front : List (List ℕ)) → InCourse (P.relations pool.old) self.old.definition event w front course (P.seen pool.old) self.old →
+            ComesOn result (P.relations pool.old) self.old.definition event w front (P.seen pool.new) self.new }
+        ensures in_course { IfUnderWay result (λ course. HasCourse (P.relations pool.new) course (P.seen pool.new) self.new) }
+        ensures seated { IsSeated (P.seen pool.new) self.new }
         ensures made { IfUnderWay result (λ next. next.so_far.steps + self.new.counted ≡ course.so_far.steps + self.old.counted + most) }
         ensures most { IfEnded result (λ reply. reply.steps ≤ course.so_far.steps + self.old.counted + most) }
-        ensures same { SameRelations (relations (λ p. (⟦<dyn Peer as Peer>⟧ p.peer.vtable).moves p.peer.value) (entries pool.old)) (relations (λ p. (⟦<dyn Peer as Peer>⟧ p.peer.vtable).moves p.peer.value) (entries pool.new)) }
+        ensures same { SameRelations (P.relations pool.old) (P.relations pool.new) }
         ensures grows { IsPrefix self.old.world.transcript self.new.world.transcript }
     {
         let definition = self.verified.definition();

@@ -1,12 +1,11 @@
 //! The end of a session: the boxes that objects have got are closed.
 
 ghost use Rattle.std.specs.Prelude.{◌≡◌, ◌<◌, length};
-ghost use Rattle.native_peers.specs.Pool.{entries, relations, seen};
 ghost use Rattle.native_peers.specs.Seen.{SameRelations};
 ghost use Rattle.ui_engine.specs.Endings.{closed_at_if, is_taken, taken_closed};
 
 use engine_world::seats::Seats;
-use native_peers::{Peer, PeerPool};
+use native_peers::Peers;
 
 // Whether an object has got the peer of a number.
 fn is_taken(seats: &Seats, number: usize) -> bool
@@ -19,10 +18,10 @@ fn is_taken(seats: &Seats, number: usize) -> bool
 }
 
 // Closes the box of a number where an object has got the peer, if it is open.
-fn close_if_taken(seats: &Seats, pool: &mut PeerPool, number: usize)
-    requires inside { number < length (entries pool.now) }
-    ensures closed { (seen (λ p. (⟦<dyn Peer as Peer>⟧ p.peer.vtable).state p.peer.value) (entries pool.new)) ≡ closed_at_if (is_taken seats.now number) number (seen (λ p. (⟦<dyn Peer as Peer>⟧ p.peer.vtable).state p.peer.value) (entries pool.old)) }
-    ensures same { SameRelations (relations (λ p. (⟦<dyn Peer as Peer>⟧ p.peer.vtable).moves p.peer.value) (entries pool.old)) (relations (λ p. (⟦<dyn Peer as Peer>⟧ p.peer.vtable).moves p.peer.value) (entries pool.new)) }
+fn close_if_taken<P: Peers>(seats: &Seats, pool: &mut P, number: usize)
+    requires inside { number < length (P.seen pool.now) }
+    ensures closed { (P.seen pool.new) ≡ closed_at_if (is_taken seats.now number) number (P.seen pool.old) }
+    ensures same { SameRelations (P.relations pool.old) (P.relations pool.new) }
 {
     if is_taken(seats, number) && pool.is_open(number) {
         pool.close(number);
@@ -30,9 +29,9 @@ fn close_if_taken(seats: &Seats, pool: &mut PeerPool, number: usize)
 }
 
 /// Closes each open box whose peer an object has got. The others stay as they are.
-pub(crate) fn close_taken(seats: &Seats, pool: &mut PeerPool)
-    ensures closed { (seen (λ p. (⟦<dyn Peer as Peer>⟧ p.peer.vtable).state p.peer.value) (entries pool.new)) ≡ taken_closed seats.now (seen (λ p. (⟦<dyn Peer as Peer>⟧ p.peer.vtable).state p.peer.value) (entries pool.old)) }
-    ensures same { SameRelations (relations (λ p. (⟦<dyn Peer as Peer>⟧ p.peer.vtable).moves p.peer.value) (entries pool.old)) (relations (λ p. (⟦<dyn Peer as Peer>⟧ p.peer.vtable).moves p.peer.value) (entries pool.new)) }
+pub(crate) fn close_taken<P: Peers>(seats: &Seats, pool: &mut P)
+    ensures closed { (P.seen pool.new) ≡ taken_closed seats.now (P.seen pool.old) }
+    ensures same { SameRelations (P.relations pool.old) (P.relations pool.new) }
 {
     'peers: for number in 0..pool.left() {
         close_if_taken(seats, pool, number);

@@ -9,7 +9,6 @@ ghost use Rattle.law_pools.specs.Needs.{mismatch};
 ghost use Rattle.law_sessions.specs.Sessions.{EventRead};
 ghost use Rattle.definition_format.specs.Meaning.{event_of};
 ghost use Rattle.native_peers.specs.Matching.{as_peers};
-ghost use Rattle.native_peers.specs.Pool.{entries, relations, seen};
 ghost use Rattle.native_peers.specs.Seen.{SameRelations};
 ghost use Rattle.ui_engine.specs.Endings.{taken_closed};
 ghost use Rattle.engine_pools.specs.Courses.{IfEnded, IfUnderWay, nothing_yet};
@@ -28,45 +27,45 @@ use definitions::Definition;
 use engine_pools::{Course, Progress, Reply, dispatch};
 use engine_world::places::FIRST_PLACE;
 use engine_world::task::Task;
-use native_peers::{Peer, PeerPool};
+use native_peers::Peers;
 use std::alloc::Global;
 use verified::Verified;
 
-/// What runs a verified definition, with the pool of its peers.
+/// What runs a verified definition, with the pool of its peers, which it knows: of each peer its name, its methods, and whether it is open.
 #[derive(Drop)]
-pub struct Session {
+pub struct Session<P: Peers> {
     pub(crate) core: Core,
-    pub(crate) pool: PeerPool,
+    pub(crate) pool: P,
+    ghost seated: { IsSeated (P.seen pool) core },
 }
 
 /// A session whose definition was built, or whose build stopped it.
 #[derive(Drop)]
-pub struct Started {
-    pub session: Session,
+pub struct Started<P: Peers> {
+    pub session: Session<P>,
     pub build: Result<Reply, SessionFault>,
 }
 
 /// What no session began with, handed back: the definition, and the pool, of which no peer was called or closed.
 #[derive(Drop)]
-pub struct Refused {
+pub struct Refused<P> {
     pub fault: StartFault,
     pub verified: Verified,
-    pub pool: PeerPool,
+    pub pool: P,
 }
 
 /// What is left of a session: its lines, and its pool, in which each peer is closed that an object has got.
 #[derive(Drop)]
-pub struct Finished {
+pub struct Finished<P> {
     pub transcript: Vec<String>,
-    pub pool: PeerPool,
+    pub pool: P,
 }
 
 // Builds the objects of a verified definition, from what a build begins with.
-fn build(verified: Verified, mut pool: PeerPool, beginning: Beginning) -> Started
-    requires begun { IsBegun verified (seen (λ p. (⟦<dyn Peer as Peer>⟧ p.peer.vtable).state p.peer.value) (entries pool)) beginning }
-    ensures built { Comes result.build (building (relations (λ p. (⟦<dyn Peer as Peer>⟧ p.peer.vtable).moves p.peer.value) (entries pool)) verified (as_peers (seen (λ p. (⟦<dyn Peer as Peer>⟧ p.peer.vtable).state p.peer.value) (entries pool)))) verified (state_at (seen (λ p. (⟦<dyn Peer as Peer>⟧ p.peer.vtable).state p.peer.value) (entries result.session.pool)) result.session.core) }
-    ensures seated { IsSeated (seen (λ p. (⟦<dyn Peer as Peer>⟧ p.peer.vtable).state p.peer.value) (entries result.session.pool)) result.session.core }
-    ensures same { SameRelations (relations (λ p. (⟦<dyn Peer as Peer>⟧ p.peer.vtable).moves p.peer.value) (entries pool)) (relations (λ p. (⟦<dyn Peer as Peer>⟧ p.peer.vtable).moves p.peer.value) (entries result.session.pool)) }
+fn build<P: Peers>(verified: Verified, mut pool: P, beginning: Beginning) -> Started<P>
+    requires begun { IsBegun verified (P.seen pool) beginning }
+    ensures built { Comes result.build (building (P.relations pool) verified (as_peers (P.seen pool))) verified (state_at (P.seen result.session.pool) result.session.core) }
+    ensures same { SameRelations (P.relations pool) (P.relations result.session.pool) }
 {
     let definition = verified.definition();
     // For the proof: some bytes denote the definition, and it has few places.
@@ -106,7 +105,7 @@ fn build(verified: Verified, mut pool: PeerPool, beginning: Beginning) -> Starte
     }
 }
 
-impl Session {
+impl<P: Peers> Session<P> {
     /// Builds the objects of a verified definition, with a pool that has just the peers that it needs, open and of the right shapes. The build
     /// never leaves the machine stuck, and counts no more steps than the report says.
     ///
@@ -115,14 +114,13 @@ impl Session {
     /// `Refused`, with the definition and the pool as it was: `PeerMissing`, `PeerClosed` or `PeerShape` for the first peer that the definition
     /// needs and the pool does not have so, then `PeerUnused` for the first that it does not need; and `OutOfMemory` if no memory is found
     /// before the build.
-    pub fn start(alloc: Global, verified: Verified, pool: PeerPool) -> Result<Started, Refused>
-        ensures matches { IfOk result (λ started. mismatch verified (as_peers (seen (λ p. (⟦<dyn Peer as Peer>⟧ p.peer.vtable).state p.peer.value) (entries pool))) ≡ None) }
-        ensures built { IfOk result (λ started. Comes started.build (building (relations (λ p. (⟦<dyn Peer as Peer>⟧ p.peer.vtable).moves p.peer.value) (entries pool)) verified (as_peers (seen (λ p. (⟦<dyn Peer as Peer>⟧ p.peer.vtable).state p.peer.value) (entries pool)))) verified
-            (state_at (seen (λ p. (⟦<dyn Peer as Peer>⟧ p.peer.vtable).state p.peer.value) (entries started.session.pool)) started.session.core)) }
-        ensures seated { IfOk result (λ started. IsSeated (seen (λ p. (⟦<dyn Peer as Peer>⟧ p.peer.vtable).state p.peer.value) (entries started.session.pool)) started.session.core) }
-        ensures same { IfOk result (λ started. SameRelations (relations (λ p. (⟦<dyn Peer as Peer>⟧ p.peer.vtable).moves p.peer.value) (entries pool)) (relations (λ p. (⟦<dyn Peer as Peer>⟧ p.peer.vtable).moves p.peer.value) (entries started.session.pool))) }
-        ensures keeps { mismatch verified (as_peers (seen (λ p. (⟦<dyn Peer as Peer>⟧ p.peer.vtable).state p.peer.value) (entries pool))) ≡ None → BuildKeeps verified (as_peers (seen (λ p. (⟦<dyn Peer as Peer>⟧ p.peer.vtable).state p.peer.value) (entries pool))) }
-        ensures refused { IfErr result (λ refused. (refused.verified ≡ verified) × (refused.pool ≡ pool) × IsWhy refused.fault (mismatch verified (as_peers (seen (λ p. (⟦<dyn Peer as Peer>⟧ p.peer.vtable).state p.peer.value) (entries pool))))) }
+    pub fn start(alloc: Global, verified: Verified, pool: P) -> Result<Started<P>, Refused<P>>
+        ensures matches { IfOk result (λ started. mismatch verified (as_peers (P.seen pool)) ≡ None) }
+        ensures built { IfOk result (λ started. Comes started.build (building (P.relations pool) verified (as_peers (P.seen pool))) verified
+            (state_at (P.seen started.session.pool) started.session.core)) }
+        ensures same { IfOk result (λ started. SameRelations (P.relations pool) (P.relations started.session.pool)) }
+        ensures keeps { mismatch verified (as_peers (P.seen pool)) ≡ None → BuildKeeps verified (as_peers (P.seen pool)) }
+        ensures refused { IfErr result (λ refused. (refused.verified ≡ verified) × (refused.pool ≡ pool) × IsWhy refused.fault (mismatch verified (as_peers (P.seen pool)))) }
     {
         // For the proof: some bytes denote the definition.
         let _types = verified.definition().types();
@@ -148,12 +146,10 @@ impl Session {
     /// that was called last may have replied without a line that reports it.
     pub fn dispatch(&mut self, event: Event) -> Result<Reply, SessionFault>
         requires read { EventRead self.now.core.definition (event_of event) }
-        requires seated { IsSeated (seen (λ p. (⟦<dyn Peer as Peer>⟧ p.peer.vtable).state p.peer.value) (entries self.now.pool)) self.now.core }
-        ensures answers { AnswersEvent (relations (λ p. (⟦<dyn Peer as Peer>⟧ p.peer.vtable).moves p.peer.value) (entries self.old.pool)) self.old.core.stopped result (state_at (seen (λ p. (⟦<dyn Peer as Peer>⟧ p.peer.vtable).state p.peer.value) (entries self.old.pool)) self.old.core) (event_of event) (state_at (seen (λ p. (⟦<dyn Peer as Peer>⟧ p.peer.vtable).state p.peer.value) (entries self.new.pool)) self.new.core) }
+        ensures answers { AnswersEvent (P.relations self.old.pool) self.old.core.stopped result (state_at (P.seen self.old.pool) self.old.core) (event_of event) (state_at (P.seen self.new.pool) self.new.core) }
         ensures keeps { self.old.core.stopped ≡ false → refusal self.old.core.world (event_of event) ≡ None →
-            EventKeeps self.old.core.definition (world_at (seen (λ p. (⟦<dyn Peer as Peer>⟧ p.peer.vtable).state p.peer.value) (entries self.old.pool)) self.old.core.world) (event_of event) }
-        ensures seated { IsSeated (seen (λ p. (⟦<dyn Peer as Peer>⟧ p.peer.vtable).state p.peer.value) (entries self.new.pool)) self.new.core }
-        ensures same { SameRelations (relations (λ p. (⟦<dyn Peer as Peer>⟧ p.peer.vtable).moves p.peer.value) (entries self.old.pool)) (relations (λ p. (⟦<dyn Peer as Peer>⟧ p.peer.vtable).moves p.peer.value) (entries self.new.pool)) }
+            EventKeeps self.old.core.definition (world_at (P.seen self.old.pool) self.old.core.world) (event_of event) }
+        ensures same { SameRelations (P.relations self.old.pool) (P.relations self.new.pool) }
         // It only adds lines.
         ensures grows { IsPrefix self.old.core.world.transcript self.new.core.world.transcript }
     {
@@ -169,13 +165,11 @@ impl Session {
     /// As `dispatch`.
     pub fn begin(&mut self, event: Event) -> Result<Progress, SessionFault>
         requires read { EventRead self.now.core.definition (event_of event) }
-        requires seated { IsSeated (seen (λ p. (⟦<dyn Peer as Peer>⟧ p.peer.vtable).state p.peer.value) (entries self.now.pool)) self.now.core }
-        ensures begins { BeginsEvent (relations (λ p. (⟦<dyn Peer as Peer>⟧ p.peer.vtable).moves p.peer.value) (entries self.old.pool)) self.old.core.stopped result (seen (λ p. (⟦<dyn Peer as Peer>⟧ p.peer.vtable).state p.peer.value) (entries self.old.pool)) self.old.core (event_of event) self.new.core }
+        ensures begins { BeginsEvent (P.relations self.old.pool) self.old.core.stopped result (P.seen self.old.pool) self.old.core (event_of event) self.new.core }
         ensures keeps { self.old.core.stopped ≡ false → refusal self.old.core.world (event_of event) ≡ None →
-            EventKeeps self.old.core.definition (world_at (seen (λ p. (⟦<dyn Peer as Peer>⟧ p.peer.vtable).state p.peer.value) (entries self.old.pool)) self.old.core.world) (event_of event) }
+            EventKeeps self.old.core.definition (world_at (P.seen self.old.pool) self.old.core.world) (event_of event) }
         // So it is what `advance` asks for.
-        ensures in_course { IfUnderWay result (λ course. HasCourse (relations (λ p. (⟦<dyn Peer as Peer>⟧ p.peer.vtable).moves p.peer.value) (entries self.new.pool)) course (seen (λ p. (⟦<dyn Peer as Peer>⟧ p.peer.vtable).state p.peer.value) (entries self.new.pool)) self.new.core) }
-        ensures seated { IsSeated (seen (λ p. (⟦<dyn Peer as Peer>⟧ p.peer.vtable).state p.peer.value) (entries self.new.pool)) self.new.core }
+        ensures in_course { IfUnderWay result (λ course. HasCourse (P.relations self.new.pool) course (P.seen self.new.pool) self.new.core) }
         ensures pool { self.new.pool ≡ self.old.pool }
         // No step is counted yet. Where it has ended, as a turn of which no source is ready, it led to nothing.
         ensures none { IfUnderWay result (λ course. course.so_far.steps + self.new.core.counted ≡ 0) }
@@ -193,15 +187,14 @@ impl Session {
     /// `OutOfMemory` if no memory is found, which stops the session; the peer that was called last may have replied without a line that
     /// reports it.
     pub fn advance(&mut self, course: Course, most: u64) -> Result<Progress, SessionFault>
-        requires in_course { HasCourse (relations (λ p. (⟦<dyn Peer as Peer>⟧ p.peer.vtable).moves p.peer.value) (entries self.now.pool)) course (seen (λ p. (⟦<dyn Peer as Peer>⟧ p.peer.vtable).state p.peer.value) (entries self.now.pool)) self.now.core }
-        ensures comes { (event : config.Event) (w : World) (front : List (List ℕ)) → InCourse (relations (λ p. (⟦<dyn Peer as Peer>⟧ p.peer.vtable).moves p.peer.value) (entries self.old.pool)) self.old.core.definition event w front course (seen (λ p. (⟦<dyn Peer as Peer>⟧ p.peer.vtable).state p.peer.value) (entries self.old.pool)) self.old.core →
-            ComesOn result (relations (λ p. (⟦<dyn Peer as Peer>⟧ p.peer.vtable).moves p.peer.value) (entries self.old.pool)) self.old.core.definition event w front (seen (λ p. (⟦<dyn Peer as Peer>⟧ p.peer.vtable).state p.peer.value) (entries self.new.pool)) self.new.core }
+        requires in_course { HasCourse (P.relations self.now.pool) course (P.seen self.now.pool) self.now.core }
+        ensures comes { (event : config.Event) (w : World) (front : List (List ℕ)) → InCourse (P.relations self.old.pool) self.old.core.definition event w front course (P.seen self.old.pool) self.old.core →
+            ComesOn result (P.relations self.old.pool) self.old.core.definition event w front (P.seen self.new.pool) self.new.core }
         // So it is what `advance` asks for.
-        ensures in_course { IfUnderWay result (λ course. HasCourse (relations (λ p. (⟦<dyn Peer as Peer>⟧ p.peer.vtable).moves p.peer.value) (entries self.new.pool)) course (seen (λ p. (⟦<dyn Peer as Peer>⟧ p.peer.vtable).state p.peer.value) (entries self.new.pool)) self.new.core) }
-        ensures seated { IsSeated (seen (λ p. (⟦<dyn Peer as Peer>⟧ p.peer.vtable).state p.peer.value) (entries self.new.pool)) self.new.core }
+        ensures in_course { IfUnderWay result (λ course. HasCourse (P.relations self.new.pool) course (P.seen self.new.pool) self.new.core) }
         ensures made { IfUnderWay result (λ next. next.so_far.steps + self.new.core.counted ≡ course.so_far.steps + self.old.core.counted + most) }
         ensures most { IfEnded result (λ reply. reply.steps ≤ course.so_far.steps + self.old.core.counted + most) }
-        ensures same { SameRelations (relations (λ p. (⟦<dyn Peer as Peer>⟧ p.peer.vtable).moves p.peer.value) (entries self.old.pool)) (relations (λ p. (⟦<dyn Peer as Peer>⟧ p.peer.vtable).moves p.peer.value) (entries self.new.pool)) }
+        ensures same { SameRelations (P.relations self.old.pool) (P.relations self.new.pool) }
         ensures grows { IsPrefix self.old.core.world.transcript self.new.core.world.transcript }
     {
         self.core.advance(&mut self.pool, course, most)
@@ -227,7 +220,7 @@ impl Session {
         ensures lines { self.new.core ≡ without_lines self.old.core }
         ensures pool { self.new.pool ≡ self.old.pool }
         // An event that is under way can still be gone on with.
-        ensures in_course { (course : Course) → HasCourse (relations (λ p. (⟦<dyn Peer as Peer>⟧ p.peer.vtable).moves p.peer.value) (entries self.old.pool)) course (seen (λ p. (⟦<dyn Peer as Peer>⟧ p.peer.vtable).state p.peer.value) (entries self.old.pool)) self.old.core → HasCourse (relations (λ p. (⟦<dyn Peer as Peer>⟧ p.peer.vtable).moves p.peer.value) (entries self.new.pool)) course (seen (λ p. (⟦<dyn Peer as Peer>⟧ p.peer.vtable).state p.peer.value) (entries self.new.pool)) self.new.core }
+        ensures in_course { (course : Course) → HasCourse (P.relations self.old.pool) course (P.seen self.old.pool) self.old.core → HasCourse (P.relations self.new.pool) course (P.seen self.new.pool) self.new.core }
     {
         self.core.forget();
     }
@@ -241,10 +234,10 @@ impl Session {
     }
 
     /// Ends the session, also where it has stopped, closes each open peer that an object has got, and hands out the lines and the pool.
-    pub fn finish(self) -> Finished
+    pub fn finish(self) -> Finished<P>
         ensures lines { map string_bytes result.transcript.items ≡ self.core.world.transcript }
-        ensures closed { (seen (λ p. (⟦<dyn Peer as Peer>⟧ p.peer.vtable).state p.peer.value) (entries result.pool)) ≡ taken_closed self.core.world.peers (seen (λ p. (⟦<dyn Peer as Peer>⟧ p.peer.vtable).state p.peer.value) (entries self.pool)) }
-        ensures same { SameRelations (relations (λ p. (⟦<dyn Peer as Peer>⟧ p.peer.vtable).moves p.peer.value) (entries self.pool)) (relations (λ p. (⟦<dyn Peer as Peer>⟧ p.peer.vtable).moves p.peer.value) (entries result.pool)) }
+        ensures closed { (P.seen result.pool) ≡ taken_closed self.core.world.peers (P.seen self.pool) }
+        ensures same { SameRelations (P.relations self.pool) (P.relations result.pool) }
     {
         let Session { core, mut pool } = self;
         let engine = core.engine;

@@ -6,25 +6,26 @@ ghost use Rattle.ui_machine.specs.Runs.{first_world};
 ghost use Rattle.ui_machine.specs.State.Config.{said};
 ghost use Rattle.law_pools.specs.Needs.{mismatch};
 ghost use Rattle.native_peers.specs.Matching.{as_peers, mismatch_view};
-ghost use Rattle.native_peers.specs.Pool.{entries, seen};
 ghost use Rattle.ui_machine.specs.Rules.Build.{forward_items};
 ghost use Rattle.engine_world.specs.TaskView.{item_of};
 ghost use Rattle.engine_world.specs.View.{world_of};
 ghost use Rattle.engine_pools.specs.Dispatched.{IsAtRest};
 ghost use Rattle.ui_engine.specs.BuildBegins.{IsBegun};
 ghost use Rattle.ui_engine.specs.SessionView.{IsWhy};
+ghost use Rattle.ui_engine.specs.Widths.{HoldsRegisters};
 ghost use Rattle.verified.specs.Told.{IsDepth};
 
 use crate::faults::StartFault;
 use definitions::Definition;
 use engine_tasks::forward_references::forward_references;
 use engine_world::engine::Engine;
+use engine_world::object_peers::peer_numbers;
 use engine_world::reserves::Room;
 use engine_world::seats::Seats;
 use engine_world::task::ForwardReferences;
 use engine_world::weak_slots::weak_slots;
 use linked_programs::Links;
-use native_peers::{MatchFault, Peer, PeerPool};
+use native_peers::{MatchFault, Peers};
 use needed_peers::needs::needs;
 use needed_peers::seats::seats;
 use std::alloc::{AllocError, Global};
@@ -60,16 +61,19 @@ fn first_engine(
     let weak = weak_slots(alloc, definition)?;
     let links = Links::new(alloc, definition)?;
     let got_peers = vec![in alloc; 0; definition.place_count()]?;
+    let numbers = peer_numbers(alloc, definition, &seats)?;
     let limits = definition.limits();
-    let mut engine = Engine::new(alloc, weak, links, limits, seats, got_peers, room)?;
+    let mut engine = Engine::new(alloc, weak, links, limits, seats, got_peers, numbers, room)?;
     announce(&mut engine)?;
     Ok(engine)
 }
 
 // How many registers a program has at most.
-fn most_registers(definition: &Definition) -> usize {
+fn most_registers(definition: &Definition) -> usize
+    ensures { HoldsRegisters definition.now result }
+{
     let mut most = 0;
-    for number in 0..ProgramId::MAX {
+    'programs: for number in 0..ProgramId::MAX {
         let Some(program) = definition.program(number) else {
             return most;
         };
@@ -78,9 +82,12 @@ fn most_registers(definition: &Definition) -> usize {
     most
 }
 
-// The room for runs of so many frames. Between two of them is one task at most, and a step puts two tasks where one was.
+// The room for runs of so many frames, each of which is a program or an emission. Between two of them is one task at most, and a step puts
+// two tasks where one was.
 fn room_for(definition: &Definition, depth: u32) -> Room
-    ensures { result.tasks ≡ 2 * depth + 4 }
+    ensures tasks { result.tasks ≡ 2 * depth + 4 }
+    ensures frames { result.frames ≡ depth }
+    ensures width { HoldsRegisters definition.now result.width }
 {
     let frames = depth as usize;
     Room {
@@ -136,15 +143,15 @@ fn fault_of(alloc: Global, fault: MatchFault<'_>) -> Result<StartFault, AllocErr
 /// # Errors
 ///
 /// How the pool fails to match, and `OutOfMemory`.
-pub(crate) fn begin(
+pub(crate) fn begin<P: Peers>(
     alloc: Global,
     definition: &Definition,
     depth: u32,
-    pool: &PeerPool,
+    pool: &P,
 ) -> Result<Beginning, StartFault>
     requires depth { IsDepth definition.now depth }
-    ensures begun { IfOk result (IsBegun definition.now (seen (λ p. (⟦<dyn Peer as Peer>⟧ p.peer.vtable).state p.peer.value) (entries pool.now))) }
-    ensures why { IfErr result (λ fault. IsWhy fault (mismatch definition.now (as_peers (seen (λ p. (⟦<dyn Peer as Peer>⟧ p.peer.vtable).state p.peer.value) (entries pool.now))))) }
+    ensures begun { IfOk result (IsBegun definition.now (P.seen pool.now)) }
+    ensures why { IfErr result (λ fault. IsWhy fault (mismatch definition.now (as_peers (P.seen pool.now)))) }
 {
     let needs = needs(alloc, definition)?;
     if let Err(fault) = pool.matches(needs.as_slice()) {

@@ -11,10 +11,10 @@ use builder_defs::{ReadError, read_definition};
 use command_line::{Request, RunFiles, WordsFault, read_words};
 use definitions::Definition;
 pub use event_lines::{check, run};
-use event_lines::{Counted, Ending, FileFault, definition_bytes};
+use event_lines::{Counted, Ending, FileFault, definition_bytes, run_with};
 pub use host_peers::{Screen, Tally};
 use host_peers::{PoolProgram, run_with_stock};
-use native_peers::PeerPool;
+use native_peers::{Peers, StandIn};
 use std::alloc::{AllocError, Global};
 use std::env;
 use std::fs::File;
@@ -88,16 +88,17 @@ impl PoolProgram for EventsRun<'_> {
 
     ghost answers = { λ _ _. ⊤ };
 
-    fn run(self, mut pool: PeerPool) -> u8 {
+    fn run<P: Peers>(self, pool: P) -> u8 {
         let mut reader = device(self.events);
         let mut writer = device(self.rt.stdout());
-        run(
+        let over = run_with(
             self.rt.alloc(),
             self.definition,
-            &mut pool,
+            pool,
             &mut reader,
             &mut writer,
-        )
+        );
+        over.status
     }
 }
 
@@ -125,7 +126,10 @@ fn run_files(rt: &HostRuntime, files: RunFiles<'_>) -> u8 {
 fn run_with_peers(alloc: Global, bytes: &[u8], program: EventsRun<'_>) -> Result<u8, AllocError> {
     match definition_of(alloc, bytes)? {
         Some(definition) => run_with_stock(alloc, &definition, program),
-        None => Ok(program.run(PeerPool::new(alloc))),
+        None => {
+            let nobody: Option<StandIn> = None;
+            Ok(program.run(nobody))
+        }
     }
 }
 

@@ -1,22 +1,21 @@
-use Rattle.std.proofs.Common.{◌≡◌, ◌<◌, ◌+◌, List, [], drop, get_or, length, map, min, ap, subst, sym, ◌∙◌, arith}
+use Rattle.std.proofs.Common.{◌≡◌, ◌<◌, ◌+◌, [], drop, get_or, length, map, min, ap, sym, ◌∙◌, arith}
 use Rattle.std.proofs.lemmas.List.{nil_from_length, length-drop}
 use Rattle.ui_machine.specs.Rules.Build.{is_making, of_items, to_make}
 use Rattle.engine_world.specs.TaskView.{task_of}
-use Rattle.engine_world.specs.declared.task.Task.{Task}
 use Rattle.engine_instructions.proofs.Creating.{counted_more}
-use Rattle.engine_world.proofs.Signals.{reversed_count, tasks_left}
+use Rattle.engine_world.proofs.Signals.{tasks_left}
 use Rattle.engine_instructions.proofs.new_objects.objects_to_make.Goals as goal
 
 pub loop-task-preserved : goal.loop-task-preserved
 loop-task-preserved c =
     let hs = c.args.engine.now.world.handlers.handlers in
     let f = task_of c.args.definition.now hs in
-    let ts = c.args.engine.now.stack.tasks.items in
+    let ts = c.of_build-build.result.now in
     let i = c.loop-task.task-index in
     let x = c.task-item.result in
     let n = of_items is_making (f x) in
-    let within : i < length ts = subst (λ (ys : List Task). i < length ys) c.deref-task-items.ensures.value c.loop-task-test.true in
-    let is : x ≡ get_or ts i x = subst (λ (ys : List Task). x ≡ get_or ys i x) c.deref-task-items.ensures.value c.task-item.is in
+    let within : i < length ts = c.loop-task-test.true in
+    let is : x ≡ get_or ts i x = c.task-item.is in
     let rest = to_make (map f (drop (i + 1) ts)) in
     let count = c.loop-task.count in
     record {
@@ -30,8 +29,8 @@ pub returns : goal.returns
 returns c =
     let hs = c.args.engine.now.world.handlers.handlers in
     let f = task_of c.args.definition.now hs in
-    let ts = c.args.engine.now.stack.tasks.items in
+    let ts = c.of_build-build.result.now in
     let i = c.loop-task.task-index in
     let none : drop i ts ≡ [] = nil_from_length (drop i ts) (omega (arith, length-drop i ts, c.loop-task-test.false)) in
     let end : c.loop-task.count ≡ min (c.loop-task.count + to_make (map f (drop i ts))) 4294967295 = omega (arith, ap (λ l. to_make (map f l)) none, c.loop-task.invariant.fits) in
-    end ∙ c.loop-task.invariant.same ∙ ap (λ k. min k 4294967295) (sym (reversed_count is_making (map f ts)))
+    end ∙ c.loop-task.invariant.same ∙ ap (λ k. min k 4294967295) (c.of_build-build.ensures is_making c.args.definition.now hs)

@@ -8,6 +8,6 @@ invariant-loop-task l =
     record {
       fits : l.count ≤ 4294967295;
       same :
-          min (l.count + to_make (map (task_of l.definition l.engine.world.handlers.handlers) (drop l.task-index l.engine.stack.tasks.items))) 4294967295
-          ≡ min (to_make (map (task_of l.definition l.engine.world.handlers.handlers) l.engine.stack.tasks.items)) 4294967295;
+          min (l.count + to_make (map (task_of l.definition l.engine.world.handlers.handlers) (drop l.task-index l.build))) 4294967295
+          ≡ min (to_make (map (task_of l.definition l.engine.world.handlers.handlers) l.build)) 4294967295;
     }

@@ -8,7 +8,7 @@ use Rattle.signal_core.specs.Connected.{Connected, without_object}
 use Rattle.engine_world.specs.TaskView.{tasks_of}
 use Rattle.engine_world.specs.View.{world_of}
 use Rattle.engine_world.specs.declared.engine.Engine.{Engine}
-use Rattle.engine_world.specs.declared.task.Stack.{Stack}
+use Rattle.engine_world.specs.declared.stacks.Stack.{Stack}
 use Rattle.engine_world.specs.declared.world.World.{World}
 use Rattle.engine_instructions.proofs.Disposing.{keeps_disposed}
 use Rattle.engine_world.proofs.Finalising.{code_gone, closing_able, disposed_so, finalised_agenda}

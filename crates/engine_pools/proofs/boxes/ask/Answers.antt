@@ -1,11 +1,10 @@
-use Rattle.std.proofs.Common.{string_bytes}
-use Rattle.engine_pools.proofs.BoxByBox.{takes_args_by}
+use Rattle.engine_pools.proofs.PeerByPeer.{takes_args_by}
 use Rattle.engine_pools.proofs.boxes.ask.Goals as goal
 
 pub invoke-requires-clause-args : goal.invoke-requires-clause-args
 invoke-requires-clause-args g c =
     rw c.as_slice.ensures.value
-    (takes_args_by (λ p. record { name = string_bytes p.name; state = (g.dyn-1.0.entry p.peer.vtable).1.state p.peer.value }) c.args.pool.now.peers.items c.args.call.now.peer c.args.call.now.method _ c.requires.asked
+    (takes_args_by (g.P.Peers.seen c.args.pool.now) c.args.call.now.peer c.args.call.now.method _ c.requires.asked
     c.shape-shape.ensures.plain)
 
 pub returns-in-Ok-clause-asks : goal.returns-in-Ok-clause-asks

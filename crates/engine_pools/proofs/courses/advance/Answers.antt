@@ -1,7 +1,6 @@
 use Rattle.std.proofs.Common.{◌≡◌, ◌+◌, ℕ, Option, refl, sym, ap, subst, Ok, Err, arith, ◌∙◌, vec_capacity}
 use Rattle.std.proofs.lemmas.Result.{err_from_is_err_and}
 use Rattle.ui_machine.proofs.Prefixes.{prefix_on, prefix_same}
-use Rattle.native_peers.specs.Pool.{entries, seen}
 use Rattle.engine_world.specs.EngineView.{config_of}
 use Rattle.engine_world.specs.View.{world_of}
 use Rattle.engine_world.specs.declared.engine.Engine.{Engine}
@@ -125,7 +124,7 @@ returns-in-Ended-clause-resting g c =
     let later = under_way_on d _ r.event r.from r.front c.dispatches.course _ now _ (follows_before d c.dispatches.invariant.same ran.0) (c.in_ok-rest.ensures.few now.counted) in
     let still = if_ended c.in-Ended.is c.begin_next.ensures.still in
     let rests = ended_rests d _ r.event r.from r.front c.dispatches.course _ later ran.1 c.in_ok-one.one c.end_dispatch.new.engine c.in_ok-one.ensures.says c.after.result c.after.ensures c.requires.well in
-    subst (λ (e : Engine). Rests d (world_at (seen (λ p. (g.dyn-1.0.entry p.peer.vtable).1.state p.peer.value) (entries c.run_for.new.pool)) (world_of e.world))) (sym still) rests
+    subst (λ (e : Engine). Rests d (world_at (g.P.Peers.seen c.run_for.new.pool) (world_of e.world))) (sym still) rests
 
 pub returns-in-Ended-clause-proceeds : goal.returns-in-Ended-clause-proceeds
 returns-in-Ended-clause-proceeds g c event w front u =

@@ -2,7 +2,6 @@ use Rattle.std.proofs.Common.{◌≡◌, ◌+◌, ℕ, List, length}
 use Rattle.ui_machine.specs.Prefix.{IsPrefix}
 use Rattle.ui_machine.specs.State.Config.{World}
 use Rattle.ui_machine.specs.State.Tasks.{Event}
-use Rattle.native_peers.specs.Pool.{entries, relations, seen}
 use Rattle.native_peers.specs.Seen.{SameRelations}
 use Rattle.engine_world.specs.Counting.{Counts, nothing}
 use Rattle.engine_world.specs.Room.{SameRoom}
@@ -13,13 +12,13 @@ use Rattle.engine_pools.proofs.courses.advance.Given as goal
 
 abbrev pub invariant-dispatches : goal.invariant-dispatches
 invariant-dispatches g l =
-    let old = seen (λ p. (g.dyn-1.0.entry p.peer.vtable).1.state p.peer.value) (entries l.fn.pool) in
-    let now = seen (λ p. (g.dyn-1.0.entry p.peer.vtable).1.state p.peer.value) (entries l.pool) in
-    let may = relations (λ p. (g.dyn-1.0.entry p.peer.vtable).1.moves p.peer.value) (entries l.fn.pool) in
+    let old = g.P.Peers.seen l.fn.pool in
+    let now = g.P.Peers.seen l.pool in
+    let may = g.P.Peers.relations l.fn.pool in
     record {
       so : (event : Event) (w : World) (front : List (List ℕ)) → IsUnderWay l.definition may event w front l.fn.course (point_of l.definition old l.fn.engine)
           → IsUnderWay l.definition may event w front l.course (point_of l.definition now l.engine);
-      same : SameRelations may (relations (λ p. (g.dyn-1.0.entry p.peer.vtable).1.moves p.peer.value) (entries l.pool));
+      same : SameRelations may (g.P.Peers.relations l.pool);
       counts : Counts l.definition nothing l.engine;
       room : SameRoom l.fn.engine l.engine;
       grows : IsPrefix (world_of l.fn.engine.world).transcript (world_of l.engine.world).transcript;

@@ -1,7 +1,6 @@
 use Rattle.std.proofs.Common.{◌≡◌, ◌≤◌, ◌+◌, vec_capacity}
 use Rattle.ui_machine.specs.Steps.{most_steps}
 use Rattle.ui_machine.specs.Prefix.{IsPrefix}
-use Rattle.native_peers.specs.Pool.{entries, relations, seen}
 use Rattle.native_peers.specs.Seen.{SameRelations}
 use Rattle.engine_world.specs.Counting.{Counts, nothing}
 use Rattle.engine_world.specs.Room.{SameRoom}
@@ -13,14 +12,14 @@ use Rattle.engine_pools.proofs.runs.run_for.Given as goal
 
 abbrev pub invariant-steps : goal.invariant-steps
 invariant-steps g l =
-    let old = seen (λ p. (g.dyn-1.0.entry p.peer.vtable).1.state p.peer.value) (entries l.fn.pool) in
-    let now = seen (λ p. (g.dyn-1.0.entry p.peer.vtable).1.state p.peer.value) (entries l.pool) in
-    let may = relations (λ p. (g.dyn-1.0.entry p.peer.vtable).1.moves p.peer.value) (entries l.fn.pool) in
+    let old = g.P.Peers.seen l.fn.pool in
+    let now = g.P.Peers.seen l.pool in
+    let may = g.P.Peers.relations l.fn.pool in
     record {
       follows : Follows l.definition may (point_of l.definition old l.fn.engine) (point_of l.definition now l.engine);
       room : SameRoom l.fn.engine l.engine;
       safe : ComesOfSafe l.definition (vec_capacity l.engine.stack.tasks) (point_of l.definition now l.engine);
-      same : SameRelations may (relations (λ p. (g.dyn-1.0.entry p.peer.vtable).1.moves p.peer.value) (entries l.pool));
+      same : SameRelations may (g.P.Peers.relations l.pool);
       counts : Counts l.definition nothing l.engine;
       grows : IsPrefix (world_of l.fn.engine.world).transcript (world_of l.engine.world).transcript;
       made : l.engine.counted + l.left ≡ l.fn.engine.counted + l.fn.most;

@@ -63,6 +63,7 @@ own_peer-peer-requires c =
       able = none_stops (own_peer d w c.args.place.0) (λ arm none.
           no_arm (uncounted rest n (building d w (build_from d c.args.place.0 c.args.forwards))) arm c.requires.able
           (builds_stuck d c.types-types.ensures.basic w c.args.place.0 there.0 there.1 there.2 c.args.forwards rest n arm none));
+      numbered = c.requires.counted.counts.passes.numbered;
     }
 
 pub make_from_build-requires : goal.make_from_build-requires

@@ -10,7 +10,7 @@ use Rattle.instance_tables.specs.Weak.{Knows}
 use Rattle.engine_world.specs.ClosingView.{closed_with, or_number}
 use Rattle.engine_world.specs.Counting.{KeepsCounts, PassesGot}
 use Rattle.engine_world.specs.declared.engine.Engine.{Engine}
-use Rattle.engine_world.specs.declared.task.Stack.{Stack}
+use Rattle.engine_world.specs.declared.stacks.Stack.{Stack}
 use Rattle.engine_world.specs.declared.world.World.{World}
 use Rattle.engine_world.specs.View.{world_of}
 use Rattle.engine_world.specs.TaskView.{tasks_of, agenda_of}

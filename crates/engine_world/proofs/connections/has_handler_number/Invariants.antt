@@ -6,5 +6,5 @@ use Rattle.engine_world.proofs.connections.has_handler_number.Given as goal
 
 abbrev pub invariant-loop-task : goal.invariant-loop-task
 invariant-loop-task l =
-    (more : ℕ) → nat_lt (l.taken + to_connect (map (task_of l.definition l.engine.world.handlers.handlers) (drop l.task-index l.engine.stack.tasks.items)) + more) greatest_handler
-    ≡ nat_lt (l.engine.world.handlers.last + to_connect (map (task_of l.definition l.engine.world.handlers.handlers) l.engine.stack.tasks.items) + more) greatest_handler
+    (more : ℕ) → nat_lt (l.taken + to_connect (map (task_of l.definition l.engine.world.handlers.handlers) (drop l.task-index l.build)) + more) greatest_handler
+    ≡ nat_lt (l.engine.world.handlers.last + to_connect (map (task_of l.definition l.engine.world.handlers.handlers) l.build) + more) greatest_handler

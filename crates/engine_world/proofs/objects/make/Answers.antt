@@ -1,4 +1,5 @@
-use Rattle.std.proofs.Common.{◌≡◌, ℕ, suc, false, Some, List, [], ◌∷◌, slice_get, length, string_bytes, refl, sym, ap, arith, ◌∙◌}
+use Rattle.std.proofs.Common.{◌≡◌, ℕ, suc, false, Option, Some, List, [], ◌∷◌, Vec, Global, slice_get, length, string_bytes, refl, sym, ap, subst, arith, ◌∙◌}
+use Rattle.std.specs.Prelude.{IfSome}
 use Rattle.ui_machine.specs.Definition.Lookups.{type_of, specs_of}
 use Rattle.ui_machine.specs.Output.Lines as lines
 use Rattle.ui_machine.specs.Output.Text.{text_of_line}
@@ -16,6 +17,7 @@ use Rattle.engine_world.specs.View.{with_line, world_of}
 use Rattle.engine_world.proofs.Ableness.{no_arm}
 use Rattle.engine_world.proofs.Counts.{keeps_by, keeps_on, stays}
 use Rattle.engine_world.proofs.Building.{made_nowhere, made_there, makes_concrete, valid_defaults}
+use Rattle.engine_world.proofs.GotPeers.{numbers_kept}
 use Rattle.engine_world.proofs.objects.make.Goals as goal
 
 pub unreachable-requires : goal.unreachable-requires
@@ -51,6 +53,9 @@ returns-clause-counted c =
     let valid = valid_defaults d c.types-types.ensures.basic (world_of c.args.engine.now.world) c.args.place.0 place at in
     let e = c.args.engine.now in
     let b = record e { world = record e.world { got_peers = c.count_got.new.got } } in
-    keeps_on d e b _ (keeps_by d e b refl refl (c.count_got.ensures.got d place at refl) refl (stays d e b refl refl) (λ taken _ h. h))
+    keeps_on d e b _ (keeps_by d e b refl refl (λ passes. record {
+      got = c.count_got.ensures.got d place at (numbers_kept d e.world.seats e.world.peer_numbers.items c.args.place.0 place c.numbers_at.result.now at (subst (λ (l : List (Vec (Option ℕ) Global)). IfSome (slice_get l c.args.place.0) (λ ns. c.numbers_at.result.now ≡ ns.items)) c.deref.ensures.value c.numbers_at.ensures) passes.numbered) passes.got;
+      numbered = passes.numbered;
+    }) refl (stays d e b refl refl) (λ taken _ h. h))
     (c.in_ok-object.ensures.counted
     (λ o. omega (arith, ap (in_values o (specs_of d class)) c.in_ok-values.ensures, made_holds d c.args.place.0 place c.args.peer o valid)))

@@ -1,5 +1,4 @@
 use Rattle.std.proofs.Common.{◌≡◌, arith, [], ◌∷◌, ◌++◌, ◌∙◌, ap, refl, sym, length, append-nil, inl, inr}
-use Rattle.native_peers.specs.Pool.{entries, relations, seen}
 use Rattle.engine_pools.proofs.Points.{same_here, same_on}
 use Rattle.ui_engine.specs.SessionView.{state_at, without_lines}
 use Rattle.event_lines.specs.Events.{event_replies}
@@ -13,8 +12,8 @@ use Rattle.event_lines.proofs.event_file.handle_lines.Goals as goal
 
 pub loop-next-init : goal.loop-next-init
 loop-next-init g c =
-    let may = (relations (λ p. (g.dyn-1.0.entry p.peer.vtable).1.moves p.peer.value) (entries c.args.session.now.pool)) in
-    let old = state_at (seen (λ p. (g.dyn-1.0.entry p.peer.vtable).1.state p.peer.value) (entries c.args.session.now.pool)) c.args.session.now.core in
+    let may = (g.P.Peers.relations c.args.session.now.pool) in
+    let old = state_at (g.P.Peers.seen c.args.session.now.pool) c.args.session.now.core in
     record {
       came = (
         [],
@@ -22,7 +21,6 @@ loop-next-init g c =
         came_start (event_replies may) without_lines old c.args.gather.now _ (g.R.Reader.left c.args.reader.now) (g.R.Reader.reads c.args.reader.now) (g.W.Writer.sent c.args.writer.now) refl,
         rw c.new.ensures (at_start (g.R.Reader.left c.args.reader.now)),
       );
-      seated = c.requires.seated;
       same = same_here may;
       reader_works = c.requires.reader;
       writer_works = c.requires.writer;
@@ -32,7 +30,7 @@ loop-next-init g c =
 
 pub returns-in_default-clause-file_run : goal.returns-in_default-clause-file_run
 returns-in_default-clause-file_run g c =
-    let may = (relations (λ p. (g.dyn-1.0.entry p.peer.vtable).1.moves p.peer.value) (entries c.args.session.now.pool)) in
+    let may = (g.P.Peers.relations c.args.session.now.pool) in
     let came = c.loop-next.invariant.came in
     let begun = c.in_default.ensures.begun in
     let waits = c.next_line.ensures.waits in
@@ -47,7 +45,7 @@ returns-in_default-clause-file_run g c =
 
 pub returns-in_default-next-clause-file_run : goal.returns-in_default-next-clause-file_run
 returns-in_default-next-clause-file_run g c =
-    let may = (relations (λ p. (g.dyn-1.0.entry p.peer.vtable).1.moves p.peer.value) (entries c.args.session.now.pool)) in
+    let may = (g.P.Peers.relations c.args.session.now.pool) in
     let came = c.loop-next.invariant.came in
     let reads = rw c.in_default-next.is at c.in-Ok.ensures.reads in
     let near = near_ahead _ _ came.0 c.next_line.new.self.chunk
@@ -60,11 +58,11 @@ returns-in_default-next-clause-file_run g c =
 
 pub returns-in_default-tell-clause-file_run : goal.returns-in_default-tell-clause-file_run
 returns-in_default-tell-clause-file_run g c =
-    let may = (relations (λ p. (g.dyn-1.0.entry p.peer.vtable).1.moves p.peer.value) (entries c.args.session.now.pool)) in
+    let may = (g.P.Peers.relations c.args.session.now.pool) in
     let came = c.loop-next.invariant.came in
     let reads = rw c.in-Some.is at c.in-Ok.ensures.reads in
     let t = rw c.as_slice-line.ensures.value at c.in_default-tell.ensures.tells in
-    let now = state_at (seen (λ p. (g.dyn-1.0.entry p.peer.vtable).1.state p.peer.value) (entries c.loop-next.session.pool)) c.loop-next.session.core in
+    let now = state_at (g.P.Peers.seen c.loop-next.session.pool) c.loop-next.session.core in
     let comes = line_before c.loop-next.invariant.same now t.mid c.loop-next.number reads.line t.outcome (t.comes reads.line reads.is) in
     let near = near_ahead _ _ came.0 c.next_line.new.self.chunk
     (known_further _ _ _ _ _ (λ xs zs. IsNear came.0 0 xs zs) came.3 reads.first (λ xs ys zs h f. near_first came.0 c.in-Some.found reads.line xs ys zs h f)) c.next_line.ensures.small in
@@ -76,11 +74,11 @@ returns-in_default-tell-clause-file_run g c =
 
 pub returns-then-ends-clause-file_run : goal.returns-then-ends-clause-file_run
 returns-then-ends-clause-file_run g c =
-    let may = (relations (λ p. (g.dyn-1.0.entry p.peer.vtable).1.moves p.peer.value) (entries c.args.session.now.pool)) in
+    let may = (g.P.Peers.relations c.args.session.now.pool) in
     let came = c.loop-next.invariant.came in
     let reads = rw c.in-Some.is at c.in-Ok.ensures.reads in
     let t = rw c.as_slice-line.ensures.value at c.in-Ok-tell.ensures.tells in
-    let now = state_at (seen (λ p. (g.dyn-1.0.entry p.peer.vtable).1.state p.peer.value) (entries c.loop-next.session.pool)) c.loop-next.session.core in
+    let now = state_at (g.P.Peers.seen c.loop-next.session.pool) c.loop-next.session.core in
     let comes = line_before c.loop-next.invariant.same now t.mid c.loop-next.number reads.line t.outcome (t.comes reads.line reads.is) in
     let near = near_ahead _ _ came.0 c.next_line.new.self.chunk
     (known_further _ _ _ _ _ (λ xs zs. IsNear came.0 0 xs zs) came.3 reads.first (λ xs ys zs h f. near_first came.0 c.in-Some.found reads.line xs ys zs h f)) c.next_line.ensures.small in
@@ -103,11 +101,11 @@ returns-then-ends-clause-same g c = same_on c.loop-next.invariant.same c.tell.en
 
 pub loop-next-preserved : goal.loop-next-preserved
 loop-next-preserved g c =
-    let may = (relations (λ p. (g.dyn-1.0.entry p.peer.vtable).1.moves p.peer.value) (entries c.args.session.now.pool)) in
+    let may = (g.P.Peers.relations c.args.session.now.pool) in
     let came = c.loop-next.invariant.came in
     let reads = rw c.in-Some.is at c.in-Ok.ensures.reads in
     let t = rw c.as_slice-line.ensures.value at c.in-Ok-tell.ensures.tells in
-    let now = state_at (seen (λ p. (g.dyn-1.0.entry p.peer.vtable).1.state p.peer.value) (entries c.loop-next.session.pool)) c.loop-next.session.core in
+    let now = state_at (g.P.Peers.seen c.loop-next.session.pool) c.loop-next.session.core in
     let comes = line_before c.loop-next.invariant.same now t.mid c.loop-next.number reads.line t.outcome (t.comes reads.line reads.is) in
     let near = near_ahead _ _ came.0 c.next_line.new.self.chunk
     (known_further _ _ _ _ _ (λ xs zs. IsNear came.0 0 xs zs) came.3 reads.first (λ xs ys zs h f. near_first came.0 c.in-Some.found reads.line xs ys zs h f)) c.next_line.ensures.small in
@@ -124,7 +122,6 @@ loop-next-preserved g c =
         rw (t.forgets, status, goes) told,
         known_further _ _ _ _ _ (λ xs zs. IsAt (came.0 ++ reads.line ∷ []) xs zs) came.3 reads.first (λ xs ys zs h f. at_next came.0 c.in-Some.found reads.line xs ys zs h f whole.1),
       );
-      seated = c.tell.ensures.seated;
       same = same_on c.loop-next.invariant.same c.tell.ensures.same;
       reader_works = c.in-Ok.ensures.marks.0;
       writer_works = c.in-Ok-tell.ensures.marks;

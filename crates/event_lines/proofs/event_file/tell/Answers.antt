@@ -3,7 +3,6 @@ use Rattle.std.proofs.lemmas.List.{length-map}
 use Rattle.std.proofs.lemmas.Result.{err_from_is_err_and}
 use Rattle.std.specs.Prelude.{string_bytes}
 use Rattle.ui_machine.specs.Definition.{Definition}
-use Rattle.native_peers.specs.Pool.{entries, relations, seen}
 use Rattle.engine_pools.specs.PoolView.{world_at}
 use Rattle.engine_pools.proofs.Points.{same_here}
 use Rattle.ui_engine.specs.SessionView.{ComesOn, state_at}
@@ -15,9 +14,9 @@ use Rattle.event_lines.proofs.event_file.tell.Goals as goal
 
 pub returns-in-Begun-clause-tells : goal.returns-in-Begun-clause-tells
 returns-in-Begun-clause-tells g c =
-    let may = relations (λ p. (g.dyn-1.0.entry p.peer.vtable).1.moves p.peer.value) (entries c.args.session.now.pool) in
-    let pool = seen (λ p. (g.dyn-1.0.entry p.peer.vtable).1.state p.peer.value) (entries c.args.session.now.pool) in
-    let left = seen (λ p. (g.dyn-1.0.entry p.peer.vtable).1.state p.peer.value) (entries c.follow.new.session.pool) in
+    let may = g.P.Peers.relations c.args.session.now.pool in
+    let pool = g.P.Peers.seen c.args.session.now.pool in
+    let left = g.P.Peers.seen c.follow.new.session.pool in
     let old = c.args.session.now.core in
     let new = c.start_line.new.session.core in
     let begun = c.in-Begun.ensures.begun in
@@ -36,7 +35,7 @@ returns-in-Begun-clause-same g c = rw c.start_line.ensures.pool at c.follow.ensu
 pub returns-in_err-put-in-Over-clause-tells : goal.returns-in_err-put-in-Over-clause-tells
 returns-in_err-put-in-Over-clause-tells g c =
     let p = err_from_is_err_and c.from_residual.result c.from_residual.ensures.1 in
-    let pool = seen (λ p. (g.dyn-1.0.entry p.peer.vtable).1.state p.peer.value) (entries c.args.session.now.pool) in
+    let pool = g.P.Peers.seen c.args.session.now.pool in
     let puts = rw (said_since string_bytes c.transcript-known.result.now c.transcript.result.now _ _ c.transcript-known.ensures c.transcript.ensures) at c.in_err-put-in-Over.ensures.puts in
     rw p.1 (record {
       outcome = outcome_with c.in-Over.outcome (since c.args.session.now.core c.start_line.new.session.core);
@@ -52,7 +51,7 @@ returns-in_err-put-in-Over-clause-same g c = rw (c.forget.ensures.pool, c.start_
 
 pub returns-in_ok-put-in-Over-clause-tells : goal.returns-in_ok-put-in-Over-clause-tells
 returns-in_ok-put-in-Over-clause-tells g c =
-    let pool = seen (λ p. (g.dyn-1.0.entry p.peer.vtable).1.state p.peer.value) (entries c.args.session.now.pool) in
+    let pool = g.P.Peers.seen c.args.session.now.pool in
     let puts = rw (said_since string_bytes c.transcript-known.result.now c.transcript.result.now _ _ c.transcript-known.ensures c.transcript.ensures) at c.in_ok-put-in-Over.ensures.puts in
     record {
       outcome = outcome_with c.in-Over.outcome (since c.args.session.now.core c.start_line.new.session.core);

@@ -1,5 +1,4 @@
 use Rattle.std.proofs.Common.{◌≡◌, Err, rules, subst, sym}
-use Rattle.native_peers.specs.Pool.{entries, relations, seen}
 use Rattle.ui_engine.specs.SessionView.{state_at}
 use Rattle.event_lines.specs.EventFileRun.{refused, stopped}
 use Rattle.event_lines.specs.Events.{event_replies}
@@ -19,8 +18,8 @@ returns-in-Ok-clause-starts g c line is =
 pub returns-in-Err-Refused-clause-starts : goal.returns-in-Err-Refused-clause-starts
 returns-in-Err-Refused-clause-starts g c line is =
     let whole : ◌≡◌ {A = Found} c.args.found founds.Whole = search rules in
-    let may = relations (λ p. (g.dyn-1.0.entry p.peer.vtable).1.moves p.peer.value) (entries c.args.session.now.pool) in
-    let pool = seen (λ p. (g.dyn-1.0.entry p.peer.vtable).1.state p.peer.value) (entries c.args.session.now.pool) in
+    let may = g.P.Peers.relations c.args.session.now.pool in
+    let pool = g.P.Peers.seen c.args.session.now.pool in
     let old = c.args.session.now.core in
     let new = c.begin.new.session.core in
     let replies = subst (λ (f : LineFault). event_replies may (state_at pool old) c.args.buffer.now (outcome_of {T = Unit {0}} (Err f) (since old new)) (state_at pool new)) c.in-Err-Refused.field-0-is c.in-Err-Refused.ensures.begins in
@@ -29,8 +28,8 @@ returns-in-Err-Refused-clause-starts g c line is =
 pub returns-in-Err-Stopped-clause-starts : goal.returns-in-Err-Stopped-clause-starts
 returns-in-Err-Stopped-clause-starts g c line is =
     let whole : ◌≡◌ {A = Found} c.args.found founds.Whole = search rules in
-    let may = relations (λ p. (g.dyn-1.0.entry p.peer.vtable).1.moves p.peer.value) (entries c.args.session.now.pool) in
-    let pool = seen (λ p. (g.dyn-1.0.entry p.peer.vtable).1.state p.peer.value) (entries c.args.session.now.pool) in
+    let may = g.P.Peers.relations c.args.session.now.pool in
+    let pool = g.P.Peers.seen c.args.session.now.pool in
     let old = c.args.session.now.core in
     let new = c.begin.new.session.core in
     let replies = subst (λ (f : LineFault). event_replies may (state_at pool old) c.args.buffer.now (outcome_of {T = Unit {0}} (Err f) (since old new)) (state_at pool new)) c.in-Err-Stopped.field-0-is c.in-Err-Stopped.ensures.begins in

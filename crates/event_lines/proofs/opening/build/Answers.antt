@@ -1,7 +1,6 @@
 use Rattle.std.proofs.Common.{Result, subst}
 use Rattle.law_pools.proofs.PoolProofs.{matched_is_ready}
 use Rattle.native_peers.specs.Matching.{as_peers}
-use Rattle.native_peers.specs.Pool.{entries, relations, seen}
 use Rattle.engine_pools.proofs.Points.{same_here}
 use Rattle.engine_pools.specs.declared.dispatches.Reply.{Reply}
 use Rattle.ui_engine.specs.declared.faults.SessionFault.{SessionFault}
@@ -13,7 +12,7 @@ use Rattle.event_lines.proofs.opening.build.Goals as goal
 pub returns-in-Ok-build-clause-opened : goal.returns-in-Ok-build-clause-opened
 returns-in-Ok-build-clause-opened g c bytes denotes =
     let d = c.args.verified in
-    let pool = (seen (λ p. (g.dyn-1.0.entry p.peer.vtable).1.state p.peer.value) (entries c.args.pool)) in
+    let pool = (g.P.Peers.seen c.args.pool) in
     let peers = as_peers pool in
     let taken : IsTaken bytes d peers = record {
       denoted = denotes;
@@ -23,20 +22,20 @@ returns-in-Ok-build-clause-opened g c bytes denotes =
       ready = matched_is_ready d peers c.in-Ok.ensures.matches (all_free pool);
     } in
     let session = c.in-Ok.started.session in
-    opens_built (λ p. (g.dyn-1.0.entry p.peer.vtable).1.state p.peer.value) (relations (λ p. (g.dyn-1.0.entry p.peer.vtable).1.moves p.peer.value) (entries c.args.pool)) peers c.args.pool bytes d denotes c.requires.judged session taken c.in-Ok-build.field-0 c.in-Ok.ensures.seated
-    (subst (λ (b : Result Reply SessionFault). Comes b (building (relations (λ p. (g.dyn-1.0.entry p.peer.vtable).1.moves p.peer.value) (entries c.args.pool)) d peers) d (state_at (seen (λ p. (g.dyn-1.0.entry p.peer.vtable).1.state p.peer.value) (entries session.pool)) session.core)) c.in-Ok-build.is c.in-Ok.ensures.built)
+    opens_built g.P.Peers.seen (g.P.Peers.relations c.args.pool) peers c.args.pool bytes d denotes c.requires.judged session taken c.in-Ok-build.field-0
+    (subst (λ (b : Result Reply SessionFault). Comes b (building (g.P.Peers.relations c.args.pool) d peers) d (state_at (g.P.Peers.seen session.pool) session.core)) c.in-Ok-build.is c.in-Ok.ensures.built)
 
 pub returns-in-Err-clause-opened : goal.returns-in-Err-clause-opened
 returns-in-Err-clause-opened g c bytes denotes =
     (rw c.in-Err.ensures.refused.1 at c.unstarted.ensures.opened) bytes c.args.verified denotes c.requires.judged c.in-Err.ensures.refused.2
 
 pub returns-in-Err-clause-same : goal.returns-in-Err-clause-same
-returns-in-Err-clause-same g c = rw (c.unstarted.ensures.same, c.in-Err.ensures.refused.1) (same_here (relations (λ p. (g.dyn-1.0.entry p.peer.vtable).1.moves p.peer.value) (entries c.args.pool)))
+returns-in-Err-clause-same g c = rw (c.unstarted.ensures.same, c.in-Err.ensures.refused.1) (same_here (g.P.Peers.relations c.args.pool))
 
 pub returns-in-Err-build-clause-opened : goal.returns-in-Err-build-clause-opened
 returns-in-Err-build-clause-opened g c bytes denotes =
     let d = c.args.verified in
-    let pool = (seen (λ p. (g.dyn-1.0.entry p.peer.vtable).1.state p.peer.value) (entries c.args.pool)) in
+    let pool = (g.P.Peers.seen c.args.pool) in
     let peers = as_peers pool in
     let taken : IsTaken bytes d peers = record {
       denoted = denotes;
@@ -46,5 +45,5 @@ returns-in-Err-build-clause-opened g c bytes denotes =
       ready = matched_is_ready d peers c.in-Ok.ensures.matches (all_free pool);
     } in
     let session = c.in-Ok.started.session in
-    opens_stopped (λ p. (g.dyn-1.0.entry p.peer.vtable).1.state p.peer.value) (relations (λ p. (g.dyn-1.0.entry p.peer.vtable).1.moves p.peer.value) (entries c.args.pool)) peers c.args.pool bytes d denotes c.requires.judged session taken c.in-Err-build.field-0 c.in-Ok.ensures.seated
-    (subst (λ (b : Result Reply SessionFault). Comes b (building (relations (λ p. (g.dyn-1.0.entry p.peer.vtable).1.moves p.peer.value) (entries c.args.pool)) d peers) d (state_at (seen (λ p. (g.dyn-1.0.entry p.peer.vtable).1.state p.peer.value) (entries session.pool)) session.core)) c.in-Err-build.is c.in-Ok.ensures.built)
+    opens_stopped g.P.Peers.seen (g.P.Peers.relations c.args.pool) peers c.args.pool bytes d denotes c.requires.judged session taken c.in-Err-build.field-0
+    (subst (λ (b : Result Reply SessionFault). Comes b (building (g.P.Peers.relations c.args.pool) d peers) d (state_at (g.P.Peers.seen session.pool) session.core)) c.in-Err-build.is c.in-Ok.ensures.built)

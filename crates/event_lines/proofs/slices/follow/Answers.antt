@@ -13,7 +13,6 @@ slices-init g c = record {
   so = λ event w comes. far_begins _ _ event w _ _ _ c.args.begun c.args.known _ c.args.session.now.core refl comes;
   known = c.requires.known;
   works = c.requires.works;
-  seated = c.requires.seated;
   same = same_here _;
 }
 
@@ -73,7 +72,6 @@ slices-preserved g c = record {
       far_on _ _ event w _ _ _ c.put_new-put.result _ _ _ c.put_new-put.new.session.core empty (progress.UnderWay c.in-UnderWay.course) c.in-Ok.next _ c.advance.new.self.core far on;
   known = omega arith;
   works = c.put_new-put.ensures.marks;
-  seated = c.in-Ok.ensures.seated;
   same = same_on c.slices.invariant.same (rw c.put_new-put.ensures.pool at c.in-Ok.ensures.same);
 }
 

@@ -1,12 +1,12 @@
-use Rattle.std.proofs.Common.{◌≤◌, ◌<◌, length, string_bytes, arith}
+use Rattle.std.proofs.Common.{◌≤◌, ◌<◌, length, arith}
 use Rattle.engine_pools.proofs.Points.{same_on}
 use Rattle.ui_engine.proofs.TakenProofs.{inside_still, taken_end, taken_on}
 use Rattle.ui_engine.proofs.endings.close_taken.Goals as goal
 
 pub close_if_taken-requires : goal.close_if_taken-requires
 close_if_taken-requires g c = record {
-  inside = inside_still (λ p. record { name = string_bytes p.name; state = (g.dyn-1.0.entry p.peer.vtable).1.state p.peer.value }) c.peers.pool.peers.items c.args.pool.now.peers.items _ c.peers.number c.peers.invariant.closed
-      (let few : c.peers.number < length c.args.pool.now.peers.items = omega (arith, c.peers-test.true, c.left-number-end.ensures) in few);
+  inside = inside_still (g.P.Peers.seen c.peers.pool) (g.P.Peers.seen c.args.pool.now) _ c.peers.number c.peers.invariant.closed
+      (let few : c.peers.number < length (g.P.Peers.seen c.args.pool.now) = omega (arith, c.peers-test.true, c.left-number-end.ensures.count) in few);
 }
 
 pub peers-preserved : goal.peers-preserved
@@ -17,5 +17,5 @@ peers-preserved g c = record {
 
 pub returns-clause-closed : goal.returns-clause-closed
 returns-clause-closed g c =
-    let all : length c.args.pool.now.peers.items ≤ c.peers.number = omega (arith, c.peers-test.false, c.left-number-end.ensures) in
-    taken_end (λ p. record { name = string_bytes p.name; state = (g.dyn-1.0.entry p.peer.vtable).1.state p.peer.value }) c.peers.pool.peers.items c.args.pool.now.peers.items c.args.seats.now c.peers.number c.peers.invariant.closed all
+    let all : length (g.P.Peers.seen c.args.pool.now) ≤ c.peers.number = omega (arith, c.peers-test.false, c.left-number-end.ensures.count) in
+    taken_end (g.P.Peers.seen c.peers.pool) (g.P.Peers.seen c.args.pool.now) c.args.seats.now c.peers.number c.peers.invariant.closed all

@@ -5,7 +5,6 @@ use Rattle.ui_machine.specs.Runs.{beginning, of_build}
 use Rattle.ui_machine.specs.State.Config.{Config}
 use Rattle.ui_machine.specs.State.Tasks.{Building}
 use Rattle.native_peers.specs.Matching.{as_peers}
-use Rattle.native_peers.specs.Pool.{entries, relations, seen}
 use Rattle.engine_world.specs.View.{world_of}
 use Rattle.engine_world.specs.TaskView.{build_from}
 use Rattle.engine_pools.specs.Dispatched.{IsAtRest}
@@ -21,7 +20,7 @@ use Rattle.ui_engine.proofs.session.build.Goals as goal
 
 pub dispatch-requires-clause-safe : goal.dispatch-requires-clause-safe
 dispatch-requires-clause-safe g c =
-    let pool = seen (λ p. (g.dyn-1.0.entry p.peer.vtable).1.state p.peer.value) (entries c.args.pool) in
+    let pool = g.P.Peers.seen c.args.pool in
     let same = c.definition-definition.ensures.same in
     let d = c.args.verified in
     let e = c.definition-definition.result.now in
@@ -34,9 +33,9 @@ dispatch-requires-clause-safe g c =
 
 pub invariant_of-result : goal.invariant_of-result
 invariant_of-result g c =
-    let pool = seen (λ p. (g.dyn-1.0.entry p.peer.vtable).1.state p.peer.value) (entries c.args.pool) in
-    let may = relations (λ p. (g.dyn-1.0.entry p.peer.vtable).1.moves p.peer.value) (entries c.args.pool) in
-    let left = seen (λ p. (g.dyn-1.0.entry p.peer.vtable).1.state p.peer.value) (entries c.dispatch.new.pool) in
+    let pool = g.P.Peers.seen c.args.pool in
+    let may = g.P.Peers.relations c.args.pool in
+    let left = g.P.Peers.seen c.dispatch.new.pool in
     let same = c.definition-definition.ensures.same in
     let d = c.args.verified in
     let w = world_at pool (world_of c.args.beginning.engine.world) in
@@ -51,9 +50,9 @@ invariant_of-result g c =
 
 pub returns-in-Ok-clause-built : goal.returns-in-Ok-clause-built
 returns-in-Ok-clause-built g c =
-    let pool = seen (λ p. (g.dyn-1.0.entry p.peer.vtable).1.state p.peer.value) (entries c.args.pool) in
-    let may = relations (λ p. (g.dyn-1.0.entry p.peer.vtable).1.moves p.peer.value) (entries c.args.pool) in
-    let left = seen (λ p. (g.dyn-1.0.entry p.peer.vtable).1.state p.peer.value) (entries c.dispatch.new.pool) in
+    let pool = g.P.Peers.seen c.args.pool in
+    let may = g.P.Peers.relations c.args.pool in
+    let left = g.P.Peers.seen c.dispatch.new.pool in
     let same = c.definition-definition.ensures.same in
     let d = c.args.verified in
     let w = world_at pool (world_of c.args.beginning.engine.world) in
@@ -65,9 +64,9 @@ returns-in-Ok-clause-built g c =
 
 pub returns-in-Err-clause-built : goal.returns-in-Err-clause-built
 returns-in-Err-clause-built g c =
-    let pool = seen (λ p. (g.dyn-1.0.entry p.peer.vtable).1.state p.peer.value) (entries c.args.pool) in
-    let may = relations (λ p. (g.dyn-1.0.entry p.peer.vtable).1.moves p.peer.value) (entries c.args.pool) in
-    let left = seen (λ p. (g.dyn-1.0.entry p.peer.vtable).1.state p.peer.value) (entries c.dispatch.new.pool) in
+    let pool = g.P.Peers.seen c.args.pool in
+    let may = g.P.Peers.relations c.args.pool in
+    let left = g.P.Peers.seen c.dispatch.new.pool in
     let same = c.definition-definition.ensures.same in
     let d = c.args.verified in
     let w = world_at pool (world_of c.args.beginning.engine.world) in

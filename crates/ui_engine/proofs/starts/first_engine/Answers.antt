@@ -1,10 +1,12 @@
-use Rattle.std.proofs.Common.{ℕ, Global, Vec, ap, subst, sym, ◌∙◌}
+use Rattle.std.proofs.Common.{ℕ, Global, List, Option, Vec, ap, subst, sym, ◌∙◌}
 use Rattle.ui_machine.specs.Output.Lines as lines
 use Rattle.ui_machine.specs.State.Config.{World, said}
 use Rattle.signal_core.specs.Connected.{Connected}
 use Rattle.linked_programs.specs.Linked.{AreLinked, Linked}
 use Rattle.engine_world.specs.declared.engine.Engine.{Engine}
-use Rattle.engine_world.specs.Counting.{Connects}
+use Rattle.ui_machine.specs.State.Peers.{Peer}
+use Rattle.engine_world.specs.Counting.{Connects, PassesGot}
+use Rattle.engine_world.specs.PeerPlaces.{AreNumbered}
 use Rattle.engine_world.specs.KnownHandlers.{AllTakeKnownHandlers}
 use Rattle.engine_world.specs.TaskView.{agenda_of}
 use Rattle.engine_world.proofs.GotPeers.{zeros_got}
@@ -26,7 +28,14 @@ returns-clause-rests c =
     let linked = subst (λ (l : Linked). AreLinked d l) (sym (ap (λ (e : Engine). e.links) beside ∙ c.in_ok-engine.ensures.links)) c.in_ok-links.ensures in
     let same = ap (λ (e : Engine). e.world.handlers) beside ∙ c.in_ok-engine.ensures.handlers in
     let got = ap (λ (e : Engine). e.world.got_peers) beside ∙ c.in_ok-engine.ensures.got in
-    let passes = zeros_got d c.announce.new.engine.world.seats c.announce.new.engine.world.got_peers.items _ (ap (λ (ns : Vec ℕ Global). ns.items) got ∙ c.in_ok-got_peers.ensures.items_if_clones_equal (λ y same. same)) in
+    let numbers = ap (λ (e : Engine). e.world.peer_numbers) beside ∙ c.in_ok-engine.ensures.numbers in
+    let seats = ap (λ (w : World). w.peers) world in
+    let passes : PassesGot d c.announce.new.engine = record {
+      got = zeros_got d c.announce.new.engine.world.seats c.announce.new.engine.world.got_peers.items _ (ap (λ (ns : Vec ℕ Global). ns.items) got ∙ c.in_ok-got_peers.ensures.items_if_clones_equal (λ y same. same));
+      numbered =
+          subst (λ (peers : List Peer). AreNumbered d peers c.announce.new.engine.world.peer_numbers.items) (sym seats)
+          (subst (λ (kept : Vec (Vec (Option ℕ) Global) Global). AreNumbered d c.args.seats kept.items) (sym numbers) c.in_ok-numbers.ensures);
+    } in
     let connects : Connects d c.announce.new.engine = record {
       most = ap (λ (h : Connected). h.most) same ∙ c.limits-limits.ensures.handlers;
       to_come = ap (λ (h : Connected). h.to_come) same;

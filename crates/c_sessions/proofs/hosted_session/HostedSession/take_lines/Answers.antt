@@ -15,5 +15,5 @@ room-preserved c =
       taken = subst (λ (n : ℕ). slice_set c.room.out k c.in-Some.byte ≡ take n bytes ++ drop n c.args.out.now) up
           (taken_next bytes c.args.out.now c.room.out k c.in-Some.byte (unread c.next_byte.new.self) c.room.invariant.within c.room-test.true c.room.invariant.taken more);
       left = more.left ∙ ap (λ (n : ℕ). drop n bytes) up;
-      core = c.in-Some.ensures.core ∙ c.room.invariant.core;
+      session = c.in-Some.ensures.session ∙ c.room.invariant.session;
     }

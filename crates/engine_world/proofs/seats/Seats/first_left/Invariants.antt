@@ -1,7 +1,6 @@
 use Rattle.std.proofs.Common.{◌≡◌, drop}
-use Rattle.ui_machine.specs.State.Peers.{first_left}
-use Rattle.definition_format.specs.Meaning.{name_bytes}
+use Rattle.engine_world.specs.PeerPlaces.{first_of}
 use Rattle.engine_world.proofs.seats.Seats.first_left.Given as goal
 
-abbrev pub invariant-names : goal.invariant-names
-invariant-names l = first_left l.self (name_bytes l.names) ≡ first_left l.self (name_bytes (drop l.name-index l.names))
+abbrev pub invariant-numbers : goal.invariant-numbers
+invariant-numbers l = first_of l.self l.numbers ≡ first_of l.self (drop l.number-index l.numbers)

@@ -1,7 +1,6 @@
 use Rattle.std.proofs.Common.{◌≡◌, None, take}
-use Rattle.ui_machine.specs.State.Peers.{first_left}
-use Rattle.definition_format.specs.Meaning.{name_bytes}
+use Rattle.engine_world.specs.PeerPlaces.{first_of}
 use Rattle.engine_world.proofs.seats.Seats.got.Given as goal
 
-abbrev pub invariant-names : goal.invariant-names
-invariant-names l = first_left l.self (take l.known (name_bytes l.names)) ≡ None → first_left l.self (take l.number (name_bytes l.names)) ≡ None
+abbrev pub invariant-numbers : goal.invariant-numbers
+invariant-numbers l = first_of l.self (take l.known l.numbers) ≡ None → first_of l.self (take l.place l.numbers) ≡ None

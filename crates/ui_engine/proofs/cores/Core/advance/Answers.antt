@@ -2,7 +2,6 @@ use Rattle.ui_engine.specs.Phases.{HasAllRoom}
 use Rattle.std.proofs.Common.{Ok, Err, ap, subst, sym, ◌∙◌}
 use Rattle.std.proofs.lemmas.Result.{err_from_is_err_and}
 use Rattle.ui_machine.specs.Definition.{Definition}
-use Rattle.native_peers.specs.Pool.{entries, relations, seen}
 use Rattle.engine_world.specs.Counting.{Counts, nothing}
 use Rattle.ui_engine.specs.declared.cores.Phase.TheVariants as phases
 use Rattle.ui_engine.specs.declared.faults.SessionFault.TheVariants as faults
@@ -43,8 +42,8 @@ invariant_of-self-2 g c =
 pub returns-clause-comes : goal.returns-clause-comes
 returns-clause-comes g c event w front u =
     let d = c.self.inside.verified in
-    let may = relations (λ p. (g.dyn-1.0.entry p.peer.vtable).1.moves p.peer.value) (entries c.args.pool.now) in
-    let left = seen (λ p. (g.dyn-1.0.entry p.peer.vtable).1.state p.peer.value) (entries c.advance.new.pool) in
+    let may = g.P.Peers.relations c.args.pool.now in
+    let left = g.P.Peers.seen c.advance.new.pool in
     subst (λ (s : SessionState). ComesOn (Ok c.in_ok-progress.progress) may s.definition event w front left (session_at d c.advance.new.engine c.phase_at-self-inside.result)) c.self.view_is
     (course_comes may d c.definition-definition.result.now c.definition-definition.ensures.same _ left c.self.inside.engine c.self.inside.phase c.advance.new.engine event w front c.args.course _ c.self.view_is u
     c.in_ok-progress.progress (c.in_ok-progress.ensures.proceeds event w front) c.phase_at-self-inside.result c.phase_at-self-inside.ensures)
@@ -52,8 +51,8 @@ returns-clause-comes g c event w front u =
 pub returns-in_err-progress-clause-comes : goal.returns-in_err-progress-clause-comes
 returns-in_err-progress-clause-comes g c event w front u =
     let d = c.self.inside.verified in
-    let may = relations (λ p. (g.dyn-1.0.entry p.peer.vtable).1.moves p.peer.value) (entries c.args.pool.now) in
-    let left = seen (λ p. (g.dyn-1.0.entry p.peer.vtable).1.state p.peer.value) (entries c.advance.new.pool) in
+    let may = g.P.Peers.relations c.args.pool.now in
+    let left = g.P.Peers.seen c.advance.new.pool in
     let p = err_from_is_err_and c.from_residual.result c.from_residual.ensures.1 in
     rw (p.1, p.2)
     (subst (λ (s : SessionState). ComesOn (Err faults.OutOfMemory) may s.definition event w front left (session_at d c.advance.new.engine phases.Stopped)) c.self.view_is
@@ -63,8 +62,8 @@ returns-in_err-progress-clause-comes g c event w front u =
 pub returns-clause-in_course : goal.returns-clause-in_course
 returns-clause-in_course g c =
     let d = c.self.inside.verified in
-    let may = relations (λ p. (g.dyn-1.0.entry p.peer.vtable).1.moves p.peer.value) (entries c.args.pool.now) in
-    let left = seen (λ p. (g.dyn-1.0.entry p.peer.vtable).1.state p.peer.value) (entries c.advance.new.pool) in
+    let may = g.P.Peers.relations c.args.pool.now in
+    let left = g.P.Peers.seen c.advance.new.pool in
     let r = c.requires.in_course in
     let comes = course_comes may d c.definition-definition.result.now c.definition-definition.ensures.same _ left c.self.inside.engine c.self.inside.phase c.advance.new.engine r.event r.from r.front c.args.course _ c.self.view_is r.in_course
     c.in_ok-progress.progress (c.in_ok-progress.ensures.proceeds r.event r.from r.front) c.phase_at-self-inside.result c.phase_at-self-inside.ensures in

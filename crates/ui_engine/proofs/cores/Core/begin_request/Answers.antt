@@ -4,7 +4,6 @@ use Rattle.ui_machine.specs.Rules.Events.{refusal}
 use Rattle.ui_machine.specs.State.Tasks as config
 use Rattle.definition_format.specs.Meaning.{request_of}
 use Rattle.law_typing.specs.Good.Requests.{RequestRead}
-use Rattle.native_peers.specs.Pool.{entries, relations, seen}
 use Rattle.engine_world.specs.Counting.{Counts, nothing}
 use Rattle.engine_world.specs.TaskView.{agenda_of}
 use Rattle.engine_world.specs.View.{world_of}
@@ -42,8 +41,8 @@ invariant_of-self g c =
 
 pub returns-then-names_released-clause-begins : goal.returns-then-names_released-clause-begins
 returns-then-names_released-clause-begins g c =
-    let may = relations (λ p. (g.dyn-1.0.entry p.peer.vtable).1.moves p.peer.value) (entries c.args.pool.now) in
-    let pool = seen (λ p. (g.dyn-1.0.entry p.peer.vtable).1.state p.peer.value) (entries c.args.pool.now) in
+    let may = g.P.Peers.relations c.args.pool.now in
+    let pool = g.P.Peers.seen c.args.pool.now in
     let r = request_of c.args.request in
     let d = c.self.inside.verified in
     subst (λ (s : SessionState). BeginsBy may (refusal s.world (config.request r)) (Err faults.Released) pool s (config.request r) s) c.self.view_is
@@ -51,8 +50,8 @@ returns-then-names_released-clause-begins g c =
 
 pub returns-clause-begins : goal.returns-clause-begins
 returns-clause-begins g c =
-    let may = relations (λ p. (g.dyn-1.0.entry p.peer.vtable).1.moves p.peer.value) (entries c.args.pool.now) in
-    let pool = seen (λ p. (g.dyn-1.0.entry p.peer.vtable).1.state p.peer.value) (entries c.args.pool.now) in
+    let may = g.P.Peers.relations c.args.pool.now in
+    let pool = g.P.Peers.seen c.args.pool.now in
     let d = c.self.inside.verified in
     let e = c.definition-definition.result.now in
     let same = c.definition-definition.ensures.same in
@@ -71,7 +70,7 @@ returns-clause-begins g c =
 
 pub returns-clause-keeps : goal.returns-clause-keeps
 returns-clause-keeps g c =
-    let pool = seen (λ p. (g.dyn-1.0.entry p.peer.vtable).1.state p.peer.value) (entries c.args.pool.now) in
+    let pool = g.P.Peers.seen c.args.pool.now in
     let d = c.self.inside.verified in
     let kept = kept_at_rest d c.self.inside.engine c.self.inside.phase (ap (λ (s : SessionState). s.stopped) c.self.view_is ∙ c.requires.goes_on) c.self.invariant in
     let knows = knows_inside pool c.self.view_is c.requires.knows in

@@ -1,6 +1,5 @@
 use Rattle.std.proofs.Common.{[], Ok, ap, subst, sym, ◌∙◌}
 use Rattle.ui_machine.specs.Definition.{Definition}
-use Rattle.native_peers.specs.Pool.{entries, relations, seen}
 use Rattle.engine_world.specs.View.{world_of}
 use Rattle.engine_pools.specs.Courses.{HasCome, nothing_yet}
 use Rattle.engine_pools.specs.Dispatched.{IsAtRest}
@@ -28,8 +27,8 @@ invariant_of-self g c =
 
 pub returns-clause-comes : goal.returns-clause-comes
 returns-clause-comes g c event v h =
-    let may = relations (λ p. (g.dyn-1.0.entry p.peer.vtable).1.moves p.peer.value) (entries c.args.pool.now) in
-    let pool = seen (λ p. (g.dyn-1.0.entry p.peer.vtable).1.state p.peer.value) (entries c.args.pool.now) in
+    let may = g.P.Peers.relations c.args.pool.now in
+    let pool = g.P.Peers.seen c.args.pool.now in
     let d = c.self.inside.verified in
     let e = c.definition-definition.result.now in
     let same = c.definition-definition.ensures.same in

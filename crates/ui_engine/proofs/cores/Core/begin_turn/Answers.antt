@@ -4,7 +4,6 @@ use Rattle.ui_machine.specs.Rules.Events.{refusal}
 use Rattle.ui_machine.specs.Rules.MainLoop.{is_back}
 use Rattle.ui_machine.specs.State.Config.{World}
 use Rattle.ui_machine.specs.State.Tasks as config
-use Rattle.native_peers.specs.Pool.{entries, relations, seen}
 use Rattle.engine_world.specs.View.{world_of}
 use Rattle.engine_world.specs.declared.engine.Engine.{Engine}
 use Rattle.engine_pools.specs.Dispatched.{IsAtRest}
@@ -50,8 +49,8 @@ invariant_of-self-in-Err-ClockBack g c =
 
 pub returns-in-Ok-clause-begins : goal.returns-in-Ok-clause-begins
 returns-in-Ok-clause-begins g c =
-    let may = relations (λ p. (g.dyn-1.0.entry p.peer.vtable).1.moves p.peer.value) (entries c.args.pool.now) in
-    let pool = seen (λ p. (g.dyn-1.0.entry p.peer.vtable).1.state p.peer.value) (entries c.args.pool.now) in
+    let may = g.P.Peers.relations c.args.pool.now in
+    let pool = g.P.Peers.seen c.args.pool.now in
     let d = c.self.inside.verified in
     let e = c.definition-definition.result.now in
     let same = c.definition-definition.ensures.same in
@@ -72,8 +71,8 @@ returns-in-Ok-clause-begins g c =
 
 pub returns-in-Err-OutOfMemory-clause-begins : goal.returns-in-Err-OutOfMemory-clause-begins
 returns-in-Err-OutOfMemory-clause-begins g c =
-    let may = relations (λ p. (g.dyn-1.0.entry p.peer.vtable).1.moves p.peer.value) (entries c.args.pool.now) in
-    let pool = seen (λ p. (g.dyn-1.0.entry p.peer.vtable).1.state p.peer.value) (entries c.args.pool.now) in
+    let may = g.P.Peers.relations c.args.pool.now in
+    let pool = g.P.Peers.seen c.args.pool.now in
     let d = c.self.inside.verified in
     let e = c.definition-definition.result.now in
     let same = c.definition-definition.ensures.same in
@@ -92,8 +91,8 @@ returns-in-Err-OutOfMemory-clause-begins g c =
 
 pub returns-in-Err-ClockBack-clause-begins : goal.returns-in-Err-ClockBack-clause-begins
 returns-in-Err-ClockBack-clause-begins g c =
-    let may = relations (λ p. (g.dyn-1.0.entry p.peer.vtable).1.moves p.peer.value) (entries c.args.pool.now) in
-    let pool = seen (λ p. (g.dyn-1.0.entry p.peer.vtable).1.state p.peer.value) (entries c.args.pool.now) in
+    let may = g.P.Peers.relations c.args.pool.now in
+    let pool = g.P.Peers.seen c.args.pool.now in
     let d = c.self.inside.verified in
     let engine = c.self.inside.engine in
     let phase = c.self.inside.phase in
@@ -105,8 +104,8 @@ returns-in-Err-ClockBack-clause-begins g c =
 
 pub returns-in-Ok-clause-keeps : goal.returns-in-Ok-clause-keeps
 returns-in-Ok-clause-keeps g c =
-    let may = relations (λ p. (g.dyn-1.0.entry p.peer.vtable).1.moves p.peer.value) (entries c.args.pool.now) in
-    let pool = seen (λ p. (g.dyn-1.0.entry p.peer.vtable).1.state p.peer.value) (entries c.args.pool.now) in
+    let may = g.P.Peers.relations c.args.pool.now in
+    let pool = g.P.Peers.seen c.args.pool.now in
     let d = c.self.inside.verified in
     let e = c.definition-definition.result.now in
     let same = c.definition-definition.ensures.same in
@@ -120,8 +119,8 @@ returns-in-Ok-clause-keeps g c =
 
 pub returns-in-Err-OutOfMemory-clause-keeps : goal.returns-in-Err-OutOfMemory-clause-keeps
 returns-in-Err-OutOfMemory-clause-keeps g c =
-    let may = relations (λ p. (g.dyn-1.0.entry p.peer.vtable).1.moves p.peer.value) (entries c.args.pool.now) in
-    let pool = seen (λ p. (g.dyn-1.0.entry p.peer.vtable).1.state p.peer.value) (entries c.args.pool.now) in
+    let may = g.P.Peers.relations c.args.pool.now in
+    let pool = g.P.Peers.seen c.args.pool.now in
     let d = c.self.inside.verified in
     let e = c.definition-definition.result.now in
     let same = c.definition-definition.ensures.same in

@@ -1,7 +1,6 @@
 use Rattle.std.proofs.Common.{Ok, subst}
 use Rattle.std.proofs.lemmas.Result.{err_from_is_err_and}
 use Rattle.definition_format.specs.Meaning.{event_of}
-use Rattle.native_peers.specs.Pool.{entries, relations, seen}
 use Rattle.engine_pools.specs.declared.courses.Progress.{Progress}
 use Rattle.ui_engine.specs.SessionView.{BeginsEvent}
 use Rattle.ui_engine.proofs.InParts.{answers_fault, answers_reply, comes_as, has_ended, made_as, none_as}
@@ -9,8 +8,8 @@ use Rattle.ui_engine.proofs.cores.Core.dispatch.Goals as goal
 
 pub returns-in_err-reply-2-clause-answers : goal.returns-in_err-reply-2-clause-answers
 returns-in_err-reply-2-clause-answers g c =
-    let may = relations (λ p. (g.dyn-1.0.entry p.peer.vtable).1.moves p.peer.value) (entries c.args.pool.now) in
-    let pool = seen (λ p. (g.dyn-1.0.entry p.peer.vtable).1.state p.peer.value) (entries c.args.pool.now) in
+    let may = g.P.Peers.relations c.args.pool.now in
+    let pool = g.P.Peers.seen c.args.pool.now in
     let s = c.args.self.now in
     let begins = subst (λ (p : Progress). BeginsEvent may s.stopped (Ok p) pool s (event_of c.args.event) c.begin.new.self) c.in-UnderWay.is c.in_ok-reply.ensures.begins in
     let p = err_from_is_err_and c.from_residual-in_err-reply-2.result c.from_residual-in_err-reply-2.ensures.1 in
@@ -18,8 +17,8 @@ returns-in_err-reply-2-clause-answers g c =
 
 pub returns-clause-answers : goal.returns-clause-answers
 returns-clause-answers g c =
-    let may = relations (λ p. (g.dyn-1.0.entry p.peer.vtable).1.moves p.peer.value) (entries c.args.pool.now) in
-    let pool = seen (λ p. (g.dyn-1.0.entry p.peer.vtable).1.state p.peer.value) (entries c.args.pool.now) in
+    let may = g.P.Peers.relations c.args.pool.now in
+    let pool = g.P.Peers.seen c.args.pool.now in
     let s = c.args.self.now in
     let begins = subst (λ (p : Progress). BeginsEvent may s.stopped (Ok p) pool s (event_of c.args.event) c.begin.new.self) c.in-UnderWay.is c.in_ok-reply.ensures.begins in
     answers_reply may pool _ s (event_of c.args.event) s.stopped c.in-UnderWay.course c.begin.new.self c.advance.new.self begins c.in-Ended-2.reply
@@ -27,8 +26,8 @@ returns-clause-answers g c =
 
 pub unreachable-requires : goal.unreachable-requires
 unreachable-requires g c =
-    let may = relations (λ p. (g.dyn-1.0.entry p.peer.vtable).1.moves p.peer.value) (entries c.args.pool.now) in
-    let pool = seen (λ p. (g.dyn-1.0.entry p.peer.vtable).1.state p.peer.value) (entries c.args.pool.now) in
+    let may = g.P.Peers.relations c.args.pool.now in
+    let pool = g.P.Peers.seen c.args.pool.now in
     let s = c.args.self.now in
     let begins = subst (λ (p : Progress). BeginsEvent may s.stopped (Ok p) pool s (event_of c.args.event) c.begin.new.self) c.in-UnderWay.is c.in_ok-reply.ensures.begins in
     has_ended may pool _ s (event_of c.args.event) s.stopped c.in-UnderWay.course c.begin.new.self c.advance.new.self begins c.in-UnderWay-2.field-0

@@ -1,0 +1,99 @@
+//! The stack of the tasks that are left.
+
+ghost use Rattle.std.specs.Prelude.{◌≡◌, ◌+◌, ◌<◌, ◌≤◌, ℕ, List, [], ◌∷◌, drop, false, length, map, vec_capacity, vec_len, IfOk, IfSome, MatchOption};
+ghost use Rattle.std.specs.List.{list_any};
+ghost use Rattle.engine_world.specs.BuildTasks.{is_of_build};
+
+use crate::task::Task;
+use std::alloc::{AllocError, Global};
+
+/// The tasks that are left, the first on top, in room that is reserved once. Those of the build lie at the bottom.
+#[derive(Drop)]
+pub struct Stack {
+    pub tasks: Vec<Task>,
+    // So many from the bottom are looked through for the build's: none of the others is one.
+    pub(crate) lowest: usize,
+    ghost within: { lowest ≤ length tasks.items },
+    ghost above: { list_any is_of_build (drop lowest tasks.items) ≡ false },
+}
+
+impl Stack {
+    ghost use Rattle.ui_machine.specs.Definition as machine;
+    ghost use Rattle.ui_machine.specs.State.Tasks as config;
+    ghost use Rattle.ui_machine.specs.State.Handlers.{Handler};
+    ghost use Rattle.ui_machine.specs.Rules.Build.{of_items};
+    ghost use Rattle.ui_machine.specs.Seq.{total};
+    ghost use Rattle.engine_world.specs.KnownHandlers.{AllTakeKnownHandlers, TakesKnownHandlers};
+    ghost use Rattle.engine_world.specs.TaskView.{task_of, tasks_of};
+
+    /// Nothing to do, and room for so many tasks.
+    ///
+    /// # Errors
+    ///
+    /// `AllocError` if memory is refused. No other call asks for memory.
+    pub fn new(alloc: Global, most: usize) -> Result<Self, AllocError>
+        ensures tasks { IfOk result (λ s. (d : machine.Definition) (hs : List Handler) → tasks_of d hs s ≡ []) }
+        ensures begun { IfOk result (λ s. (last : ℕ) → AllTakeKnownHandlers last s) }
+        ensures room { IfOk result (λ s. vec_capacity s.tasks ≡ most) }
+    {
+        let tasks = Vec::with_capacity(alloc, most)?;
+        Ok(Stack { tasks, lowest: 0 })
+    }
+
+    /// Puts a task before the others, in the room that is there.
+    pub fn push(&mut self, task: Task)
+        requires room { vec_len self.now.tasks < vec_capacity self.now.tasks }
+        ensures tasks { (d : machine.Definition) (hs : List Handler) → tasks_of d hs self.new ≡ task_of d hs task ∷ tasks_of d hs self.old }
+        ensures begun { (last : ℕ) → TakesKnownHandlers last task → AllTakeKnownHandlers last self.old → AllTakeKnownHandlers last self.new }
+        ensures taken { vec_len self.new.tasks ≡ vec_len self.old.tasks + 1 }
+        ensures room { vec_capacity self.new.tasks ≡ vec_capacity self.old.tasks }
+    {
+        let is_of_build = task.is_of_build();
+        self.tasks.push_reserved(task);
+        if is_of_build {
+            self.lowest = self.tasks.len();
+        }
+    }
+
+    /// The first task.
+    pub fn first(&self) -> Option<&Task>
+        ensures { (d : machine.Definition) (hs : List Handler) → MatchOption result (tasks_of d hs self.now ≡ [])
+            (λ task. (rest : List config.Task) × (tasks_of d hs self.now ≡ task_of d hs task.now ∷ rest)) }
+    {
+        self.tasks.last()
+    }
+
+    /// Takes the first task. Its room is there again.
+    pub fn pop(&mut self) -> Option<Task>
+        ensures tasks { (d : machine.Definition) (hs : List Handler) → MatchOption result
+            ((tasks_of d hs self.old ≡ []) × (tasks_of d hs self.new ≡ []))
+            (λ task. tasks_of d hs self.old ≡ task_of d hs task ∷ tasks_of d hs self.new) }
+        ensures begun { (last : ℕ) → AllTakeKnownHandlers last self.old → AllTakeKnownHandlers last self.new }
+        ensures first { IfSome result (λ task. (last : ℕ) → AllTakeKnownHandlers last self.old → TakesKnownHandlers last task) }
+        ensures given { MatchOption result (vec_len self.new.tasks ≡ vec_len self.old.tasks) (λ _. vec_len self.old.tasks ≡ vec_len self.new.tasks + 1) }
+        ensures free { IfSome result (λ _. vec_len self.new.tasks < vec_capacity self.new.tasks) }
+        ensures room { vec_capacity self.new.tasks ≡ vec_capacity self.old.tasks }
+    {
+        let task = self.tasks.pop();
+        self.lowest = self.lowest.min(self.tasks.len());
+        task
+    }
+
+    /// Leaves nothing to do.
+    pub fn clear(&mut self)
+        ensures tasks { (d : machine.Definition) (hs : List Handler) → tasks_of d hs self.new ≡ [] }
+        ensures begun { (last : ℕ) → AllTakeKnownHandlers last self.new }
+        ensures free { vec_len self.new.tasks ≡ 0 }
+        ensures room { vec_capacity self.new.tasks ≡ vec_capacity self.old.tasks }
+    {
+        self.tasks.clear();
+        self.lowest = 0;
+    }
+
+    /// The lowest tasks, among which are all of the build: what the build has still to make and to connect is theirs.
+    pub fn of_build(&self) -> &[Task]
+        ensures { (g : config.Item → ℕ) (d : machine.Definition) (hs : List Handler) → total (of_items g) (map (task_of d hs) result.now) ≡ total (of_items g) (tasks_of d hs self.now) }
+    {
+        &self.tasks[..self.lowest]
+    }
+}
