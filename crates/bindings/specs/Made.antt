@@ -1,5 +1,6 @@
 -- What a list of bindings denotes.
-use Rattle.std.specs.Prelude.{ℕ, ◌+◌, ◌^◌, ◌<◌, All, Bool, false, cond, not, ◌&&◌, nat_le, max, List, [], ◌∷◌, ◌++◌, option_map, string_bytes}
+use Rattle.std.specs.List.{filter}
+use Rattle.std.specs.Prelude.{ℕ, ◌+◌, ◌^◌, ◌<◌, All, Bool, false, cond, not, ◌&&◌, nat_eq, nat_le, max, List, [], ◌∷◌, ◌++◌, option_map, string_bytes}
 use Rattle.ui_machine.specs.Definition.Properties.{has_flags}
 use Rattle.ui_machine.specs.State.Bindings.{listens, goes_back}
 use Rattle.ui_machine.specs.State.Bindings as config
@@ -65,6 +66,10 @@ AreNumbered bindings next = All (λ b. b.number < next) bindings × (next < 2 ^ 
 -- whether the binding may be the next to act on a notification
 abbrev pub is_next : (object slot from : ℕ) → config.Binding → Bool
 is_next object slot from b = nat_le from b.number && listens object slot b && not b.busy
+
+-- the bindings without that of a number
+abbrev pub without_number : ℕ → List config.Binding → List config.Binding
+without_number number bindings = filter (λ b. not (nat_eq b.number number)) bindings
 
 -- the list with one binding more, that does not set
 abbrev pub with_binding : Made → Binding → Made

@@ -16,6 +16,8 @@ pub(crate) struct Bound {
     number: u64,
     binding: Binding,
     setting: bool,
+    /// The number that its name is listed under. A contract does not see it.
+    name_number: Option<u64>,
 }
 
 impl Model for Bound {
@@ -40,7 +42,20 @@ impl Bound {
             number,
             binding,
             setting: false,
+            name_number: None,
         }
+    }
+
+    /// The number that its name is listed under, if it has a name and is listed.
+    pub(crate) fn name_number(&self) -> Option<u64> {
+        self.name_number
+    }
+
+    /// Its name is listed under a number.
+    pub(crate) fn list_name(&mut self, number: u64)
+        ensures { self.new ≡ self.old }
+    {
+        self.name_number = Some(number);
     }
 
     pub(crate) fn number(&self) -> u64

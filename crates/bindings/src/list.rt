@@ -1,11 +1,11 @@
 //! The bindings that have not ended.
 
-ghost use Rattle.std.specs.Prelude.{◌≡◌, ◌+◌, ◌-◌, ◌^◌, ◌<◌, ◌↔◌, [], ◌∷◌, ◌++◌, All, false, map, OnOk, OnErr, IfOk, IfSome, option_map, count_by};
+ghost use Rattle.std.specs.Prelude.{◌≡◌, ◌+◌, ◌-◌, ◌^◌, ◌<◌, ◌↔◌, [], ◌∷◌, ◌++◌, All, false, map, OnOk, OnErr, IfOk, IfSome, is_some, option_map, count_by};
 ghost use Rattle.std.specs.List.{find, list_any};
 ghost use Rattle.ui_machine.specs.State.Bindings.{binding_of, is_called, is_end, bindings_without, bindings_without_end, transfers, with_busy};
 ghost use Rattle.bindings.specs.Due.{entry_of, is_free};
 ghost use Rattle.bindings.specs.Made as made;
-ghost use Rattle.bindings.specs.Made.{transfer_of, is_next};
+ghost use Rattle.bindings.specs.Made.{transfer_of, is_next, without_number};
 
 use crate::binding::{Binding, Transfer};
 use crate::bound::Bound;
@@ -117,6 +117,18 @@ impl Bindings {
         let found = has_called(&self.others, name);
         end_called(&mut self.others, name);
         count > 0 || found
+    }
+
+    /// Ends the binding of a number, and says whether there was one.
+    pub fn unbind_numbered(&mut self, number: u64) -> bool
+        ensures found { result ≡ is_some (binding_of number self.old.bindings) }
+        ensures left { self.new
+            ≡ record self.old { bindings = without_number number self.old.bindings } }
+    {
+        let found = self.bound(number).is_some();
+        self.rising.remove(number);
+        end_numbered(&mut self.others, number);
+        found
     }
 
     /// Ends the bindings that have an object as an end, and counts them.
@@ -290,6 +302,13 @@ fn end_called(bound: &mut Vec<Bound>, name: &str)
     ensures { bound.new.items ≡ bindings_without name.now bound.old.items }
 {
     bound.retain(|bound| !bound.is_called(name));
+}
+
+// The bindings of the number go.
+fn end_numbered(bound: &mut Vec<Bound>, number: u64)
+    ensures { bound.new.items ≡ without_number number bound.old.items }
+{
+    bound.retain(|bound| !bound.has_number(number));
 }
 
 // The bindings that have the object as an end go.

@@ -63,10 +63,11 @@ impl Listings {
         self.by_name.before(name, 0, end)
     }
 
-    /// Lists a binding. An error lists none.
-    pub(crate) fn add(&mut self, bound: &Bound) -> Result<(), AllocError>
-        ensures listed { OnOk result (IsListed self.new bound.now) }
-        ensures stays { (b : config.Binding) → (b.number ≡ bound.now.number → ⊥) → IsListed self.old b → IsListed self.new b }
+    /// Lists a binding, which notes what its name is listed under. An error lists none.
+    pub(crate) fn add(&mut self, bound: &mut Bound) -> Result<(), AllocError>
+        ensures same { bound.new ≡ bound.old }
+        ensures listed { OnOk result (IsListed self.new bound.old) }
+        ensures stays { (b : config.Binding) → (b.number ≡ bound.old.number → ⊥) → IsListed self.old b → IsListed self.new b }
     {
         let added = self.add_all(bound);
         if added.is_err() {
@@ -76,8 +77,9 @@ impl Listings {
     }
 
     // Lists a binding, and leaves a part of it where memory runs out.
-    fn add_all(&mut self, bound: &Bound) -> Result<(), AllocError>
-        ensures listed { OnOk result (IsListed self.new bound.now) }
+    fn add_all(&mut self, bound: &mut Bound) -> Result<(), AllocError>
+        ensures same { bound.new ≡ bound.old }
+        ensures listed { OnOk result (IsListed self.new bound.old) }
         ensures stays { (b : config.Binding) → IsListed self.old b → IsListed self.new b }
     {
         let number = bound.number();
@@ -91,6 +93,7 @@ impl Listings {
         }
         if let Some(name) = bound.name() {
             let name = self.names.add(name)?;
+            bound.list_name(name);
             self.by_name.add(name, 0, number)?;
         }
         Ok(())
@@ -107,10 +110,8 @@ impl Listings {
         self.by_end.remove(target, 0, number);
         self.by_property.remove(source, source_slot, number);
         self.by_property.remove(target, target_slot, number);
-        if let Some(name) = bound.name() {
-            if let Some(name) = self.names.number(name.as_str()) {
-                self.by_name.remove(name, 0, number);
-            }
+        if let Some(name) = bound.name_number() {
+            self.by_name.remove(name, 0, number);
         }
     }
 }

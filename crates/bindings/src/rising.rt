@@ -5,6 +5,7 @@ ghost use Rattle.std.specs.List.{filter, find};
 ghost use Rattle.ui_machine.specs.State.Bindings.{binding_of, is_called, is_end, bindings_without, bindings_without_end, listens, transfers, with_busy};
 ghost use Rattle.bindings.specs.Due.{due_of, entry_of};
 ghost use Rattle.bindings.specs.Kept.{IsNextOf, IsPreviousOf, Numbered, is_numbered};
+ghost use Rattle.bindings.specs.Made.{without_number};
 
 use crate::binding::Binding;
 use crate::bound::Bound;
@@ -64,8 +65,8 @@ impl Rising {
         ensures ok { OnOk result (self.new ≡ self.old ++ made.binding_of number false binding ∷ []) }
         ensures err { OnErr result (self.new ≡ self.old) }
     {
-        let bound = Bound::new(number, binding);
-        self.listings.add(&bound)?;
+        let mut bound = Bound::new(number, binding);
+        self.listings.add(&mut bound)?;
         let Err(refused) = self.bound.insert(number, bound) else {
             return Ok(());
         };
@@ -266,9 +267,9 @@ impl Rising {
         1
     }
 
-    // Ends the binding of a number.
-    fn remove(&mut self, number: u64)
-        ensures { self.new ≡ filter (λ b. not (nat_eq b.number number)) self.old }
+    /// Ends the binding of a number, if there is one.
+    pub(crate) fn remove(&mut self, number: u64)
+        ensures { self.new ≡ without_number number self.old }
     {
         let Some(bound) = self.bound.remove(&number) else {
             return;

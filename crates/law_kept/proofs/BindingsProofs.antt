@@ -24,6 +24,7 @@ pub binding_kept : (d : Definition) (s z : Standing) (agenda : List Task) (b : B
 binding_kept d s z agenda b source target g = record {
   bind = g.bind;
   is = g.is;
+  name = g.name;
   slots = g.slots;
   source = source g.bind.source g.source;
   target = target g.bind.target g.target;
@@ -58,11 +59,11 @@ module _ (d : Definition) (s : Standing) (agenda rest : List Task) (number : ℕ
   -- another binding, and the one of the number
   other : (b : Binding) → total (unsets b.number) rest ≡ total (unsets b.number) agenda → BindingGood d s agenda b → BindingGood d s rest b
   other b same g =
-      record { bind = g.bind; is = g.is; slots = g.slots; source = g.source; target = g.target; setting = same ∙ g.setting }
+      record { bind = g.bind; is = g.is; name = g.name; slots = g.slots; source = g.source; target = g.target; setting = same ∙ g.setting }
 
   this : (b : Binding) → total (unsets b.number) rest ≡ cond value 1 0 → BindingGood d s agenda b → BindingGood d s rest (record b { busy = value })
   this b sets g =
-      record { bind = g.bind; is = g.is; slots = g.slots; source = g.source; target = g.target; setting = sets }
+      record { bind = g.bind; is = g.is; name = g.name; slots = g.slots; source = g.source; target = g.target; setting = sets }
 
   one_busy : (b : Binding) → ((b.number ≡ number → ⊥) → total (unsets b.number) rest ≡ total (unsets b.number) agenda) →
       (b.number ≡ number → total (unsets b.number) rest ≡ cond value 1 0) → BindingGood d s agenda b → BindingGood d s rest (busy number value b)
@@ -135,7 +136,7 @@ binding_made d s agenda rest bs number b source target next g = record {
   each =
       each_last (BindingGood d s rest) bs (new_binding number b source target)
       (each_to (BindingGood d s agenda) (BindingGood d s rest) bs (λ x good. other d s agenda rest number false x (next.unset x.number) good) g.each)
-      (record { bind = b; is = next.is; slots = (refl, refl, refl); source = next.from; target = next.to; setting = next.unset number ∙ next.free });
+      (record { bind = b; is = next.is; name = refl; slots = (refl, refl, refl); source = next.from; target = next.to; setting = next.unset number ∙ next.free });
   rising =
       rising_last number_of 0 bs (new_binding number b source target) g.rising
       (each_to (λ (x : Binding). x.number + total (of_items is_binding) agenda < length d.bindings) (λ (x : Binding). x.number < number) bs

@@ -40,6 +40,7 @@ module _ (d : Definition) (costs depths : Tables) (a b : List Task) (items : (f 
     binding_moved s x g = record {
       bind = g.bind;
       is = g.is;
+      name = g.name;
       slots = g.slots;
       source = g.source;
       target = g.target;

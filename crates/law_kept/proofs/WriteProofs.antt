@@ -180,6 +180,7 @@ module _ (d : Definition) (w : World) (id : ℕ) (o new : Object) (is : living w
   binding_good agenda b g = record {
     bind = g.bind;
     is = g.is;
+    name = g.name;
     slots = g.slots;
     source = ap (λ s. s b.source) same ∙ g.source;
     target = ap (λ s. s b.target) same ∙ g.target;

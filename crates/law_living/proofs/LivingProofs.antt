@@ -37,14 +37,8 @@ use Rattle.law_typing.specs.Laws.WellRead.{WellRead}
 use Rattle.law_typing.specs.Verdict.Accepted.{Accepted, Each}
 use Rattle.law_typing.proofs.Lists.{each_in}
 use Rattle.law_typing.proofs.OneSolutionProofs.{find_in}
-use Rattle.law_static.proofs.BuildCostProofs.{build_begins}
 use Rattle.law_static.proofs.FitsProofs.{holds_live}
-use Rattle.law_static.proofs.RequestProofs.{requests_begin}
-use Rattle.law_static.proofs.SourceProofs.{sources_begin}
-use Rattle.law_tasks.proofs.StepsProofs.{steps_keep_good}
-use Rattle.law_sessions.specs.Dispatches.{Throughout}
-use Rattle.law_sessions.proofs.DispatchProofs.{stays}
-use Rattle.law_sessions.proofs.EntryProofs.{IsPrinted, build_printed, printed_few, request_printed, source_printed}
+use Rattle.law_sessions.proofs.ThroughoutProofs.{throughout_build, throughout_request, throughout_source}
 use Rattle.law_living.specs.Living.{BuildsNameLiving, RequestsNameLiving, RestsNameLiving, SourcesNameLiving}
 
 -- each of a list by what is so of each
@@ -178,7 +172,7 @@ module _ (d : Definition) (w : World) where
 
 -- ** configurations
 
-all_living : (d : Definition) (costs depths : Tables) (most_counted most : ℕ) (c : Config) → Good d costs depths most_counted most c → AllNamesLiving d c
+pub all_living : (d : Definition) (costs depths : Tables) (most_counted most : ℕ) (c : Config) → Good d costs depths most_counted most c → AllNamesLiving d c
 all_living d costs depths most_counted most c good = record {
   world = record {
     values = values_living d c.world good.objects;
@@ -204,21 +198,11 @@ rests_name_living d a w rest = record {
   floating = subst (Each (IsLiving w)) (sym rest.floating) tt;
 }
 
-module _ (d : Definition) (well : WellRead d) (a : Accepted d) where
-  -- what begins well goes on so
-  pub throughout : (most : ℕ) → most ≤ most_steps → (c : Config) → IsGood d a most c → Throughout d c (AllNamesLiving d)
-  throughout most few c good replies fit at reached =
-      all_living d a.weighed.costs a.weighed.depths most (depth (graph d) a.weighed.depths) at (stays steps_keep_good d well a most few replies fit c at good reached)
-
 pub builds_name_living : BuildsNameLiving
-builds_name_living d well a peers ready =
-    throughout d well a (bound_of d a entries.build) (printed_few d a well entries.build (build_printed d a)) _ (build_begins d well a peers ready)
+builds_name_living d well a = throughout_build d (AllNamesLiving d) (all_living d) well a
 
 pub requests_name_living : RequestsNameLiving
-requests_name_living d well a w rest r fits kept =
-    throughout d well a _ (printed_few d a well _ (request_printed d a r)) _ (requests_begin d well a w rest r fits kept)
+requests_name_living d well a = throughout_request d (AllNamesLiving d) (all_living d) well a
 
 pub sources_name_living : SourcesNameLiving
-sources_name_living d well a w rest number x is =
-    let known = each_in (SourceGood d (standing w.objects)) w.sources rest.sources x (find_in _ w.sources x is).0 in
-    throughout d well a _ (printed_few d a well _ (source_printed d a x.program known.told)) _ (sources_begin d well a w rest number x is)
+sources_name_living d well a = throughout_source d (AllNamesLiving d) (all_living d) well a

@@ -9,3 +9,4 @@ pub mod SafeProofs
 pub mod ThereProofs
 pub mod HaltingProofs
 pub mod WorkedProofs
+pub mod ThroughoutProofs

@@ -131,7 +131,7 @@ module _ (d : Definition) (costs depths : Tables) (w : World) (r : Resting d cos
   }
 
   binding : (b : Binding) → BindingGood d (standing w.objects) [] b → BindingGood d (standing w.objects) agenda b
-  binding b g = record { bind = g.bind; is = g.is; slots = g.slots; source = g.source; target = g.target; setting = g.setting }
+  binding b g = record { bind = g.bind; is = g.is; name = g.name; slots = g.slots; source = g.source; target = g.target; setting = g.setting }
 
   bindings : BindingsGood d (standing w.objects) agenda w.bindings
   bindings = record { each = each_to _ _ w.bindings binding r.bindings.each; rising = r.bindings.rising; made = r.bindings.made }

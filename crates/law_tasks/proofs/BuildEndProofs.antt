@@ -43,6 +43,7 @@ module _ {d : Definition} (t : First d (Building [])) where
         (λ (b : Binding) old. record {
           bind = old.bind;
           is = old.is;
+          name = old.name;
           slots = old.slots;
           source = old.source;
           target = old.target;

@@ -216,7 +216,7 @@ module _ {d : Definition} (place number : ℕ) (items : List Item) (t : First d 
   bindings_good : BindingsGood d (standing w.objects) agenda w.bindings
   bindings_good = record {
     each = each_to _ _ w.bindings
-        (λ (b : Binding) old. record { bind = old.bind; is = old.is; slots = old.slots; source = old.source; target = old.target; setting = old.setting }) g.bindings.each;
+        (λ (b : Binding) old. record { bind = old.bind; is = old.is; name = old.name; slots = old.slots; source = old.source; target = old.target; setting = old.setting }) g.bindings.each;
     rising = g.bindings.rising;
     made = each_to _ _ w.bindings (λ (b : Binding) low. omega (arith, low)) g.bindings.made;
   }

@@ -74,6 +74,7 @@ module _ {d : Definition} (item : Item) (items : List Item) (t : First d (Buildi
         (λ (b : Binding) old. record {
           bind = old.bind;
           is = old.is;
+          name = old.name;
           slots = old.slots;
           source = old.source;
           target = old.target;

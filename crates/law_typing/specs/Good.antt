@@ -11,6 +11,7 @@ pub mod Emissions
 pub mod Builds
 pub mod Requests
 pub mod Living
+pub mod Meanings
 pub mod Agenda
 pub mod Freezes
 use Rattle.std.specs.Prelude.{◌≡◌, ℕ, ◌+◌, ◌≤◌, [], length, Some}

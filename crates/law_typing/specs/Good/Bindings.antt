@@ -19,11 +19,12 @@ use Rattle.law_typing.specs.Good.Standing.{Standing, LivesIf, Rising}
 use Rattle.law_typing.specs.Good.DueCosts.{unsets}
 use Rattle.law_typing.specs.Good.Handlers.{data_kind}
 
--- a binding that is there: it is the definition's of that number, its ends live at their places, and it is setting just while it is to be
--- set free
+-- a binding that is there: it is the definition's of that number, and called so, its ends live at their places, and it is setting just
+-- while it is to be set free
 pub record BindingGood (d : Definition) (s : Standing) (agenda : List Task) (b : Binding) : Type 0 where
   pub bind : Bind
   pub is : slice_get d.bindings b.number ≡ Some bind
+  pub name : b.name ≡ bind.name
   pub slots : (b.source_slot ≡ bind.source_slot) × (b.target_slot ≡ bind.target_slot) × (b.flags ≡ bind.flags)
   pub source : s b.source ≡ Some bind.source
   pub target : s b.target ≡ Some bind.target
