@@ -296,6 +296,13 @@ impl Definition {
         shape_number(&self.types, self.shaped.as_slice(), class)
     }
 
+    /// How many shapes it has.
+    pub fn shape_count(&self) -> usize
+        ensures { result ≡ length self.now.shapes }
+    {
+        self.shapes.len()
+    }
+
     /// The methods of the shape of a number, if there are so many shapes: they are numbered in document order.
     pub fn shape(&self, number: usize) -> Option<&Shape>
         ensures { option_map (λ s. s.now) result ≡ option_map (λ s. s.methods) (slice_get self.now.shapes number) }

@@ -2,6 +2,7 @@
 use Rattle.std.proofs.Common.{◌≡◌, ◌∙◌, refl, sym, ap, ℕ, Bool, true, false, length, nat_lt, List, [], ◌∷◌, Option, None, Some, IsSome, Ok, Err, slice_get, option_and_then}
 use Rattle.ui_machine.specs.declared.arm.Arm.TheVariants as arms
 use Rattle.ui_machine.specs.Definition.{Definition}
+use Rattle.ui_machine.specs.Definition.Names.{place_named}
 use Rattle.ui_machine.specs.Definition.Signals.{Method}
 use Rattle.ui_machine.specs.Definition.Values.{Value}
 use Rattle.ui_machine.specs.Instructions.{in_front}
@@ -16,6 +17,7 @@ use Rattle.ui_machine.specs.State.Objects.{Object, class_in, living, object_at}
 use Rattle.ui_machine.specs.State.Peers.{Peer, method_number, method_of}
 use Rattle.ui_machine.specs.State.Tasks.{Call, Calling, Frame, Task}
 use Rattle.ui_machine.specs.Steps.{left}
+use Rattle.law_typing.specs.Good.Meanings.{KeepsMeanings, class_methods}
 use Rattle.engine_instructions.specs.CallingView.{Called, called_in, due_call}
 use Rattle.engine_world.specs.Able.{Able}
 use Rattle.engine_world.proofs.Ableness.{able_as, first, instructed, past, past_test}
@@ -47,14 +49,14 @@ module _ (w : World) (id : ℕ) (name : List ℕ) (live : IsSome (living w.objec
     by_place : (o : Option Peer) → o ≡ slice_get w.peers peer → (known arms.Call o >>= with_peer peer) ≡ called_in w id name
     by_place o at = ap (λ (p : Option Peer). known arms.Call p >>= with_peer peer) at ∙ by_object (Some peer) of
 
-    pub no_place : None ≡ slice_get w.peers peer → Err arms.Call ≡ called_in w id name
+    no_place : None ≡ slice_get w.peers peer → Err arms.Call ≡ called_in w id name
     no_place none = by_place None none
 
     module _ (p : Peer) (at : Some p ≡ slice_get w.peers peer) where
       by_name : (o : Option ℕ) → o ≡ method_number p name → (known arms.Call o >>= with_number peer p) ≡ called_in w id name
       by_name o is = ap (λ (n : Option ℕ). known arms.Call n >>= with_number peer p) is ∙ by_place (Some p) at
 
-      pub no_method : None ≡ method_number p name → Err arms.Call ≡ called_in w id name
+      no_method : None ≡ method_number p name → Err arms.Call ≡ called_in w id name
       no_method none = by_name None none
 
       module _ (number : ℕ) (is : Some number ≡ method_number p name) where
@@ -65,12 +67,37 @@ module _ (w : World) (id : ℕ) (name : List ℕ) (live : IsSome (living w.objec
             (found ∙ ap (option_and_then (λ (q : Peer). method_of q number)) (sym at))
             ∙ by_name (Some number) is
 
-        pub not_numbered : None ≡ option_and_then (λ (q : Peer). method_of q number) (slice_get w.peers peer) → Err arms.Call ≡ called_in w id name
-        not_numbered none = by_method None none
+    -- by the number that the method has in the object's class, where the peer has the methods of the class
+    module _ (number : Option ℕ) (shaped : (p : Peer) → slice_get w.peers peer ≡ Some p → number ≡ method_number p name) where
+      pub no_number : None ≡ number → Err arms.Call ≡ called_in w id name
+      no_number none = by (slice_get w.peers peer) refl
+        where
+          by : (o : Option Peer) → slice_get w.peers peer ≡ o → Err arms.Call ≡ called_in w id name
+          by None at = no_place (sym at)
+          by (Some p) at = no_method p (sym at) (none ∙ shaped p at)
 
-        pub found : (m : Method) → Some m ≡ option_and_then (λ (q : Peer). method_of q number) (slice_get w.peers peer)
-            → Ok (record { peer = peer; number = number; method = m }) ≡ called_in w id name
-        found m some = by_method (Some m) some
+      module _ (n : ℕ) (is : Some n ≡ number) where
+        pub by_number : (o : Option Method) → o ≡ option_and_then (λ (q : Peer). method_of q n) (slice_get w.peers peer)
+            → (known arms.Call o >>= λ (m : Method). Ok (record { peer = peer; number = n; method = m })) ≡ called_in w id name
+        by_number o found = by (slice_get w.peers peer) refl
+          where
+            by : (q : Option Peer) → slice_get w.peers peer ≡ q
+                → (known arms.Call o >>= λ (m : Method). Ok (record { peer = peer; number = n; method = m })) ≡ called_in w id name
+            by None at =
+                let none : o ≡ None = found ∙ ap (option_and_then (λ (q : Peer). method_of q n)) at in
+                ap (λ (m : Option Method). known arms.Call m >>= λ (m : Method). Ok (record { peer = peer; number = n; method = m })) none ∙ no_place (sym at)
+            by (Some p) at = by_method p (sym at) n (is ∙ shaped p at) o found
+
+-- the peer of an object has the methods of its class
+pub shaped_so : (d : Definition) (w : World) (id : ℕ) (name : List ℕ) → IsSome (living w.objects id) → KeepsMeanings d w → (peer : ℕ) → Some peer ≡ peer_of (living w.objects id)
+    → (number : Option ℕ) → ((o : Object) → living w.objects id ≡ Some o → number ≡ place_named (λ (m : Method). m.name) (class_methods d o.class) name)
+    → (p : Peer) → slice_get w.peers peer ≡ Some p → number ≡ method_number p name
+shaped_so d w id name live meant peer of number is p at = by (living w.objects id) refl live of
+  where
+    by : (x : Option Object) → living w.objects id ≡ x → IsSome x → Some peer ≡ peer_of x → number ≡ method_number p name
+    by None lives some has = cc some
+    by (Some o) lives some has =
+        is o lives ∙ ap (λ ms. place_named (λ (m : Method). m.name) ms name) (sym (meant.methods id peer o p lives (sym has) at))
 
 -- ** the call
 

@@ -3,6 +3,7 @@ pub mod EmitView
 pub mod AttachView
 pub mod HandlersView
 pub mod JumpView
+pub mod UnbindView
 pub mod PropertyView
 pub mod CreateView
 pub mod CallingView

@@ -6,8 +6,11 @@ ghost use Rattle.ui_machine.specs.Instructions.{in_front};
 ghost use Rattle.ui_machine.specs.Instructions.Peers.{calling};
 ghost use Rattle.ui_machine.specs.declared.arm.Arm.TheVariants as arms;
 ghost use Rattle.ui_machine.specs.Outcome.{known};
-ghost use Rattle.ui_machine.specs.State.Objects.{living};
+ghost use Rattle.ui_machine.specs.Definition.Names.{place_named};
+ghost use Rattle.ui_machine.specs.State.Objects.{Object, living};
 ghost use Rattle.ui_machine.specs.Steps.{left};
+ghost use Rattle.law_typing.specs.Good.Meanings.{KeepsMeanings, class_methods};
+ghost use Rattle.linked_programs.specs.Linked.{LinksMethod};
 ghost use Rattle.bytecode.specs.View.{number_of};
 ghost use Rattle.frames.specs.FrameView.{frame_view};
 ghost use Rattle.engine_world.specs.Counting.{Counts, in_frame, nothing};
@@ -28,6 +31,7 @@ use engine_world::program_frames::push_frame;
 use engine_world::references::push_task;
 use engine_world::task::{DueCall, Task};
 use frames::{Frame, copy_values};
+use linked_programs::Link;
 use peer_shapes::MethodRef;
 use std::alloc::AllocError;
 use ui_machine::ObjectId;
@@ -40,19 +44,43 @@ struct CalledMethod<'a> {
     method: MethodRef<'a>,
 }
 
-// The method of a name of an object's peer. Its kinds are known whatever the types are.
-fn method_called<'a>(engine: &'a Engine, object: ObjectId, name: &str) -> Option<CalledMethod<'a>>
+// The number of the method of a name of an object's class, which the instruction's link says.
+fn method_number(
+    engine: &Engine,
+    definition: &Definition,
+    object: ObjectId,
+    name: &str,
+    link: Link,
+) -> Option<usize>
     requires live { IsSome (living engine.now.world.table.objects object.0) }
+    requires link { LinksMethod definition.now engine.now.links name.now link }
+    ensures { (o : Object) → living engine.now.world.table.objects object.0 ≡ Some o → result ≡ place_named (λ m. m.name) (class_methods definition.now o.class) name.now }
+{
+    // For the proof: the clauses speak of the name.
+    let _ = name;
+    let class = engine.world.table.class_of(object);
+    let shape = definition.shape_number(class)?;
+    engine.links.method(shape, link.method())
+}
+
+// The method of a name of an object's peer. Its kinds are known whatever the types are.
+fn method_called<'a>(
+    engine: &'a Engine,
+    definition: &Definition,
+    object: ObjectId,
+    name: &str,
+    link: Link,
+) -> Option<CalledMethod<'a>>
+    requires live { IsSome (living engine.now.world.table.objects object.0) }
+    requires link { LinksMethod definition.now engine.now.links name.now link }
+    requires meanings { KeepsMeanings definition.now (world_of engine.now.world) }
     ensures called { known arms.Call (option_map called_view result) ≡ called_in (world_of engine.now.world) object.0 name.now }
     ensures known { (types : List GType) → IfSome result (λ called. HasKnownKinds types called.method) }
 {
     let Some(peer) = engine.world.table.peer_of(object) else {
         return None;
     };
-    let Some(seat) = engine.world.seats.seat(peer) else {
-        return None;
-    };
-    let Some(number) = seat.shape.find(name) else {
+    let Some(number) = method_number(engine, definition, object, name, link) else {
         return None;
     };
     let Some(method) = engine.world.seats.method(peer, number) else {
@@ -71,17 +99,18 @@ fn due_call(
     definition: &Definition,
     frame: &Frame,
     call: &Call,
+    link: Link,
 ) -> Result<DueCall, AllocError>
+    requires link { LinksMethod definition.now engine.now.links (string_bytes call.now.method) link }
+    requires meanings { KeepsMeanings definition.now (world_of engine.now.world) }
     requires able { Able (due_call definition.now (world_of engine.now.world) (frame_view frame.now)
         call.now.to.0 call.now.object.0 (string_bytes call.now.method) (map number_of call.now.args.items)) }
     ensures { IfOk result (λ due. due_call definition.now (world_of engine.now.world) (frame_view frame.now)
         call.now.to.0 call.now.object.0 (string_bytes call.now.method) (map number_of call.now.args.items) ≡ Ok (call_of due)) }
 {
-    // For the proof: the clauses speak of the definition.
-    let _ = definition;
     let object = object_in(engine, frame, call.object);
     let name = call.method.as_str();
-    let Some(called) = method_called(engine, object, name) else {
+    let Some(called) = method_called(engine, definition, object, name, link) else {
         unreachable!()
     };
     let registers = frame.registers.as_slice();
@@ -103,7 +132,10 @@ pub(crate) fn call_from_program(
     definition: &Definition,
     frame: Frame,
     call: &Call,
+    link: Link,
 ) -> Result<(), AllocError>
+    requires link { LinksMethod definition.now engine.now.links (string_bytes call.now.method) link }
+    requires meanings { KeepsMeanings definition.now (world_of engine.now.world) }
     requires able { Able (left engine.now.counted (in_front (agenda_of definition.now engine.now) (calling definition.now (world_of engine.now.world) (frame_view frame)
         call.now.to.0 call.now.object.0 (string_bytes call.now.method) (map number_of call.now.args.items)))) }
     requires names { LeadsToLiving (left engine.now.counted (in_front (agenda_of definition.now engine.now) (calling definition.now (world_of engine.now.world) (frame_view frame)
@@ -118,7 +150,7 @@ pub(crate) fn call_from_program(
     ensures counted { OnOk result (Counts definition.now nothing engine.new) }
     ensures room { SameRoom engine.old engine.new }
 {
-    let due = due_call(engine, definition, &frame, call)?;
+    let due = due_call(engine, definition, &frame, call, link)?;
     push_frame(engine, frame);
     push_task(engine, Task::Calling(due));
     Ok(())

@@ -111,7 +111,7 @@ pub(crate) fn emit_from_program(
     ensures counted { OnOk result (Counts definition.now nothing engine.new) }
     ensures room { SameRoom engine.old engine.new }
 {
-    let args = engine.spare_args.take(engine.alloc);
+    let args = engine.spare_args.take_for(engine.alloc, emit.args.len());
     let emission = new_emission(engine, definition, &frame, object, emit, args)?;
     frame.into = emit.into;
     push_frame(engine, frame);

@@ -5,6 +5,7 @@ ghost use Rattle.ui_machine.specs.Definition.Lookups.{program_at};
 ghost use Rattle.ui_machine.specs.Instructions.{instruction_step};
 ghost use Rattle.ui_machine.specs.Steps.{left};
 ghost use Rattle.g_values.specs.View.{IsKnown};
+ghost use Rattle.law_typing.specs.Good.Meanings.{KeepsMeanings};
 ghost use Rattle.frames.specs.FrameView.{frame_view};
 ghost use Rattle.bytecode.specs.Known.{HasKnownKinds};
 ghost use Rattle.bytecode.specs.View.{control_view, instruction_view, object_instruction_view, program_view, property_instruction_view, signal_instruction_view, source_instruction_view};
@@ -78,6 +79,7 @@ pub fn execute(
     requires program { program_at definition.now (frame_view frame).program ≡ Some (program_view program.now) }
     requires taken { instruction_at definition.now (frame_view frame).program (frame_view frame).block ((frame_view frame).at - 1) ≡ Some (instruction_view instruction.now) }
     requires known { HasKnownKinds definition.now.types instruction.now }
+    requires meanings { KeepsMeanings definition.now (world_of engine.now.world) }
     requires result { IfSome program.now.result (IsKnown definition.now.types) }
     requires counted { Counts definition.now (λ o. in_frame o (frame_view frame)) engine.now }
     requires room { HasRoom 2 engine.now }
@@ -112,7 +114,10 @@ pub fn execute(
             let link = link_of(engine, definition, &frame, instruction);
             execute_on_sources(engine, definition, frame, source, link)
         }
-        Instruction::Peer(call) => call_from_program(engine, definition, frame, call),
+        Instruction::Peer(call) => {
+            let link = link_of(engine, definition, &frame, instruction);
+            call_from_program(engine, definition, frame, call, link)
+        }
     }
 }
 
@@ -319,6 +324,7 @@ fn execute_on_sources(
     link: Link,
 ) -> Result<(), AllocError>
     requires link { IsLink definition.now engine.now.links (source_instruction_view instruction.now) link }
+    requires meanings { KeepsMeanings definition.now (world_of engine.now.world) }
     requires able { Able (left engine.now.counted (instruction_step definition.now (world_of engine.now.world) (agenda_of definition.now engine.now) (frame_view frame) (source_instruction_view instruction.now))) }
     requires counted { Counts definition.now (λ o. in_frame o (frame_view frame)) engine.now }
     requires room { HasRoom 1 engine.now }
@@ -331,7 +337,7 @@ fn execute_on_sources(
 {
     match instruction {
         SourceInstruction::Unbind(name) => {
-            unbind_from_program(engine, definition, frame, name.as_str());
+            unbind_from_program(engine, definition, frame, name.as_str(), link);
         }
         SourceInstruction::Idle {
             to,

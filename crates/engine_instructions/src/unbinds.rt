@@ -1,6 +1,6 @@
 //! `unbind`: a program ends a binding of the definition (GObject manual, GBinding: `g_binding_unbind`).
 
-ghost use Rattle.std.specs.Prelude.{◌≡◌, OnOk, OnErr};
+ghost use Rattle.std.specs.Prelude.{◌≡◌, Ok};
 ghost use Rattle.ui_machine.specs.Definition as machine;
 ghost use Rattle.ui_machine.specs.Instructions.{in_front};
 ghost use Rattle.ui_machine.specs.Instructions.Signals.{unbinding};
@@ -9,26 +9,43 @@ ghost use Rattle.ui_machine.specs.Steps.{left};
 ghost use Rattle.frames.specs.FrameView.{frame_view};
 ghost use Rattle.engine_world.specs.Counting.{Counts, KeepsCounts, in_frame, nothing};
 ghost use Rattle.engine_world.specs.EngineView.{config_of};
-ghost use Rattle.engine_world.specs.Able.{Able, Leads};
-ghost use Rattle.engine_world.specs.Quiet.{IsQuiet};
+ghost use Rattle.engine_world.specs.Able.{Able};
 ghost use Rattle.engine_world.specs.TaskView.{agenda_of};
 ghost use Rattle.engine_world.specs.Room.{HasRoom, SameRoom};
 ghost use Rattle.engine_world.specs.View.{world_of};
+ghost use Rattle.engine_instructions.specs.UnbindView.{without_numbers};
+ghost use Rattle.law_typing.specs.Good.Meanings.{KeepsMeanings};
+ghost use Rattle.linked_programs.specs.Linked.{LinksBindings};
 
+use bindings::Bindings;
 use definitions::Definition;
 use engine_world::engine::Engine;
 use engine_world::program_frames::push_frame;
 use frames::Frame;
-use std::alloc::AllocError;
+use linked_programs::Link;
 
-// The bindings of a name end.
-fn unbind(engine: &mut Engine, name: &str)
+// The bindings of some numbers end.
+fn unbind_numbered(bindings: &mut Bindings, numbers: &[u64])
+    ensures { bindings.new ≡ record bindings.old { bindings = without_numbers numbers.now bindings.old.bindings } }
+{
+    for number in numbers {
+        bindings.unbind_numbered(*number);
+    }
+}
+
+// The bindings of a name end, which the instruction's link says.
+fn unbind(engine: &mut Engine, definition: &Definition, name: &str, link: Link)
+    requires link { LinksBindings definition.now engine.now.links name.now link }
+    requires meanings { KeepsMeanings definition.now (world_of engine.now.world) }
     ensures world { world_of engine.new.world ≡ record (world_of engine.old.world) { bindings = bindings_without name.now (world_of engine.old.world).bindings } }
     ensures same { (engine.new.stack ≡ engine.old.stack) × (engine.new.counted ≡ engine.old.counted) }
     ensures handlers { engine.new.world.handlers ≡ engine.old.world.handlers }
     ensures counted { (d : machine.Definition) → KeepsCounts d engine.old engine.new }
 {
-    engine.world.bindings.unbind(name);
+    // For the proof: the clauses speak of the definition, and of the name.
+    let (_, _) = (definition, name);
+    let numbers = engine.links.bindings(link.bindings());
+    unbind_numbered(&mut engine.world.bindings, numbers);
 }
 
 /// The binding of a name ends, if it has not ended before.
@@ -37,7 +54,10 @@ pub(crate) fn unbind_from_program(
     definition: &Definition,
     frame: Frame,
     name: &str,
+    link: Link,
 )
+    requires link { LinksBindings definition.now engine.now.links name.now link }
+    requires meanings { KeepsMeanings definition.now (world_of engine.now.world) }
     requires able { Able (left engine.now.counted (in_front (agenda_of definition.now engine.now) (unbinding definition.now (world_of engine.now.world) (frame_view frame) name.now))) }
     requires counted { Counts definition.now (λ o. in_frame o (frame_view frame)) engine.now }
     requires room { HasRoom 1 engine.now }
@@ -46,8 +66,6 @@ pub(crate) fn unbind_from_program(
     ensures counted { Counts definition.now nothing engine.new }
     ensures room { SameRoom engine.old engine.new }
 {
-    // For the proof: the clauses speak of the definition.
-    let _ = definition;
-    unbind(engine, name);
+    unbind(engine, definition, name, link);
     push_frame(engine, frame);
 }

@@ -11,6 +11,7 @@ use Rattle.ui_machine.specs.Steps.{question}
 use Rattle.machine_laws.specs.FrontLaws.{fronted, fronted_at, mapped}
 use Rattle.machine_laws.proofs.FrontProofs.{question_stays, step_appends}
 use Rattle.machine_laws.proofs.FrontRuns.{steps_append}
+use Rattle.law_meanings.specs.Meanings.{HasMeanings}
 use Rattle.law_typing.specs.Good.Living.{AllNamesLiving}
 use Rattle.native_peers.specs.Seen.{Relations}
 use Rattle.engine_pools.specs.Courses.{fronted_point}
@@ -99,6 +100,9 @@ module _ (d : Definition) (front : List (List ℕ)) where
     room = n.room;
   }
 
+  meanings_kept : (c : Config) → HasMeanings d (fronted_at front c) → HasMeanings d c
+  meanings_kept c m = record { bindings = m.bindings; methods = m.methods }
+
   numbers_kept : (at : Config) → HasNumbersLeft (fronted_at front at) → HasNumbersLeft at
   numbers_kept at left = record { identities = left.identities; handlers = left.handlers }
 
@@ -118,6 +122,7 @@ module _ (d : Definition) (front : List (List ℕ)) where
         apt_kept at (question d at)
         (subst (λ (q : Option Question). IfSome q (IsApt d (fronted_at front at))) (question_stays front d at) (s.asks replies fit (fronted_at front at) (behind r)));
     names = λ replies fit at r. names_kept at (s.names replies fit (fronted_at front at) (behind r));
+    meanings = λ replies fit at r. meanings_kept at (s.meanings replies fit (fronted_at front at) (behind r));
     few = λ replies fit at r. s.few replies fit (fronted_at front at) (behind r);
     numbers = λ replies fit at r. numbers_kept at (s.numbers replies fit (fronted_at front at) (behind r));
   }

@@ -30,7 +30,11 @@ use Rattle.law_sessions.proofs.DispatchProofs.{both_fit}
 use Rattle.law_sessions.proofs.EntryProofs.{IsPrinted, build_printed, printed_few, request_printed, source_printed}
 use Rattle.law_sessions.proofs.KeepsProofs.{keeps}
 use Rattle.law_sessions.proofs.SessionProofs.{not_released, request_keeps, runs_source, source_keeps, turns}
-use Rattle.law_living.proofs.LivingProofs.{throughout}
+use Rattle.law_sessions.proofs.ThroughoutProofs.{throughout}
+use Rattle.law_living.proofs.LivingProofs.{all_living}
+use Rattle.law_meanings.proofs.MeaningProofs.{good_means}
+use Rattle.law_meanings.specs.Meanings.{HasMeanings}
+use Rattle.law_typing.specs.Good.Living.{AllNamesLiving}
 use Rattle.law_left_numbers.specs.Kin.{HasKinMade}
 use Rattle.law_left_numbers.proofs.HandlerProofs.{builds_have_handler_numbers, handler_numbers_last, requests_have_handler_numbers, sources_have_handler_numbers}
 use Rattle.law_left_numbers.proofs.RunProofs.{builds_have_identities, builds_have_kin_made, identities_last, requests_have_identities, sources_have_identities}
@@ -104,7 +108,8 @@ module _ (d : Definition) where
           most = depth (graph d) a.weighed.depths;
           safe = record { unstuck = kept.never_stuck; shallow = kept.shallow };
           asks = asks_on d a (bound_of d a e) steps_keep_good well few c good;
-          names = throughout d well a (bound_of d a e) few c good;
+          names = throughout d (AllNamesLiving d) (all_living d) well a (bound_of d a e) few c good;
+          meanings = throughout d (HasMeanings d) (good_means d) well a (bound_of d a e) few c good;
           few = λ replies fit at reached.
               let short = stacked_are_short at.agenda (stacks_last d replies c at reached stacked) in
               let shallow = kept.shallow replies fit at reached in

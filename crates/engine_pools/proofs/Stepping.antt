@@ -24,6 +24,8 @@ use Rattle.engine_world.specs.Standing.{Follows, GoesWithoutGone, gone_handlers,
 use Rattle.engine_pools.specs.QuietSteps.{IsSafeView, QuietlyStepped}
 use Rattle.engine_pools.specs.Safety.{HasFewTasks, HasNumbersLeft, NoneUnheld}
 use Rattle.engine_pools.proofs.Standing.{first_acts, first_follows, first_names, last_acts, last_follows}
+use Rattle.law_typing.specs.Good.Meanings.{KeepsMeanings}
+use Rattle.engine_pools.proofs.Meant.{meanings_alike}
 use Rattle.engine_pools.proofs.Named.{few_alike, numbers_alike}
 use Rattle.engine_pools.proofs.Reaching.{reaches_here}
 use Rattle.engine_world.proofs.Floats.{if_ok_at, first_gone}
@@ -113,6 +115,10 @@ view_numbers d c safe = numbers_alike safe.safe.at c safe.safe.stands.view (safe
 -- there are fewer tasks than there is room for
 pub view_few : (d : Definition) (room : ℕ) (c : Config) → IsSafeView d room c → HasFewTasks room c
 view_few d room c safe = few_alike room safe.safe.at c safe.safe.stands.view (safe.safe.safe.few [] tt safe.safe.at (reaches_here d safe.safe.at))
+
+-- names mean what they mean in the definition
+pub view_meanings : (d : Definition) {room : ℕ} (c : Config) → IsSafeView d room c → KeepsMeanings d c.world
+view_meanings d c safe = meanings_alike d safe.safe.at c safe.safe.stands.view (safe.safe.safe.meanings [] tt safe.safe.at (reaches_here d safe.safe.at))
 
 -- the step that finalises an object
 module _ (d : Definition) (c : Config) (id : ℕ) (unheld : next_unheld (mentions d c) c.world.objects ≡ Some id) where

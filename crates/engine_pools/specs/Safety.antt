@@ -1,4 +1,5 @@
--- Configurations from which nothing is ever stuck, each question is apt, all that is named lives, numbers are left, and tasks are few.
+-- Configurations from which nothing is ever stuck, each question is apt, all that is named lives, names mean what they mean in the
+-- definition, numbers are left, and tasks are few.
 use Rattle.std.specs.Prelude.{◌≡◌, ℕ, ◌<◌, IfSome, IsSomeAnd, None, length, slice_get}
 use Rattle.ui_machine.specs.Definition.{Definition}
 use Rattle.ui_machine.specs.State.Config.{Config}
@@ -8,6 +9,7 @@ use Rattle.ui_machine.specs.Steps.{question}
 use Rattle.law_left_numbers.specs.Handlers.{HasHandlerNumbers}
 use Rattle.law_left_numbers.specs.Identities.{HasIdentities}
 use Rattle.law_sessions.specs.Dispatches.{Throughout}
+use Rattle.law_meanings.specs.Meanings.{HasMeanings}
 use Rattle.law_sessions.specs.Safe.{Safe}
 use Rattle.law_typing.specs.Good.Living.{AllNamesLiving}
 use Rattle.engine_pools.specs.Following.{Point, Stands}
@@ -35,13 +37,15 @@ pub record HasNumbersLeft (c : Config) : Type 0 where
 abbrev pub HasFewTasks : (room : ℕ) → Config → Type 0
 HasFewTasks room c = length c.agenda < room
 
--- a configuration from which no run is stuck, or has more than so many frames, each question is apt, all that is named lives,
--- there are numbers for what is still to be made and connected, and there are fewer tasks than there is room for
+-- a configuration from which no run is stuck, or has more than so many frames, each question is apt, all that is named lives, names mean
+-- what they mean in the definition, there are numbers for what is still to be made and connected, and there are fewer tasks than there is
+-- room for
 pub record IsSafe (d : Definition) (room : ℕ) (c : Config) : Type 0 where
   pub most : ℕ
   pub safe : Safe d most c
   pub asks : Throughout d c (AsksAptly d)
   pub names : Throughout d c (AllNamesLiving d)
+  pub meanings : Throughout d c (HasMeanings d)
   pub numbers : Throughout d c HasNumbersLeft
   pub few : Throughout d c (HasFewTasks room)
 

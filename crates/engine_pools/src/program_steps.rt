@@ -4,6 +4,7 @@ ghost use Rattle.std.specs.Prelude.{OnOk, OnErr};
 ghost use Rattle.ui_machine.specs.Definition.Lookups.{program_at};
 ghost use Rattle.ui_machine.specs.Instructions.{running};
 ghost use Rattle.ui_machine.specs.Steps.{counted_left};
+ghost use Rattle.law_typing.specs.Good.Meanings.{KeepsMeanings};
 ghost use Rattle.frames.specs.FrameView.{frame_view};
 ghost use Rattle.engine_world.specs.Quiet.{IsQuiet};
 ghost use Rattle.engine_world.specs.Room.{HasRoom, SameRoom};
@@ -33,6 +34,7 @@ pub(crate) fn run_program(
 ) -> Result<(), AllocError>
     requires able { Able (counted_left engine.now.counted (running definition.now (world_of engine.now.world) (agenda_of definition.now engine.now) (frame_view frame))) }
     requires names { LeadsToLiving (counted_left engine.now.counted (running definition.now (world_of engine.now.world) (agenda_of definition.now engine.now) (frame_view frame))) }
+    requires meanings { KeepsMeanings definition.now (world_of engine.now.world) }
     requires counted { Counts definition.now (λ o. in_frame o (frame_view frame)) engine.now }
     requires room { HasRoom 2 engine.now }
     ensures step { LeadsWithoutGone result

@@ -6,6 +6,7 @@ ghost use Rattle.ui_machine.specs.Rules.Connections.{greatest_handler};
 ghost use Rattle.ui_machine.specs.State.Objects.{most_identities};
 ghost use Rattle.ui_machine.specs.State.References.{in_task};
 ghost use Rattle.ui_machine.specs.Steps.{act};
+ghost use Rattle.law_typing.specs.Good.Meanings.{KeepsMeanings};
 ghost use Rattle.engine_world.specs.KnownHandlers.{TakesKnownHandlers};
 ghost use Rattle.engine_world.specs.Quiet.{IsQuiet};
 ghost use Rattle.engine_world.specs.Room.{HasRoom, SameRoom};
@@ -54,6 +55,7 @@ pub(crate) fn act(
         (past_turns (world_of engine.now.world) (task_in definition.now engine.now task) ∷ agenda_of definition.now engine.now) engine.now.counted) }
     requires identities { length (world_of engine.now.world).objects + to_make (task_in definition.now engine.now task ∷ agenda_of definition.now engine.now) ≤ most_identities }
     requires numbers { (world_of engine.now.world).last_handler + to_connect (task_in definition.now engine.now task ∷ agenda_of definition.now engine.now) ≤ greatest_handler }
+    requires meanings { KeepsMeanings definition.now (world_of engine.now.world) }
     requires begun { TakesKnownHandlers engine.now.world.handlers.last task }
     requires counted { Counts definition.now (λ o. in_task o (task_in definition.now engine.now task)) engine.now }
     requires room { HasRoom 2 engine.now }

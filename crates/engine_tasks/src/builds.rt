@@ -225,7 +225,9 @@ pub fn construct(
     ensures room { SameRoom engine.old engine.new }
 {
     let Some(step) = steps.take() else {
-        return end_construction(engine, definition, object, held);
+        end_construction(engine, definition, object, held)?;
+        engine.spare_steps.give_back(steps.steps);
+        return Ok(());
     };
     match step {
         ConstructStep::Set { slot, value } => {

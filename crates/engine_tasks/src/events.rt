@@ -109,7 +109,7 @@ fn emit_from_event(
 {
     let object = held_object(engine, place);
     let detail = detail_in(engine, definition, object, signal, detail)?;
-    let mut values = engine.spare_args.take(engine.alloc);
+    let mut values = engine.spare_args.take_for(engine.alloc, args.len());
     add_operands(engine, args, &mut values)?;
     push_task(
         engine,

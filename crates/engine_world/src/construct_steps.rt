@@ -1,6 +1,6 @@
 //! Constructions: what is done once an object is made (GObject manual, `g_object_new_with_properties` and `GObjectClass.constructed`).
 
-ghost use Rattle.std.specs.Prelude.{◌≡◌, nat_eq, not, ◌&&◌, None, Some, option_copied, option_map, ◌++◌, OnOk, IfOk};
+ghost use Rattle.std.specs.Prelude.{◌≡◌, [], nat_eq, not, ◌&&◌, None, Some, option_copied, option_map, ◌++◌, OnOk, IfOk};
 ghost use Rattle.std.specs.List.{find};
 ghost use Rattle.ui_machine.specs.Definition.Properties as machine;
 ghost use Rattle.ui_machine.specs.Definition.Lookups.{class_of, specs_of, spec_of};
@@ -18,7 +18,7 @@ use definition_format::{Given, GivenValue};
 use definitions::Definition;
 use g_values::Value;
 use param_specs::Spec;
-use std::alloc::{AllocError, Global};
+use std::alloc::AllocError;
 use type_tree::TypeId;
 use ui_machine::{Place, Slot};
 
@@ -215,17 +215,17 @@ fn add_runs(
 
 /// What a construction does: the sets of the construct properties by slot, each to what is given or its default, then the programs of the
 /// class and its ancestors, the root's first, then the other given values in the given order, then the thaw. Forward references are left out.
-/// The steps are put together from the last one on.
+/// The steps are put together from the last one on, in a list that is empty yet.
 pub(crate) fn construction(
-    alloc: Global,
+    mut steps: Vec<ConstructStep>,
     definition: &Definition,
     class: TypeId,
     given: GivenAt<'_>,
 ) -> Result<ConstructSteps, AllocError>
+    requires { steps.items ≡ [] }
     ensures { IfOk result (λ steps. steps
         ≡ making_of_object definition.now (world_of given.entry.world.now) class (early given.entry.place.0 given.entry.entries.now)) }
 {
-    let mut steps = Vec::new(alloc);
     steps.push(ConstructStep::Thaw)?;
     add_later_sets(&mut steps, definition, class, given)?;
     add_runs(&mut steps, definition, class)?;

@@ -11,6 +11,7 @@ ghost use Rattle.engine_world.specs.TaskView.{agenda_of};
 use crate::reserves::{Room, Spare};
 use crate::seats::Seats;
 use crate::stacks::Stack;
+use crate::task::ConstructStep;
 use crate::world::World;
 use bindings::Bindings;
 use g_values::Value;
@@ -32,6 +33,8 @@ pub struct Engine {
     pub spare_registers: Spare<Option<Value>>,
     /// Lists for the arguments of the emissions that are to begin.
     pub spare_args: Spare<Value>,
+    /// Lists for the steps of the constructions that are to begin.
+    pub spare_steps: Spare<ConstructStep>,
     /// The counted steps of the dispatch.
     pub counted: u64,
     /// The peer that a step closed, by its number, for whoever has the peers to take.
@@ -79,7 +82,9 @@ impl Engine {
     {
         let stack = Stack::new(alloc, room.tasks)?;
         let spare_registers = Spare::new(alloc, room.frames, room.width)?;
-        let spare_args = Spare::new(alloc, room.frames, room.width)?;
+        let mut spare_args = Spare::new(alloc, room.frames, room.width)?;
+        spare_args.add_wide(alloc, room.wide_emissions.as_slice())?;
+        let spare_steps = Spare::new(alloc, room.constructions, room.steps)?;
         Ok(Engine {
             world: World {
                 table: Table::new(alloc, limits.objects),
@@ -98,6 +103,7 @@ impl Engine {
             links,
             spare_registers,
             spare_args,
+            spare_steps,
             counted: 0,
             closing: None,
             alloc,

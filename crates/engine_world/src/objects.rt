@@ -104,12 +104,13 @@ pub fn make(
     };
     let class = entry.class;
     let values = defaults(engine.alloc, definition, class)?;
+    let steps = engine.spare_steps.take(engine.alloc);
     let given = GivenAt {
         world: &engine.world,
         place,
         entries: entry.given,
     };
-    let steps = construction(engine.alloc, definition, class, given)?;
+    let steps = construction(steps, definition, class, given)?;
     count_got(
         &mut engine.world.got_peers,
         &engine.world.seats,

@@ -1,22 +1,31 @@
 //! The room that a run reserves for what is not done yet.
 
-ghost use Rattle.std.specs.Prelude.{◌≡◌, []};
+ghost use Rattle.std.specs.Prelude.{◌≡◌, ◌<◌, [], length, IfSome};
 
 use std::alloc::{AllocError, Global};
 use std::marker::Model;
+use std::mem;
 
-/// How much room a run has: for so many tasks, and for so many programs and emissions at a time, with so many registers or arguments each.
-#[derive(Clone, Copy, Debug)]
+/// How much room a run has: for so many tasks; for so many programs and emissions at a time, with so many registers or arguments each; for so
+/// many constructions at a time, with so many steps each; and for one emission of each of these numbers of arguments, where that is more.
+#[derive(Debug, Drop)]
 pub struct Room {
     pub tasks: usize,
     pub frames: usize,
     pub width: usize,
+    pub constructions: usize,
+    pub steps: usize,
+    pub wide_emissions: Vec<usize>,
 }
 
 /// Vectors that are not in use. They are empty, and keep their room. A contract sees nothing of them.
 #[derive(Drop)]
 pub struct Spare<T> {
+    /// Those of one room.
     vectors: Vec<Vec<T>>,
+    room: usize,
+    /// Those of more room each, and one without any at the place of each that is in use.
+    wide: Vec<Vec<T>>,
 }
 
 impl<T> Model for Spare<T> {
@@ -26,7 +35,7 @@ impl<T> Model for Spare<T> {
 
     ghost view = { λ s. tt };
 
-    ghost invariant = { λ s. All (λ v. v.items ≡ []) s.vectors.items };
+    ghost invariant = { λ s. All (λ v. v.items ≡ []) s.vectors.items × All (λ v. v.items ≡ []) s.wide.items };
 }
 
 impl<T: Drop> Spare<T> {
@@ -40,7 +49,23 @@ impl<T: Drop> Spare<T> {
         for _ in 0..count {
             vectors.push_reserved(Vec::with_capacity(alloc, room)?);
         }
-        Ok(Spare { vectors })
+        Ok(Spare {
+            vectors,
+            room,
+            wide: Vec::new(alloc),
+        })
+    }
+
+    /// One vector more for each of these numbers, with so much room.
+    ///
+    /// # Errors
+    ///
+    /// `AllocError` if memory is refused.
+    pub fn add_wide(&mut self, alloc: Global, rooms: &[usize]) -> Result<(), AllocError> {
+        for room in rooms {
+            self.wide.push(Vec::with_capacity(alloc, *room)?)?;
+        }
+        Ok(())
     }
 
     /// Takes a vector. It has the reserved room, while fewer are in use than were made.
@@ -53,11 +78,51 @@ impl<T: Drop> Spare<T> {
         }
     }
 
+    /// Takes a vector for so many values: where the others have not enough room, the one of the least room that has enough, if one is there.
+    pub fn take_for(&mut self, alloc: Global, count: usize) -> Vec<T>
+        ensures { result.items ≡ [] }
+    {
+        if count <= self.room {
+            return self.take(alloc);
+        }
+        match narrowest(&self.wide, count) {
+            Some(at) => mem::replace(&mut self.wide[at], Vec::new(alloc)),
+            None => Vec::new(alloc),
+        }
+    }
+
     /// Gives a vector back. What it holds is dropped.
     pub fn give_back(&mut self, mut vector: Vec<T>) {
         vector.clear();
-        if self.vectors.len() < self.vectors.capacity() {
+        if vector.capacity() > self.room {
+            self.give_back_wide(vector);
+        } else if self.vectors.len() < self.vectors.capacity() {
             self.vectors.push_reserved(vector);
         }
     }
+
+    // Puts a vector where one of more room is in use.
+    fn give_back_wide(&mut self, vector: Vec<T>)
+        requires { vector.items ≡ [] }
+    {
+        if let Some(at) = self.wide.iter().position(|other| other.capacity() == 0) {
+            self.wide[at] = vector;
+        }
+    }
+}
+
+// Where the vector of the least room is that has room for so many values.
+fn narrowest<T>(vectors: &[Vec<T>], count: usize) -> Option<usize>
+    ensures { IfSome result (λ at. at < length vectors.now) }
+{
+    let mut narrowest = None;
+    let mut least = usize::MAX;
+    for at in 0..vectors.len() {
+        let room = vectors[at].capacity();
+        if room >= count && room < least {
+            narrowest = Some(at);
+            least = room;
+        }
+    }
+    narrowest
 }

@@ -1,12 +1,14 @@
 -- The names of classes once they are added: name by name, and class by class.
-use Rattle.std.proofs.Common.{◌≡◌, ℕ, zero, suc, ◌+◌, ◌≤◌, Bool, true, false, cond, nat_eq, nat_lt, ◌&&◌, List, [], ◌∷◌, length, take, Option, None, Some, slice_get, refl, sym, ap, ◌∙◌, arith}
+use Rattle.std.proofs.Common.{◌≡◌, ℕ, zero, suc, ◌+◌, ◌≤◌, Bool, true, false, cond, nat_eq, nat_lt, ◌&&◌, List, [], ◌∷◌, length, take, Option, None, Some, slice_get, refl, sym, ap, ◌∙◌, inl, inr, arith}
+use Rattle.std.proofs.lemmas.Bool.{cases_eq}
 use Rattle.std.proofs.lemmas.Bool.Decides.{nat_tests}
 use Rattle.ui_machine.specs.Definition.{Definition}
 use Rattle.ui_machine.specs.Definition.Lookups.{class_of, no_class}
 use Rattle.ui_machine.specs.Definition.Names.{place_from, place_named, same_name}
 use Rattle.ui_machine.specs.Definition.Signals.{ClassHandler}
 use Rattle.ui_machine.specs.Rules.EmissionPlan.{handler_in, or_else}
-use Rattle.name_tables.specs.Names.{Adds, Named, number_of, with_number}
+use Rattle.name_tables.specs.Names.{with_number}
+use Rattle.name_tables.proofs.Numbers.{unchanged}
 use Rattle.linked_programs.specs.Steps.{AddsAll, signal_called, slot_called}
 use Rattle.linked_programs.proofs.Reading.{read-past}
 
@@ -61,40 +63,56 @@ take_past [] (suc n) past = refl
 take_past (x ∷ xs) zero past = absurd (omega (arith, past))
 take_past (x ∷ xs) (suc n) past = ap (λ l. x ∷ l) (take_past xs n (omega (arith, past)))
 
--- ** the names of a class
-
--- a number that no name gets
-unchanged : (number : ℕ) (o : Option ℕ) → with_number false number o ≡ o
-unchanged number None = refl
-unchanged number (Some old) = refl
+-- ** the names of a class, and the methods of a shape
 
 -- one name more, which counts where those before have none
-pub adds_more : (old now new : List Named) (class number : ℕ) (name : List ℕ) (before after : List ℕ → Option ℕ)
-    → AddsAll old now class before → Adds now new class name number → ((n : List ℕ) → after n ≡ with_number (same_name name n) number (before n))
-    → AddsAll old new class after
+pub adds_more : (old now new : ℕ → List ℕ → Option ℕ) (class number : ℕ) (name : List ℕ) (before after : List ℕ → Option ℕ)
+    → AddsAll old now class before → ((c : ℕ) (n : List ℕ) → new c n ≡ with_number (nat_eq c class && same_name name n) number (now c n))
+    → ((n : List ℕ) → after n ≡ with_number (same_name name n) number (before n)) → AddsAll old new class after
 adds_more old now new class number name before after added more counts c n =
     more c n ∙ ap (with_number (nat_eq c class && same_name name n) number) (added c n)
     ∙ by (nat_eq c class)
-    ∙ ap (λ o. cond (nat_eq c class) (or_else (number_of old c n) o) (number_of old c n)) (sym (counts n))
+    ∙ ap (λ o. cond (nat_eq c class) (or_else (old c n) o) (old c n)) (sym (counts n))
   where
     first : (o : Option ℕ) → with_number (same_name name n) number (or_else o (before n)) ≡ or_else o (with_number (same_name name n) number (before n))
     first None = refl
     first (Some k) = refl
 
-    by : (b : Bool) → with_number (b && same_name name n) number (cond b (or_else (number_of old c n) (before n)) (number_of old c n))
-        ≡ cond b (or_else (number_of old c n) (with_number (same_name name n) number (before n))) (number_of old c n)
-    by true = first (number_of old c n)
-    by false = unchanged number (number_of old c n)
+    by : (b : Bool) → with_number (b && same_name name n) number (cond b (or_else (old c n) (before n)) (old c n))
+        ≡ cond b (or_else (old c n) (with_number (same_name name n) number (before n))) (old c n)
+    by true = first (old c n)
+    by false = unchanged number (old c n)
 
--- ** the names of all classes
+-- ** the names of all classes, and the methods of all shapes
 
--- the names are those of so many classes
-abbrev pub HasUpTo : (ℕ → List ℕ → Option ℕ) → ℕ → List Named → Type 0
-HasUpTo called count names = (c : ℕ) (n : List ℕ) → number_of names c n ≡ cond (nat_lt c count) (called c n) None
+-- the names are those of so many
+abbrev pub HasUpTo : (ℕ → List ℕ → Option ℕ) → ℕ → (ℕ → List ℕ → Option ℕ) → Type 0
+HasUpTo called count has = (c : ℕ) (n : List ℕ) → has c n ≡ cond (nat_lt c count) (called c n) None
 
--- the names of all classes are those of every number, where classes past the last have none
-pub all_classes : (called : ℕ → List ℕ → Option ℕ) (count : ℕ) (names : List Named) → HasUpTo called count names
-    → ((c : ℕ) → count ≤ c → (n : List ℕ) → called c n ≡ None) → (c : ℕ) (n : List ℕ) → number_of names c n ≡ called c n
+-- one class more, or one shape more
+pub up_to_more : (called : ℕ → List ℕ → Option ℕ) (count : ℕ) (old new : ℕ → List ℕ → Option ℕ) (more : List ℕ → Option ℕ) → HasUpTo called count old
+    → AddsAll old new count more → ((n : List ℕ) → more n ≡ called count n) → HasUpTo called (count + 1) new
+up_to_more called count old new more has adds is c n = elim (cases_eq c count) [ inl same ↦ here same | inr other ↦ past other ]
+  where
+    here : c ≡ count → new c n ≡ cond (nat_lt c (count + 1)) (called c n) None
+    here same =
+        let last : nat_eq c count ≡ true = grind (arith, nat_tests) in
+        let not_yet : nat_lt c count ≡ false = grind (arith, nat_tests) in
+        let now : nat_lt c (count + 1) ≡ true = grind (arith, nat_tests) in
+        adds c n ∙ ap (λ b. cond b (or_else (old c n) (more n)) (old c n)) last
+        ∙ ap (λ o. or_else o (more n)) (has c n ∙ ap (λ b. cond b (called c n) None) not_yet)
+        ∙ is n ∙ ap (λ k. called k n) (sym same)
+        ∙ sym (ap (λ b. cond b (called c n) None) now)
+
+    past : (c ≡ count → ⊥) → new c n ≡ cond (nat_lt c (count + 1)) (called c n) None
+    past other =
+        let elsewhere : nat_eq c count ≡ false = grind (arith, nat_tests) in
+        let as_before : nat_lt c (count + 1) ≡ nat_lt c count = grind (arith, nat_tests) in
+        adds c n ∙ ap (λ b. cond b (or_else (old c n) (more n)) (old c n)) elsewhere ∙ has c n ∙ sym (ap (λ b. cond b (called c n) None) as_before)
+
+-- the names of all are those of every number, where those past the last have none
+pub all_classes : (called : ℕ → List ℕ → Option ℕ) (count : ℕ) (names : ℕ → List ℕ → Option ℕ) → HasUpTo called count names
+    → ((c : ℕ) → count ≤ c → (n : List ℕ) → called c n ≡ None) → (c : ℕ) (n : List ℕ) → names c n ≡ called c n
 all_classes called count names has past c n = has c n ∙ by (nat_lt c count) refl
   where
     by : (b : Bool) → nat_lt c count ≡ b → cond b (called c n) None ≡ called c n

@@ -4,48 +4,44 @@ use Rattle.ui_machine.specs.Seq.{read}
 use Rattle.ui_machine.specs.Definition.{Definition}
 use Rattle.ui_machine.specs.Definition.Programs.{Block, Instruction, Program}
 use Rattle.ui_machine.specs.Definition.Programs as words
-use Rattle.name_tables.specs.Names.{Named}
-use Rattle.linked_programs.specs.Linked.{IsDetail, IsLink, Linked, detail_in, instruction_at, link_at}
-use Rattle.linked_programs.specs.Steps.{LinksBlock, LinksBlocks, LinksPrograms, tables}
+use Rattle.linked_programs.specs.Linked.{IsDetail, IsLink, detail_in, instruction_at, link_at}
+use Rattle.linked_programs.specs.Steps.{LinksBlock, LinksBlocks, LinksPrograms, linked_by, tables_alone}
 use Rattle.linked_programs.specs.declared.link.Link.{Link}
+use Rattle.linked_programs.specs.declared.tables.Tables.{Tables}
 use Rattle.linked_programs.specs.declared.link.Link.TheVariants as links
 use Rattle.linked_programs.proofs.Linking.{pairwise_at}
 
--- the tables, with links
-abbrev with_links : List Named → List Named → List (List (Option ℕ)) → List (List (List Link)) → Linked
-with_links slots signals handlers all = record { slots = slots; signals = signals; handlers = handlers; programs = all }
-
 -- ** no link depends on the links
 
-module _ (d : Definition) (slots signals : List Named) (handlers : List (List (Option ℕ))) (all : List (List (List Link))) where
-  detailed : (detail : Option (List ℕ)) (at : Option ℕ) → IsDetail d (tables slots signals) detail at → IsDetail d (with_links slots signals handlers all) detail at
+module _ (d : Definition) (t : Tables) (handlers : List (List (Option ℕ))) (all : List (List (List Link))) where
+  detailed : (detail : Option (List ℕ)) (at : Option ℕ) → IsDetail d (tables_alone t) detail at → IsDetail d (linked_by t handlers all) detail at
   detailed None at so = tt
   detailed (Some name) at so = so
 
-  one_link : (i : Instruction) (link : Link) → IsLink d (tables slots signals) i link → IsLink d (with_links slots signals handlers all) i link
+  one_link : (i : Instruction) (link : Link) → IsLink d (tables_alone t) i link → IsLink d (linked_by t handlers all) i link
   one_link (words.emit into object signal detail args) link so = (so.0, detailed detail (detail_in link) so.1)
   one_link (words.connect to object c) link so = ((so.0.0, detailed c.detail (detail_in link) so.0.1), so.1)
   one_link _ link so = so
 
   -- ** place by place
 
-  pub all_linked : LinksPrograms d (tables slots signals) all
-      → (program block at : ℕ) → IfSome (instruction_at d program block at) (λ i. IsLink d (with_links slots signals handlers all) i (link_at all program block at))
+  pub all_linked : LinksPrograms d (tables_alone t) all
+      → (program block at : ℕ) → IfSome (instruction_at d program block at) (λ i. IsLink d (linked_by t handlers all) i (link_at all program block at))
   all_linked so program block at =
-      in_programs (slice_get d.programs program) (read [] all program) (pairwise_at (LinksBlocks d (tables slots signals)) d.programs all [] so program)
+      in_programs (slice_get d.programs program) (read [] all program) (pairwise_at (LinksBlocks d (tables_alone t)) d.programs all [] so program)
     where
-      in_block : (o : Option Instruction) (link : Link) → IfSome o (λ i. IsLink d (tables slots signals) i link) → IfSome o (λ i. IsLink d (with_links slots signals handlers all) i link)
+      in_block : (o : Option Instruction) (link : Link) → IfSome o (λ i. IsLink d (tables_alone t) i link) → IfSome o (λ i. IsLink d (linked_by t handlers all) i link)
       in_block None link so = tt
       in_block (Some i) link so = one_link i link so
 
-      in_blocks : (o : Option Block) (ls : List Link) → IfSome o (λ b. LinksBlock d (tables slots signals) b ls)
-          → IfSome (option_and_then (λ (b : Block). slice_get b.code at) o) (λ i. IsLink d (with_links slots signals handlers all) i (read links.Nothing ls at))
+      in_blocks : (o : Option Block) (ls : List Link) → IfSome o (λ b. LinksBlock d (tables_alone t) b ls)
+          → IfSome (option_and_then (λ (b : Block). slice_get b.code at) o) (λ i. IsLink d (linked_by t handlers all) i (read links.Nothing ls at))
       in_blocks None ls so = tt
-      in_blocks (Some b) ls so = in_block (slice_get b.code at) (read links.Nothing ls at) (pairwise_at (IsLink d (tables slots signals)) b.code ls links.Nothing so at)
+      in_blocks (Some b) ls so = in_block (slice_get b.code at) (read links.Nothing ls at) (pairwise_at (IsLink d (tables_alone t)) b.code ls links.Nothing so at)
 
-      in_programs : (o : Option Program) (bs : List (List Link)) → IfSome o (λ p. LinksBlocks d (tables slots signals) p bs)
+      in_programs : (o : Option Program) (bs : List (List Link)) → IfSome o (λ p. LinksBlocks d (tables_alone t) p bs)
           → IfSome (option_and_then (λ (b : Block). slice_get b.code at) (option_and_then (λ (p : Program). slice_get p.blocks block) o))
-          (λ i. IsLink d (with_links slots signals handlers all) i (read links.Nothing (read [] bs block) at))
+          (λ i. IsLink d (linked_by t handlers all) i (read links.Nothing (read [] bs block) at))
       in_programs None bs so = tt
       in_programs (Some p) bs so =
-          in_blocks (slice_get p.blocks block) (read [] bs block) (pairwise_at (LinksBlock d (tables slots signals)) p.blocks bs [] so block)
+          in_blocks (slice_get p.blocks block) (read [] bs block) (pairwise_at (LinksBlock d (tables_alone t)) p.blocks bs [] so block)

@@ -1,5 +1,7 @@
 mod Adding
 mod AllLinked
-mod Linking
-mod Reading
 mod Handling
+mod Interning
+mod Linking
+mod Naming
+mod Reading

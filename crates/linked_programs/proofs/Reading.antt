@@ -37,10 +37,10 @@ read-past none [] i over = refl
 read-past none (x ∷ xs) zero over = absurd (omega arith)
 read-past none (x ∷ xs) (suc i) over = read-past none xs i (omega arith)
 
-seen-there : {A B : Type 0} (view : A → B) (none : B) (xs : List A) (i : ℕ) (x : A) → slice_get xs i ≡ Some x → read none (map view xs) i ≡ view x
+pub seen-there : {A B : Type 0} (view : A → B) (none : B) (xs : List A) (i : ℕ) (x : A) → slice_get xs i ≡ Some x → read none (map view xs) i ≡ view x
 seen-there view none xs i x at = read-there none (map view xs) i (view x) (slice_get-map view xs i ∙ ap (option_map view) at)
 
-seen-past : {A B : Type 0} (view : A → B) (none : B) (xs : List A) (i : ℕ) → length xs ≤ i → read none (map view xs) i ≡ none
+pub seen-past : {A B : Type 0} (view : A → B) (none : B) (xs : List A) (i : ℕ) → length xs ≤ i → read none (map view xs) i ≡ none
 seen-past view none xs i over = let same = length-map xs view in read-past none (map view xs) i (omega (arith, same, over))
 
 -- a row, as it is seen

@@ -1,23 +1,33 @@
 -- What the names in programs mean.
-use Rattle.std.specs.Prelude.{◌≡◌, ℕ, List, [], Option, None, Some, IfSome, option_and_then, option_map, slice_get}
+use Rattle.std.specs.BTreeMap.{is_at}
+use Rattle.std.specs.List.{list_any}
+use Rattle.std.specs.Map.{lookup}
+use Rattle.std.specs.Ordering.{nat_cmp}
+use Rattle.std.specs.Prelude.{◌≡◌, ℕ, nat_eq, List, [], Option, None, Some, IfSome, option_and_then, option_map, slice_get}
 use Rattle.ui_machine.specs.Definition.{Definition}
-use Rattle.ui_machine.specs.Definition.Names.{canonical}
 use Rattle.ui_machine.specs.Definition.Programs.{Block, Connect, Instruction, Program}
 use Rattle.ui_machine.specs.Definition.Programs as words
 use Rattle.ui_machine.specs.Definition.Lookups.{place_of, program_at, program_of, slot_of}
+use Rattle.ui_machine.specs.Definition.Names.{canonical, place_named}
+use Rattle.ui_machine.specs.Definition.Signals.{Method}
 use Rattle.ui_machine.specs.Rules.Connections.{signal_number}
 use Rattle.ui_machine.specs.Rules.EmissionPlan.{class_handler_of, signal_of}
 use Rattle.ui_machine.specs.Seq.{read}
+use Rattle.ui_machine.specs.State.Bindings.{is_name}
+use Rattle.law_typing.specs.Good.Meanings.{binding_name, shape_methods}
 use Rattle.name_tables.specs.Names.{Named, number_by, number_of}
 use Rattle.linked_programs.specs.declared.link.Link.{Link}
 use Rattle.ui_machine.specs.declared.ids.Place.{Place}
 use Rattle.linked_programs.specs.declared.link.Link.TheVariants as links
 
--- what is kept of a definition: the names of its properties and of its signals, the programs that its classes run for signals, by class and
--- number, and of each instruction of each block of each program what its names mean
+-- what is kept of a definition: the names of its properties and of its signals; of each name of a method, the shapes that have one, each
+-- with the number of its method of that name; of each name of a binding, the numbers of the bindings of that name; the programs that its classes run for
+-- signals, by class and number; and of each instruction of each block of each program what its names mean
 pub record Linked : Type 0 where
   pub slots : List Named
   pub signals : List Named
+  pub methods : List (List (ℕ × ℕ))
+  pub bindings : List (List ℕ)
   pub handlers : List (List (Option ℕ))
   pub programs : List (List (List Link))
 
@@ -28,6 +38,19 @@ AreSlots d names = (class : ℕ) (name : List ℕ) → number_of names class (ca
 -- the names of signals are those of a definition, with their numbers
 abbrev pub AreSignals : Definition → List Named → Type 0
 AreSignals d names = (class : ℕ) (name : List ℕ) → number_of names class (canonical name) ≡ signal_number d class name
+
+-- the number that a row has for a shape
+abbrev pub number_in : List (ℕ × ℕ) → (shape : ℕ) → Option ℕ
+number_in row shape = lookup (is_at (nat_cmp shape)) row
+
+-- the number of the method of a shape, by the place of the method's name
+abbrev pub method_by : List (List (ℕ × ℕ)) → (shape : ℕ) → Option ℕ → Option ℕ
+method_by methods shape at = option_and_then (λ (row : List (ℕ × ℕ)). number_in row shape) (option_and_then (slice_get methods) at)
+
+-- the numbers of the bindings of a name, by its place
+abbrev pub numbers_by : List (List ℕ) → Option ℕ → List ℕ
+numbers_by bindings None = []
+numbers_by bindings (Some at) = read [] bindings at
 
 -- the program that a class runs for the signal of a number
 abbrev pub handler_at : List (List (Option ℕ)) → ℕ → ℕ → Option ℕ
@@ -51,6 +74,14 @@ IsSignal d l name at = (class : ℕ) → number_by l.signals class at ≡ signal
 abbrev pub IsDetail : Definition → Linked → Option (List ℕ) → Option ℕ → Type 0
 IsDetail d l None at = Unit {0}
 IsDetail d l (Some detail) at = IsProperty d l detail at × IfSome at (λ n. option_map (λ (named : Named). named.name) (slice_get l.slots n) ≡ Some (canonical detail))
+
+-- the numbers at a place are those of the methods that are called so
+abbrev pub IsMethod : Definition → Linked → List ℕ → Option ℕ → Type 0
+IsMethod d l name at = (shape : ℕ) → method_by l.methods shape at ≡ place_named (λ (m : Method). m.name) (shape_methods (slice_get d.shapes shape)) name
+
+-- the numbers at a place are those of the bindings that are called so
+abbrev pub IsCalled : Definition → Linked → List ℕ → Option ℕ → Type 0
+IsCalled d l name at = (number : ℕ) → list_any (nat_eq number) (numbers_by l.bindings at) ≡ is_name name (binding_name d number)
 
 -- ** what a link says; nothing where it does not speak of it
 
@@ -77,6 +108,14 @@ detail_in (links.Emission signal detail) = detail
 detail_in (links.Connection signal detail number) = detail
 detail_in _ = None
 
+abbrev pub method_in : Link → Option ℕ
+method_in (links.Method at) = at
+method_in _ = None
+
+abbrev pub bindings_in : Link → Option ℕ
+bindings_in (links.Bindings at) = at
+bindings_in _ = None
+
 -- ** what the names of an instruction mean
 
 abbrev pub LinksProperty : Definition → Linked → List ℕ → Link → Type 0
@@ -94,6 +133,12 @@ LinksEmission d l name detail link = IsSignal d l name (signal_in link) × IsDet
 abbrev pub LinksConnection : Definition → Linked → Connect → Link → Type 0
 LinksConnection d l c link = LinksEmission d l c.signal c.detail link × LinksProgram d c.program link
 
+abbrev pub LinksMethod : Definition → Linked → List ℕ → Link → Type 0
+LinksMethod d l name link = IsMethod d l name (method_in link)
+
+abbrev pub LinksBindings : Definition → Linked → List ℕ → Link → Type 0
+LinksBindings d l name link = IsCalled d l name (bindings_in link)
+
 -- a link says what the names of an instruction mean
 abbrev pub IsLink : Definition → Linked → Instruction → Link → Type 0
 IsLink d l (words.get to object property) link = LinksProperty d l property link
@@ -109,6 +154,8 @@ IsLink d l (words.unblock object program) link = LinksProgram d program link
 IsLink d l (words.idle to program priority with) link = LinksProgram d program link
 IsLink d l (words.timeout to program priority interval with) link = LinksProgram d program link
 IsLink d l (words.remove program) link = LinksProgram d program link
+IsLink d l (words.call to object method args) link = LinksMethod d l method link
+IsLink d l (words.unbind name) link = LinksBindings d l name link
 IsLink d l _ link = Unit {0}
 
 -- ** of all programs

@@ -1,15 +1,20 @@
 -- What the steps that link programs do.
-use Rattle.std.specs.Prelude.{◌≡◌, ℕ, cond, nat_eq, List, [], ◌∷◌, Option}
+use Rattle.std.specs.List.{list_any}
+use Rattle.std.specs.Prelude.{◌≡◌, ℕ, cond, nat_eq, ◌&&◌, List, [], ◌∷◌, ◌++◌, Option, slice_get}
 use Rattle.ui_machine.specs.Definition.{Definition}
 use Rattle.ui_machine.specs.Definition.Lookups.{class_of, specs_of}
-use Rattle.ui_machine.specs.Definition.Names.{place_named}
+use Rattle.ui_machine.specs.Definition.Names.{place_named, same_name}
 use Rattle.ui_machine.specs.Definition.Programs.{Block, Program}
 use Rattle.ui_machine.specs.Definition.Properties.{Spec}
-use Rattle.ui_machine.specs.Definition.Signals.{Signal}
+use Rattle.ui_machine.specs.Definition.Signals.{Method, Signal}
 use Rattle.ui_machine.specs.Rules.EmissionPlan.{class_handler_of, or_else}
-use Rattle.name_tables.specs.Names.{Named, number_of}
-use Rattle.linked_programs.specs.Linked.{IsLink, Linked}
+use Rattle.ui_machine.specs.State.Bindings.{is_name}
+use Rattle.law_typing.specs.Good.Meanings.{binding_name, shape_methods}
+use Rattle.name_tables.specs.Names.{Named, number_of, with_number}
+use Rattle.linked_programs.specs.Linked.{AreSignals, AreSlots, IsLink, Linked}
+use Rattle.linked_programs.specs.Rows.{NamedRows, method_of, numbers_of}
 use Rattle.linked_programs.specs.declared.link.Link.{Link}
+use Rattle.linked_programs.specs.declared.tables.Tables.{Tables}
 
 -- ** names
 
@@ -22,9 +27,8 @@ abbrev pub signal_called : Definition → ℕ → List ℕ → Option ℕ
 signal_called d class name = place_named (λ (s : Signal). s.name) (class_of d class).signals name
 
 -- nothing differs but that a class has the names that this has a number for, each under its number, where it did not have them
-abbrev pub AddsAll : List Named → List Named → ℕ → (List ℕ → Option ℕ) → Type 0
-AddsAll old new class called =
-    (c : ℕ) (n : List ℕ) → number_of new c n ≡ cond (nat_eq c class) (or_else (number_of old c n) (called n)) (number_of old c n)
+abbrev pub AddsAll : (ℕ → List ℕ → Option ℕ) → (ℕ → List ℕ → Option ℕ) → ℕ → (List ℕ → Option ℕ) → Type 0
+AddsAll old new class called = (c : ℕ) (n : List ℕ) → new c n ≡ cond (nat_eq c class) (or_else (old c n) (called n)) (old c n)
 
 -- ** class handlers
 
@@ -36,11 +40,46 @@ AreHandlerNames d names = (class : ℕ) (name : List ℕ) → number_of names cl
 abbrev pub IsHandler : Definition → ℕ → Signal → Option ℕ → Type 0
 IsHandler d class s program = program ≡ class_handler_of d class s.name
 
+-- ** methods and bindings
+
+-- the number of the method of a shape that is called so
+abbrev pub method_called : Definition → (shape : ℕ) → List ℕ → Option ℕ
+method_called d shape name = place_named (λ (m : Method). m.name) (shape_methods (slice_get d.shapes shape)) name
+
+-- nothing differs but that a shape has a method of this name and number, where it had none of the name
+abbrev pub AddsMethod : NamedRows (List (ℕ × ℕ)) → NamedRows (List (ℕ × ℕ)) → (shape : ℕ) → List ℕ → ℕ → Type 0
+AddsMethod old new shape name number =
+    (s : ℕ) (n : List ℕ) → method_of new s n ≡ with_number (nat_eq s shape && same_name name n) number (method_of old s n)
+
+-- the methods are those of a definition's shapes
+abbrev pub AreMethods : Definition → NamedRows (List (ℕ × ℕ)) → Type 0
+AreMethods d methods = (shape : ℕ) (name : List ℕ) → method_of methods shape name ≡ method_called d shape name
+
+-- nothing differs but that a binding of this number has this name
+abbrev pub AddsBinding : NamedRows (List ℕ) → NamedRows (List ℕ) → List ℕ → ℕ → Type 0
+AddsBinding old new name number = (n : List ℕ) → numbers_of new n ≡ cond (same_name name n) (numbers_of old n ++ number ∷ []) (numbers_of old n)
+
+-- the bindings are those of a definition
+abbrev pub AreBindings : Definition → NamedRows (List ℕ) → Type 0
+AreBindings d bindings = (number : ℕ) (name : List ℕ) → list_any (nat_eq number) (numbers_of bindings name) ≡ is_name name (binding_name d number)
+
 -- ** links
 
+-- the tables have the names of a definition
+pub record AreTables (d : Definition) (t : Tables) : Type 0 where
+  pub slots : AreSlots d t.slots
+  pub signals : AreSignals d t.signals
+  pub methods : AreMethods d t.methods
+  pub bindings : AreBindings d t.bindings
+
+-- the tables, with the programs that classes run and the links of programs
+abbrev pub linked_by : Tables → List (List (Option ℕ)) → List (List (List Link)) → Linked
+linked_by t handlers programs =
+    record { slots = t.slots; signals = t.signals; methods = t.methods.rows; bindings = t.bindings.rows; handlers = handlers; programs = programs }
+
 -- the tables alone: no link depends on the links of programs
-abbrev pub tables : List Named → List Named → Linked
-tables slots signals = record { slots = slots; signals = signals; handlers = []; programs = [] }
+abbrev pub tables_alone : Tables → Linked
+tables_alone t = linked_by t [] []
 
 -- two lists are equally long, and what is at one place of both is related
 abbrev pub ArePairwise : {A B : Type 0} → (A → B → Type 0) → List A → List B → Type 0

@@ -19,7 +19,7 @@ fn add_handlers(
     definition: &Definition,
     class: TypeId,
 ) -> Result<(), AllocError>
-    ensures { OnOk result (AddsAll names.old names.new class (handler_in (class_of definition.now class).handlers)) }
+    ensures { OnOk result (AddsAll (number_of names.old) (number_of names.new) class (handler_in (class_of definition.now class).handlers)) }
 {
     let handlers = definition.class_handlers(class);
     for at in 0..handlers.len() {

@@ -1,6 +1,7 @@
 //! The names of what classes have, each with the numbers that it has in them.
 
 ghost use Rattle.std.specs.Prelude.{◌≡◌, IfOk, OnOk};
+ghost use Rattle.name_tables.specs.Names.{number_of};
 ghost use Rattle.linked_programs.specs.Linked.{AreSignals, AreSlots};
 ghost use Rattle.linked_programs.specs.Steps.{AddsAll, signal_called, slot_called};
 
@@ -16,7 +17,7 @@ fn add_slots(
     definition: &Definition,
     class: TypeId,
 ) -> Result<(), AllocError>
-    ensures { OnOk result (AddsAll names.old names.new class (slot_called definition.now class)) }
+    ensures { OnOk result (AddsAll (number_of names.old) (number_of names.new) class (slot_called definition.now class)) }
 {
     // For the proof: how many properties a class has at most.
     let _slots = definition.slots(class);
@@ -52,7 +53,7 @@ fn add_signals(
     definition: &Definition,
     class: TypeId,
 ) -> Result<(), AllocError>
-    ensures { OnOk result (AddsAll names.old names.new class (signal_called definition.now class)) }
+    ensures { OnOk result (AddsAll (number_of names.old) (number_of names.new) class (signal_called definition.now class)) }
 {
     // For the proof: how many signals a class has at most.
     let _count = definition.signal_count(class);

@@ -1,14 +1,19 @@
 //! Linked programs: what the names in a definition's programs mean, found once, as a session starts.
 //!
-//! A program names properties and signals, other programs, objects and prototypes. Which property or signal of a class a name means depends on
-//! the class of the object that the instruction acts on, so that it is linked to a place in a table of names; the others have one meaning.
+//! A program names properties, signals and methods, bindings, other programs, objects and prototypes. Which property or signal of a class a name
+//! means depends on the class of the object that the instruction acts on, and which method on the shape of its peer, so that these are linked to
+//! places in tables of names, as are bindings, of which several may have one name; the others have one meaning.
 #![tactic(auto)]
 
+mod binding_rows;
 mod class_handlers;
 mod class_names;
 mod link;
 mod links;
+mod method_rows;
+mod named_rows;
 mod programs;
+mod tables;
 
 pub use link::Link;
 pub use links::Links;

@@ -1,7 +1,7 @@
 //! What the names of an instruction mean.
 
 ghost use Rattle.std.specs.Prelude.{◌≡◌};
-ghost use Rattle.linked_programs.specs.Linked.{detail_in, place_in, program_in, property_in, signal_in};
+ghost use Rattle.linked_programs.specs.Linked.{bindings_in, detail_in, method_in, place_in, program_in, property_in, signal_in};
 
 use name_tables::NameId;
 use ui_machine::{Place, ProgramId};
@@ -9,7 +9,7 @@ use ui_machine::{Place, ProgramId};
 /// What the names of an instruction mean. A name that nothing has means nothing: no instruction of an accepted definition has one.
 #[derive(Clone, Copy, Debug, PartialEq, Eq)]
 pub enum Link {
-    /// The instruction has no names, or one that its object knows: a method or a binding.
+    /// The instruction has no names.
     Nothing,
     /// A property, by the place of its name.
     Property(Option<NameId>),
@@ -28,6 +28,10 @@ pub enum Link {
         detail: Option<NameId>,
         program: Option<ProgramId>,
     },
+    /// A method, by the place of its name.
+    Method(Option<NameId>),
+    /// The bindings of a name, by the place of the name.
+    Bindings(Option<NameId>),
 }
 
 impl Link {
@@ -77,6 +81,26 @@ impl Link {
     {
         match self {
             Link::Emission { detail, .. } | Link::Connection { detail, .. } => detail,
+            _ => None,
+        }
+    }
+
+    /// The method that it names.
+    pub fn method(self) -> Option<NameId>
+        ensures { result ≡ method_in self }
+    {
+        match self {
+            Link::Method(method) => method,
+            _ => None,
+        }
+    }
+
+    /// The bindings that it names.
+    pub fn bindings(self) -> Option<NameId>
+        ensures { result ≡ bindings_in self }
+    {
+        match self {
+            Link::Bindings(bindings) => bindings,
             _ => None,
         }
     }

@@ -7,27 +7,26 @@ ghost use Rattle.signal_core.specs.Emission.{begun};
 ghost use Rattle.signal_core.specs.Laws.{walk_for};
 ghost use Rattle.definition_format.specs.Meaning.{planned};
 ghost use Rattle.name_tables.specs.Names.{number_by};
-ghost use Rattle.linked_programs.specs.Linked.{AreLinked, handler_at, link_at};
+ghost use Rattle.linked_programs.specs.Linked.{AreLinked, handler_at, link_at, method_by, numbers_by};
 
 use crate::class_handlers::class_handlers;
-use crate::class_names::{signal_names, slot_names};
 use crate::link::Link;
 use crate::programs::link_programs;
+use crate::tables::Tables;
 use bytecode::BlockNumber;
 use definitions::Definition;
-use name_tables::{NameId, NameTable};
+use name_tables::NameId;
 use signal_core::Emission;
 use std::alloc::{AllocError, Global};
 use std::marker::Model;
 use type_tree::TypeId;
 use ui_machine::{ObjectId, ProgramId, SignalId, Slot};
 
-/// What the names in a definition's programs mean: the slots and numbers of properties and signals, by class and name, and the link of each
-/// instruction.
+/// What the names in a definition's programs mean: the slots and numbers of properties and signals, by class and name, the numbers of methods, by
+/// shape and name, those of bindings, by name, and the link of each instruction.
 #[derive(Drop)]
 pub struct Links {
-    slots: NameTable,
-    signals: NameTable,
+    tables: Tables,
     /// The programs that classes run for signals, by class and the signal's number.
     handlers: Vec<Vec<Option<ProgramId>>>,
     /// By program, block and instruction.
@@ -37,10 +36,11 @@ pub struct Links {
 impl Model for Links {
     ghost use Rattle.std.specs.Prelude.{map};
     ghost use Rattle.linked_programs.specs.Linked.{Linked};
+    ghost use Rattle.linked_programs.specs.Steps.{linked_by};
 
     ghost Value = { Linked };
 
-    ghost view = { λ l. record { slots = l.slots; signals = l.signals; handlers = map (λ row. row.items) l.handlers.items; programs = map (λ p. map (λ b. b.items) p.items) l.programs.items } };
+    ghost view = { λ l. linked_by l.tables (map (λ row. row.items) l.handlers.items) (map (λ p. map (λ b. b.items) p.items) l.programs.items) };
 }
 
 impl Links {
@@ -52,13 +52,11 @@ impl Links {
     pub fn new(alloc: Global, definition: &Definition) -> Result<Links, AllocError>
         ensures { IfOk result (AreLinked definition.now) }
     {
-        let slots = slot_names(alloc, definition)?;
-        let signals = signal_names(alloc, definition)?;
+        let tables = Tables::new(alloc, definition)?;
         let handlers = class_handlers(alloc, definition)?;
-        let programs = link_programs(alloc, definition, &slots, &signals)?;
+        let programs = link_programs(alloc, definition, &tables)?;
         Ok(Links {
-            slots,
-            signals,
+            tables,
             handlers,
             programs,
         })
@@ -84,14 +82,31 @@ impl Links {
     pub fn slot(&self, class: TypeId, name: Option<NameId>) -> Option<Slot>
         ensures { result ≡ number_by self.now.slots class name }
     {
-        self.slots.number(class, name?)
+        self.tables.slots.number(class, name?)
     }
 
     /// The number of a class's signal of a name.
     pub fn signal(&self, class: TypeId, name: Option<NameId>) -> Option<SignalId>
         ensures { result ≡ number_by self.now.signals class name }
     {
-        self.signals.number(class, name?)
+        self.tables.signals.number(class, name?)
+    }
+
+    /// The number of a shape's method of a name.
+    pub fn method(&self, shape: usize, name: Option<NameId>) -> Option<usize>
+        ensures { result ≡ method_by self.now.methods shape name }
+    {
+        self.tables.methods.number(shape, name?)
+    }
+
+    /// The numbers of the definition's bindings of a name.
+    pub fn bindings(&self, name: Option<NameId>) -> &[u64]
+        ensures { result.now ≡ numbers_by self.now.bindings name }
+    {
+        match name {
+            Some(name) => self.tables.bindings.numbers(name),
+            None => &[],
+        }
     }
 
     // The program that a class runs for the signal of a number.
@@ -139,7 +154,7 @@ impl Links {
     pub fn property_name(&self, name: NameId) -> Option<&str>
         ensures { option_map (λ text. text.now) result ≡ option_map (λ n. n.name) (slice_get self.now.slots name) }
     {
-        self.slots.name(name)
+        self.tables.slots.name(name)
     }
 }
 

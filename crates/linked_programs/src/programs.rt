@@ -4,10 +4,11 @@ ghost use Rattle.std.specs.Prelude.{◌≡◌, IfOk, IfSome, Some, map, option_m
 ghost use Rattle.ui_machine.specs.Definition.Names.{canonical};
 ghost use Rattle.bytecode.specs.View.{block_view, connect_view, instruction_view, object_instruction_view, program_view, property_instruction_view, signal_instruction_view, source_instruction_view};
 ghost use Rattle.name_tables.specs.Names.{place_of};
-ghost use Rattle.linked_programs.specs.Linked.{AreSignals, AreSlots, IsDetail, IsLink, IsSignal, LinksConnection};
-ghost use Rattle.linked_programs.specs.Steps.{LinksBlock, LinksBlocks, LinksPrograms, tables};
+ghost use Rattle.linked_programs.specs.Linked.{IsDetail, IsLink, IsSignal, LinksConnection};
+ghost use Rattle.linked_programs.specs.Steps.{AreTables, LinksBlock, LinksBlocks, LinksPrograms, tables_alone};
 
 use crate::link::Link;
+use crate::tables::Tables;
 use bytecode::{
     Block, Connection, Instruction, ObjectInstruction, Program, PropertyInstruction,
     SignalInstruction, SourceInstruction,
@@ -17,15 +18,13 @@ use name_tables::{NameId, NameTable};
 use signal_core::canonical_text;
 use std::alloc::{AllocError, Global};
 
-/// What the names in a definition's programs are looked up in: the definition, and the tables of all its properties and signals.
+/// What the names in a definition's programs are looked up in: the definition, and the tables of its names.
 #[derive(Clone, Copy)]
 struct Names<'a> {
     definition: &'a Definition,
-    slots: &'a NameTable,
-    signals: &'a NameTable,
+    tables: &'a Tables,
     alloc: Global,
-    ghost all_slots: { AreSlots definition.now slots.now },
-    ghost all_signals: { AreSignals definition.now signals.now },
+    ghost all: { AreTables definition.now tables.now },
 }
 
 // Where a name is in a table, in any spelling.
@@ -40,21 +39,21 @@ fn find(alloc: Global, names: &NameTable, name: &str) -> Result<Option<NameId>, 
 impl Names<'_> {
     // The place of a property's name.
     fn property(&self, name: &str) -> Result<Option<NameId>, AllocError>
-        ensures { IfOk result (IsDetail self.now.definition.now (tables self.now.slots.now self.now.signals.now) (Some name.now)) }
+        ensures { IfOk result (IsDetail self.now.definition.now (tables_alone self.now.tables.now) (Some name.now)) }
     {
-        find(self.alloc, self.slots, name)
+        find(self.alloc, &self.tables.slots, name)
     }
 
     // The place of a signal's name.
     fn signal(&self, name: &str) -> Result<Option<NameId>, AllocError>
-        ensures { IfOk result (IsSignal self.now.definition.now (tables self.now.slots.now self.now.signals.now) name.now) }
+        ensures { IfOk result (IsSignal self.now.definition.now (tables_alone self.now.tables.now) name.now) }
     {
-        find(self.alloc, self.signals, name)
+        find(self.alloc, &self.tables.signals, name)
     }
 
     // The place of the property that a detail would name.
     fn detail(&self, detail: &Option<String>) -> Result<Option<NameId>, AllocError>
-        ensures { IfOk result (IsDetail self.now.definition.now (tables self.now.slots.now self.now.signals.now) (option_map string_bytes detail.now)) }
+        ensures { IfOk result (IsDetail self.now.definition.now (tables_alone self.now.tables.now) (option_map string_bytes detail.now)) }
     {
         match detail {
             Some(detail) => self.property(detail.as_str()),
@@ -64,7 +63,7 @@ impl Names<'_> {
 
     // The link of an instruction on properties.
     fn on_properties(&self, instruction: &PropertyInstruction) -> Result<Link, AllocError>
-        ensures { IfOk result (IsLink self.now.definition.now (tables self.now.slots.now self.now.signals.now) (property_instruction_view instruction.now)) }
+        ensures { IfOk result (IsLink self.now.definition.now (tables_alone self.now.tables.now) (property_instruction_view instruction.now)) }
     {
         match instruction {
             PropertyInstruction::Get { property, .. }
@@ -78,7 +77,7 @@ impl Names<'_> {
 
     // The link of an instruction on objects.
     fn on_objects(&self, instruction: &ObjectInstruction) -> Link
-        ensures { IsLink self.now.definition.now (tables self.now.slots.now self.now.signals.now) (object_instruction_view instruction.now) result }
+        ensures { IsLink self.now.definition.now (tables_alone self.now.tables.now) (object_instruction_view instruction.now) result }
     {
         match instruction {
             ObjectInstruction::LookUp { id, .. } | ObjectInstruction::New { id, .. } => {
@@ -93,7 +92,7 @@ impl Names<'_> {
 
     // The link of a connection.
     fn connection(&self, connection: &Connection) -> Result<Link, AllocError>
-        ensures { IfOk result (LinksConnection self.now.definition.now (tables self.now.slots.now self.now.signals.now) (connect_view connection.now)) }
+        ensures { IfOk result (LinksConnection self.now.definition.now (tables_alone self.now.tables.now) (connect_view connection.now)) }
     {
         let signal = self.signal(connection.signal.as_str())?;
         let detail = self.detail(&connection.detail)?;
@@ -106,7 +105,7 @@ impl Names<'_> {
 
     // The link of an instruction on signals.
     fn on_signals(&self, instruction: &SignalInstruction) -> Result<Link, AllocError>
-        ensures { IfOk result (IsLink self.now.definition.now (tables self.now.slots.now self.now.signals.now) (signal_instruction_view instruction.now)) }
+        ensures { IfOk result (IsLink self.now.definition.now (tables_alone self.now.tables.now) (signal_instruction_view instruction.now)) }
     {
         match instruction {
             SignalInstruction::Emit { signal, detail, .. } => {
@@ -126,7 +125,7 @@ impl Names<'_> {
 
     // The link of an instruction on sources.
     fn on_sources(&self, instruction: &SourceInstruction) -> Link
-        ensures { IsLink self.now.definition.now (tables self.now.slots.now self.now.signals.now) (source_instruction_view instruction.now) result }
+        ensures { IsLink self.now.definition.now (tables_alone self.now.tables.now) (source_instruction_view instruction.now) result }
     {
         match instruction {
             SourceInstruction::Idle { program, .. }
@@ -134,28 +133,31 @@ impl Names<'_> {
             | SourceInstruction::Remove(program) => {
                 Link::Program(self.definition.program_number(program.as_str()))
             }
-            SourceInstruction::Unbind(_) => Link::Nothing,
+            SourceInstruction::Unbind(name) => {
+                Link::Bindings(self.tables.bindings.find(name.as_str()))
+            }
         }
     }
 
     // The link of an instruction.
     fn link(&self, instruction: &Instruction) -> Result<Link, AllocError>
-        ensures { IfOk result (IsLink self.now.definition.now (tables self.now.slots.now self.now.signals.now) (instruction_view instruction.now)) }
+        ensures { IfOk result (IsLink self.now.definition.now (tables_alone self.now.tables.now) (instruction_view instruction.now)) }
     {
         match instruction {
             Instruction::Property(instruction) => self.on_properties(instruction),
             Instruction::Object(instruction) => Ok(self.on_objects(instruction)),
             Instruction::Signal(instruction) => self.on_signals(instruction),
             Instruction::Source(instruction) => Ok(self.on_sources(instruction)),
-            Instruction::Compute { .. } | Instruction::Control(_) | Instruction::Peer(_) => {
-                Ok(Link::Nothing)
+            Instruction::Peer(call) => {
+                Ok(Link::Method(self.tables.methods.find(call.method.as_str())))
             }
+            Instruction::Compute { .. } | Instruction::Control(_) => Ok(Link::Nothing),
         }
     }
 
     // The links of a block's instructions.
     fn block(&self, block: &Block) -> Result<Vec<Link>, AllocError>
-        ensures { IfOk result (λ links. LinksBlock self.now.definition.now (tables self.now.slots.now self.now.signals.now) (block_view block.now) links.items) }
+        ensures { IfOk result (λ links. LinksBlock self.now.definition.now (tables_alone self.now.tables.now) (block_view block.now) links.items) }
     {
         let mut links = Vec::with_capacity(self.alloc, block.code.len())?;
         for instruction in &block.code {
@@ -166,7 +168,7 @@ impl Names<'_> {
 
     // The links of a program's blocks.
     fn program(&self, program: &Program) -> Result<Vec<Vec<Link>>, AllocError>
-        ensures { IfOk result (λ blocks. LinksBlocks self.now.definition.now (tables self.now.slots.now self.now.signals.now) (program_view program.now) (map (λ b. b.items) blocks.items)) }
+        ensures { IfOk result (λ blocks. LinksBlocks self.now.definition.now (tables_alone self.now.tables.now) (program_view program.now) (map (λ b. b.items) blocks.items)) }
     {
         let mut blocks = Vec::with_capacity(self.alloc, program.blocks.len())?;
         for block in &program.blocks {
@@ -176,7 +178,7 @@ impl Names<'_> {
     }
 }
 
-/// The links of all programs of a definition, by program, block and instruction. The tables have the names of all its properties and signals.
+/// The links of all programs of a definition, by program, block and instruction. The tables have all its names.
 ///
 /// # Errors
 ///
@@ -184,17 +186,14 @@ impl Names<'_> {
 pub(crate) fn link_programs(
     alloc: Global,
     definition: &Definition,
-    slots: &NameTable,
-    signals: &NameTable,
+    tables: &Tables,
 ) -> Result<Vec<Vec<Vec<Link>>>, AllocError>
-    requires slots { AreSlots definition.now slots.now }
-    requires signals { AreSignals definition.now signals.now }
-    ensures { IfOk result (λ programs. LinksPrograms definition.now (tables slots.now signals.now) (map (λ p. map (λ b. b.items) p.items) programs.items)) }
+    requires { AreTables definition.now tables.now }
+    ensures { IfOk result (λ programs. LinksPrograms definition.now (tables_alone tables.now) (map (λ p. map (λ b. b.items) p.items) programs.items)) }
 {
     let names = Names {
         definition,
-        slots,
-        signals,
+        tables,
         alloc,
     };
     // For the proof: how many programs there are at most.

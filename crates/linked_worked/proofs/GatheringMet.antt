@@ -42,7 +42,7 @@ is_on name = same_name (codes "on") (canonical name)
 abbrev is_amount : List ℕ → Bool
 is_amount name = same_name (codes "amount") (canonical name)
 
-slots : (class : ℕ) (name : List ℕ) → number_of linked.slots class (canonical name) ≡ slot_of definition class name
+pub slots : (class : ℕ) (name : List ℕ) → number_of linked.slots class (canonical name) ≡ slot_of definition class name
 slots zero name = in_first (is_on name) (is_amount name)
 slots (suc zero) name = in_second (is_on name) (is_amount name)
 slots (suc (suc zero)) name = in_third (is_on name) (is_amount name)
@@ -75,7 +75,7 @@ past_fourth : (class : ℕ) (b : Bool) → number_by linked.signals (suc (suc (s
 past_fourth class true = refl
 past_fourth class false = refl
 
-signals : (class : ℕ) (name : List ℕ) → number_of linked.signals class (canonical name) ≡ signal_number definition class name
+pub signals : (class : ℕ) (name : List ℕ) → number_of linked.signals class (canonical name) ≡ signal_number definition class name
 signals zero name = notified_0 (is_notify name)
 signals (suc zero) name = notified_1 (is_notify name)
 signals (suc (suc zero)) name = notified_2 (is_notify name)
@@ -84,7 +84,7 @@ signals (suc (suc (suc (suc class)))) name = past_fourth class (is_notify name)
 
 -- ** class handlers
 
-handlers : (class number : ℕ) → IfSome (signal_of definition class number) (λ s. handler_at linked.handlers class number ≡ class_handler_of definition class s.name)
+pub handlers : (class number : ℕ) → IfSome (signal_of definition class number) (λ s. handler_at linked.handlers class number ≡ class_handler_of definition class s.name)
 handlers zero zero = refl
 handlers zero (suc number) = tt
 handlers (suc zero) zero = refl

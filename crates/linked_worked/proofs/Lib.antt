@@ -1,1 +1,2 @@
+mod CallsMet
 mod GatheringMet

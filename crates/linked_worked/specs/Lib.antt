@@ -1,1 +1,2 @@
+pub mod LinkedCalls
 pub mod LinkedGathering

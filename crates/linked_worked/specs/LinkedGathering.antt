@@ -1,5 +1,5 @@
--- The links of a definition in which a pair is followed: the names of its properties and signals, and what its two programs name. No class
--- names a program for a signal.
+-- The links of a definition in which a pair is followed: the names of its properties and signals, and what its two programs name. It has no
+-- shapes, its bindings have no names, and no class names a program for a signal.
 use Rattle.std.specs.Prelude.{[], ◌∷◌, codes, None, Some}
 use Rattle.law_worked.specs.Gathering.{definition}
 use Rattle.linked_programs.specs.Linked.{AreLinked, Linked}
@@ -21,6 +21,8 @@ abbrev pub linked : Linked
 linked = record {
   slots = on ∷ amount ∷ [];
   signals = notify ∷ [];
+  methods = [];
+  bindings = [];
   handlers = [];
   programs =
       ((links.Place (Some (record { 0 = 1 })) ∷ links.Nothing ∷ []) ∷ (links.Nothing ∷ []) ∷ (links.Nothing ∷ links.Property (Some 1) ∷ links.Nothing ∷ []) ∷ [])

@@ -1,8 +1,9 @@
 -- The number that a name has, found entry by entry, and what a new entry or new numbers of an entry do to it.
-use Rattle.std.proofs.Common.{◌≡◌, ℕ, zero, suc, ◌+◌, Bool, true, false, cond, nat_eq, ◌&&◌, is_some, List, [], ◌∷◌, ◌++◌, length, Option, None, Some, option_map, option_and_then, slice_get, true≢false, refl, sym, ap, ◌∙◌, arith}
-use Rattle.std.proofs.lemmas.Option.{none-some}
+use Rattle.std.proofs.Common.{◌≡◌, ℕ, zero, suc, ◌+◌, Bool, true, false, cond, nat_eq, ◌&&◌, is_some, List, [], ◌∷◌, ◌++◌, length, Option, None, Some, option_map, option_and_then, slice_get, true≢false, refl, sym, ap, ◌∙◌, ◌<◌, arith}
+use Rattle.std.proofs.lemmas.Option.{none-some, slice_get_within}
 use Rattle.std.proofs.lemmas.Slice.Eq.{bytes_eq-Decides}
 use Rattle.ui_machine.specs.Definition.Names.{same_name, place_from}
+use Rattle.ui_machine.specs.Rules.EmissionPlan.{or_else}
 use Rattle.ui_machine.specs.Seq.{read}
 use Rattle.type_tree.proofs.Lookups.{same_name-bytes_eq}
 use Rattle.name_tables.specs.Names.{Named, Adds, SameNumbers, number_by, number_of, place_of, with_number}
@@ -12,10 +13,10 @@ use Rattle.name_tables.proofs.Numbers.{unchanged}
 -- ** names
 
 -- names that are one are equal
-same-equal : (a b : List ℕ) → same_name a b ≡ true → a ≡ b
+pub same-equal : (a b : List ℕ) → same_name a b ≡ true → a ≡ b
 same-equal a b h = sym ((bytes_eq-Decides b a).0 (sym (same_name-bytes_eq b a) ∙ h))
 
-same-self : (a : List ℕ) → same_name a a ≡ true
+pub same-self : (a : List ℕ) → same_name a a ≡ true
 same-self a = same_name-bytes_eq a a ∙ (bytes_eq-Decides a a).1 refl
 
 -- ** entry by entry
@@ -214,27 +215,47 @@ with_name-same xs name c n = by (is_some (place_of xs name))
     by true = refl
     by false = number_of-found more c n ∙ found-more xs name c n ∙ sym (number_of-found xs c n)
 
--- it comes last
-place_from-last : (i : ℕ) (xs : List Named) (x : Named) → place_from (λ n. n.name) i xs x.name ≡ None → place_from (λ n. n.name) i (xs ++ x ∷ []) x.name ≡ Some (i + length xs)
-place_from-last i [] x h =
-    let zero_more : i ≡ i + 0 = omega arith in
-    ap (λ b. cond b (Some i) None) (same-self x.name) ∙ ap Some zero_more
-place_from-last i (y ∷ xs) x h = by (same_name y.name x.name) refl (place_from-last (suc i) xs x)
+-- one entry more is found where none before is called so
+place_from-more : (i : ℕ) (xs : List Named) (x : Named) (n : List ℕ)
+    → place_from (λ k. k.name) i (xs ++ x ∷ []) n ≡ or_else (place_from (λ k. k.name) i xs n) (cond (same_name x.name n) (Some (i + length xs)) None)
+place_from-more i [] x n = let zero_more : i ≡ i + 0 = omega arith in ap (λ k. cond (same_name x.name n) (Some k) None) zero_more
+place_from-more i (y ∷ xs) x n = by (same_name y.name n) (place_from-more (suc i) xs x n)
   where
     next : Option ℕ
-    next = place_from (λ n. n.name) (suc i) xs x.name
+    next = place_from (λ k. k.name) (suc i) xs n
 
     last : Option ℕ
-    last = place_from (λ n. n.name) (suc i) (xs ++ x ∷ []) x.name
+    last = place_from (λ k. k.name) (suc i) (xs ++ x ∷ []) n
 
-    by : (b : Bool) → same_name y.name x.name ≡ b → (next ≡ None → last ≡ Some (suc i + length xs))
-        → cond (same_name y.name x.name) (Some i) last ≡ Some (i + suc (length xs))
-    by true is rest = absurd (none-some i (sym h ∙ ap (λ b. cond b (Some i) next) is))
-    by false is rest =
+    by : (b : Bool) → last ≡ or_else next (cond (same_name x.name n) (Some (suc i + length xs)) None)
+        → cond b (Some i) last ≡ or_else (cond b (Some i) next) (cond (same_name x.name n) (Some (i + suc (length xs))) None)
+    by true rest = refl
+    by false rest =
         let shift : suc i + length xs ≡ i + suc (length xs) = omega arith in
-        ap (λ b. cond b (Some i) last) is ∙ rest (sym (ap (λ b. cond b (Some i) next) is) ∙ h) ∙ ap Some shift
+        rest ∙ ap (λ k. or_else next (cond (same_name x.name n) (Some k) None)) shift
 
+pub place_of-more : (xs : List Named) (x : Named) (n : List ℕ) → place_of (xs ++ x ∷ []) n ≡ or_else (place_of xs n) (cond (same_name x.name n) (Some (length xs)) None)
+place_of-more xs x n =
+    let none_before : 0 + length xs ≡ length xs = omega arith in
+    place_from-more 0 xs x n ∙ ap (λ k. or_else (place_of xs n) (cond (same_name x.name n) (Some k) None)) none_before
+
+-- a new one comes last
 pub place_of-last : (xs : List Named) (x : Named) → place_of xs x.name ≡ None → place_of (xs ++ x ∷ []) x.name ≡ Some (length xs)
 place_of-last xs x h =
-    let none_before : 0 + length xs ≡ length xs = omega arith in
-    place_from-last 0 xs x h ∙ ap Some none_before
+    place_of-more xs x x.name
+    ∙ ap (λ o. or_else o (cond (same_name x.name x.name) (Some (length xs)) None)) h
+    ∙ ap (λ b. cond b (Some (length xs)) None) (same-self x.name)
+
+-- ** places
+
+-- the place of a name is within the names
+pub place_of-within : (xs : List Named) (name : List ℕ) (at : ℕ) → place_of xs name ≡ Some at → at < length xs
+place_of-within xs name at place = by (slice_get xs at) refl (called_at xs name at place)
+  where
+    by : (o : Option Named) → slice_get xs at ≡ o → option_map (λ (n : Named). n.name) (slice_get xs at) ≡ Some name → at < length xs
+    by None is called = absurd (none-some name (sym (ap (option_map (λ (n : Named). n.name)) is) ∙ called))
+    by (Some n) is called = slice_get_within xs at n is
+
+-- names at one place are one
+pub place_of-one : (xs : List Named) (a b : List ℕ) (at : ℕ) → place_of xs a ≡ Some at → place_of xs b ≡ Some at → a ≡ b
+place_of-one xs a b at one two = let same : Some a ≡ Some b = sym (called_at xs a at one) ∙ called_at xs b at two in cc

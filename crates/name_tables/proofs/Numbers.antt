@@ -8,11 +8,11 @@ use Rattle.name_tables.specs.Names.{with_number}
 use Rattle.name_tables.specs.Steps.{ReadsSame, GivesNumber}
 
 -- a list that got an empty place reads the same
-pub read-more : (xs : List (Option ℕ)) (c : ℕ) → read None (xs ++ None ∷ []) c ≡ read None xs c
-read-more [] zero = refl
-read-more [] (suc c) = refl
-read-more (x ∷ xs) zero = refl
-read-more (x ∷ xs) (suc c) = read-more xs c
+pub read-more : {A : Type 0} (none : A) (xs : List A) (c : ℕ) → read none (xs ++ none ∷ []) c ≡ read none xs c
+read-more none [] zero = refl
+read-more none [] (suc c) = refl
+read-more none (x ∷ xs) zero = refl
+read-more none (x ∷ xs) (suc c) = read-more none xs c
 
 first-not : (c : ℕ) → nat_eq (suc c) 0 ≡ false
 first-not c = grind (arith, nat_tests)
@@ -24,18 +24,18 @@ both-next : (c i : ℕ) → nat_eq (suc c) (suc i) ≡ nat_eq c i
 both-next c i = grind (arith, nat_tests)
 
 -- what is written at a place is read there, and only there
-pub read-set : (xs : List (Option ℕ)) (i c : ℕ) (y : Option ℕ) → i < length xs → read None (set xs i y) c ≡ cond (nat_eq c i) y (read None xs c)
-read-set [] i c y h = absurd (omega arith)
-read-set (x ∷ xs) zero zero y h = refl
-read-set (x ∷ xs) zero (suc c) y h = sym (ap (λ b. cond b y (read None xs c)) (first-not c))
-read-set (x ∷ xs) (suc i) zero y h = sym (ap (λ b. cond b y x) (not-first i))
-read-set (x ∷ xs) (suc i) (suc c) y h = read-set xs i c y (omega arith) ∙ sym (ap (λ b. cond b y (read None xs c)) (both-next c i))
+pub read-set : {A : Type 0} (none : A) (xs : List A) (i c : ℕ) (y : A) → i < length xs → read none (set xs i y) c ≡ cond (nat_eq c i) y (read none xs c)
+read-set none [] i c y h = absurd (omega arith)
+read-set none (x ∷ xs) zero zero y h = refl
+read-set none (x ∷ xs) zero (suc c) y h = sym (ap (λ b. cond b y (read none xs c)) (first-not c))
+read-set none (x ∷ xs) (suc i) zero y h = sym (ap (λ b. cond b y x) (not-first i))
+read-set none (x ∷ xs) (suc i) (suc c) y h = read-set none xs i c y (omega arith) ∙ sym (ap (λ b. cond b y (read none xs c)) (both-next c i))
 
 -- what is read within a list is there
-pub read-get_or : (xs : List (Option ℕ)) (i : ℕ) (d : Option ℕ) → i < length xs → read None xs i ≡ get_or xs i d
-read-get_or [] i d h = absurd (omega arith)
-read-get_or (x ∷ xs) zero d h = refl
-read-get_or (x ∷ xs) (suc i) d h = read-get_or xs i d (omega arith)
+pub read-get_or : {A : Type 0} (none : A) (xs : List A) (i : ℕ) (d : A) → i < length xs → read none xs i ≡ get_or xs i d
+read-get_or none [] i d h = absurd (omega arith)
+read-get_or none (x ∷ xs) zero d h = refl
+read-get_or none (x ∷ xs) (suc i) d h = read-get_or none xs i d (omega arith)
 
 -- what a look-up by index says is read
 module _ (xs items : List (Option ℕ)) (i c : ℕ) (is : xs ≡ items) (same : i ≡ c) where
@@ -50,7 +50,7 @@ module _ (xs items : List (Option ℕ)) (i c : ℕ) (is : xs ≡ items) (same : 
   pub read-some : (d : Option ℕ) → true ≡ nat_lt i (length xs) → d ≡ get_or xs i d → read None items c ≡ d
   read-some d h at =
       let within : i < length xs = grind (arith, nat_tests) in
-      moved ∙ read-get_or xs i d within ∙ sym at
+      moved ∙ read-get_or None xs i d within ∙ sym at
 
 -- a number that comes to another class leaves what is there
 pub unchanged : (number : ℕ) (o : Option ℕ) → with_number false number o ≡ o
@@ -73,7 +73,7 @@ same-number c i h = grind (arith, nat_tests)
 module _ (old new : List (Option ℕ)) (place number : ℕ) (same : ReadsSame old new) where
   -- where no number was, the written one is the class's
   pub gives-written : place < length new → is_some (read None new place) ≡ false → GivesNumber old (set new place (Some number)) place number
-  gives-written within none c = read-set new place c (Some number) within ∙ by (nat_eq c place) refl
+  gives-written within none c = read-set None new place c (Some number) within ∙ by (nat_eq c place) refl
     where
       by : (b : Bool) → nat_eq c place ≡ b → cond b (Some number) (read None new c) ≡ with_number b number (read None old c)
       by true is =

@@ -5,7 +5,7 @@ use Rattle.std.specs.Map.{keys_of, values_of}
 use Rattle.std.specs.Str.{bytes_eq}
 use Rattle.std.proofs.lemmas.Iterator.Adapters.{position_from-zero}
 use Rattle.std.proofs.lemmas.List.{length-map, map-append}
-use Rattle.std.proofs.lemmas.Option.{none-some, slice_get_within}
+use Rattle.std.proofs.lemmas.Option.{none-some}
 use Rattle.ui_machine.specs.Seq.{read}
 use Rattle.indexmap.specs.IndexMap.{IndexMap, get_by_text, insert_entry, set_value_at}
 use Rattle.indexmap.proofs.CallerLemmas.{insert_entry-new}
@@ -13,7 +13,7 @@ use Rattle.ui_machine.specs.Definition.Names.{same_name, place_from}
 use Rattle.type_tree.proofs.Lookups.{same_name-bytes_eq}
 use Rattle.name_tables.specs.Names.{Named, Adds, SameNumbers, number_at, place_of, with_number}
 use Rattle.name_tables.specs.Steps.{with_name, ReadsSame, GivesNumber}
-use Rattle.name_tables.proofs.Lookups.{set_numbers, numbers_of, called_at, set_numbers-same, set_numbers-adds, with_name-same}
+use Rattle.name_tables.proofs.Lookups.{set_numbers, numbers_of, place_of-within, set_numbers-same, set_numbers-adds, with_name-same}
 
 -- an entry of the map
 abbrev pub Row : Type 0
@@ -49,11 +49,7 @@ numbers-value (e ∷ es) (suc i) v h = numbers-value es i v h
 
 -- the place of a name is within the map
 pub place-within : (es : List Row) (name : List ℕ) (i : ℕ) → place_of (map named es) name ≡ Some i → i < length es
-place-within es name i place = by (slice_get (map named es) i) refl (called_at (map named es) name i place)
-  where
-    by : (o : Option Named) → slice_get (map named es) i ≡ o → option_map (λ (n : Named). n.name) (slice_get (map named es) i) ≡ Some name → i < length es
-    by None is called = absurd (none-some name (sym (ap (option_map (λ (n : Named). n.name)) is) ∙ called))
-    by (Some n) is called = subst (λ k. i < k) (length-map es named) (slice_get_within (map named es) i n is)
+place-within es name i place = subst (λ k. i < k) (length-map es named) (place_of-within (map named es) name i place)
 
 -- the number of an entry's name
 pub number-entry : (es : List Row) (i c : ℕ) (e : Row) → slice_get es i ≡ Some e → number_at (map named es) c i ≡ read None e.1.items c

@@ -39,21 +39,12 @@ impl NameTable {
         }
     }
 
-    /// A class has a name under this number, unless it has it already.
+    /// The place of a name, which has one from then on; a new name has no number in any class yet.
     ///
     /// # Errors
     ///
-    /// `AllocError` if memory is refused. No name's number has changed then.
-    pub fn add(&mut self, class: TypeId, name: &str, number: u16) -> Result<(), AllocError>
-        ensures ok { OnOk result (Adds self.old self.new class name.now number) }
-        ensures err { OnErr result (SameNumbers self.old self.new) }
-    {
-        let place = self.place(name)?;
-        give_number(&mut self.names[place], class.index(), number)
-    }
-
-    // The place of a name, which has one from then on.
-    fn place(&mut self, name: &str) -> Result<NameId, AllocError>
+    /// `AllocError` if memory is refused. The table is as it was.
+    pub fn intern(&mut self, name: &str) -> Result<NameId, AllocError>
         ensures ok { OnOk result (self.new ≡ with_name self.old name.now) }
         ensures found { IfOk result (λ at. place_of self.new name.now ≡ Some at) }
         ensures err { OnErr result (self.new ≡ self.old) }
@@ -66,6 +57,19 @@ impl NameTable {
         let key = String::from_str(alloc, name)?;
         self.names.insert(key, Vec::new(alloc))?;
         Ok(place)
+    }
+
+    /// A class has a name under this number, unless it has it already.
+    ///
+    /// # Errors
+    ///
+    /// `AllocError` if memory is refused. No name's number has changed then.
+    pub fn add(&mut self, class: TypeId, name: &str, number: u16) -> Result<(), AllocError>
+        ensures ok { OnOk result (Adds self.old self.new class name.now number) }
+        ensures err { OnErr result (SameNumbers self.old self.new) }
+    {
+        let place = self.intern(name)?;
+        give_number(&mut self.names[place], class.index(), number)
     }
 
     /// Each class that has no number of its own under a name gets that of its parent, if its parent has one, from the root down.

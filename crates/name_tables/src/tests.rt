@@ -48,6 +48,18 @@ fn a_name_that_no_class_has_is_nowhere(rt: HostRuntime) -> Result<(), Fail> {
     Ok(())
 }
 
+#[test]
+fn a_name_keeps_the_place_that_it_got(rt: HostRuntime) -> Result<(), Fail> {
+    let mut table = NameTable::new(rt.alloc());
+    assert_eq!(rt; table.intern("label")?, 0);
+    assert_eq!(rt; table.intern("visible")?, 1);
+    assert_eq!(rt; table.intern("label")?, 0);
+    assert_eq!(rt; table.find("visible"), Some(1));
+    assert_eq!(rt; table.name(1), Some("visible"));
+    assert_eq!(rt; table.number(TypeId::new(0), 1), None);
+    Ok(())
+}
+
 // A tree in which a widget is 2, a button under it 3, a toggle under that 4, a label under the widget 5, and a timer of another line 6.
 fn widgets(alloc: Global) -> Result<TypeTree, AllocError> {
     let mut tree = TypeTree::new(alloc)?;

@@ -7,6 +7,7 @@
 mod cores;
 mod endings;
 mod faults;
+mod rooms;
 mod session;
 mod starts;
 

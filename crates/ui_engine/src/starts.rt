@@ -1,6 +1,6 @@
 //! How sessions begin: the pool is matched, and an engine is made that knows it.
 
-ghost use Rattle.std.specs.Prelude.{◌≡◌, ◌+◌, ◌*◌, [], ◌∷◌, ◌++◌, codes, map, vec_capacity, Some, IfErr, IfOk, OnOk};
+ghost use Rattle.std.specs.Prelude.{◌≡◌, [], ◌∷◌, ◌++◌, codes, map, vec_capacity, Some, IfErr, IfOk, OnOk};
 ghost use Rattle.ui_machine.specs.Output.Lines as lines;
 ghost use Rattle.ui_machine.specs.Runs.{first_world};
 ghost use Rattle.ui_machine.specs.State.Config.{said};
@@ -12,10 +12,10 @@ ghost use Rattle.engine_world.specs.View.{world_of};
 ghost use Rattle.engine_pools.specs.Dispatched.{IsAtRest};
 ghost use Rattle.ui_engine.specs.BuildBegins.{IsBegun};
 ghost use Rattle.ui_engine.specs.SessionView.{IsWhy};
-ghost use Rattle.ui_engine.specs.Widths.{HoldsRegisters};
 ghost use Rattle.verified.specs.Told.{IsDepth};
 
 use crate::faults::StartFault;
+use crate::rooms::room_for;
 use definitions::Definition;
 use engine_tasks::forward_references::forward_references;
 use engine_world::engine::Engine;
@@ -29,7 +29,6 @@ use native_peers::{MatchFault, Peers};
 use needed_peers::needs::needs;
 use needed_peers::seats::seats;
 use std::alloc::{AllocError, Global};
-use ui_machine::ProgramId;
 
 /// What a build begins with.
 #[derive(Drop)]
@@ -66,35 +65,6 @@ fn first_engine(
     let mut engine = Engine::new(alloc, weak, links, limits, seats, got_peers, numbers, room)?;
     announce(&mut engine)?;
     Ok(engine)
-}
-
-// How many registers a program has at most.
-fn most_registers(definition: &Definition) -> usize
-    ensures { HoldsRegisters definition.now result }
-{
-    let mut most = 0;
-    'programs: for number in 0..ProgramId::MAX {
-        let Some(program) = definition.program(number) else {
-            return most;
-        };
-        most = most.max(program.registers);
-    }
-    most
-}
-
-// The room for runs of so many frames, each of which is a program or an emission. Between two of them is one task at most, and a step puts
-// two tasks where one was.
-fn room_for(definition: &Definition, depth: u32) -> Room
-    ensures tasks { result.tasks ≡ 2 * depth + 4 }
-    ensures frames { result.frames ≡ depth }
-    ensures width { HoldsRegisters definition.now result.width }
-{
-    let frames = depth as usize;
-    Room {
-        tasks: 2 * frames + 4,
-        frames,
-        width: most_registers(definition),
-    }
 }
 
 // What a build begins with, with an engine that knows these peers and has so much room.
@@ -158,6 +128,7 @@ pub(crate) fn begin<P: Peers>(
         return Err(fault_of(alloc, fault)?);
     }
     let seats = seats(alloc, pool, needs.as_slice())?;
-    let beginning = first_beginning(alloc, definition, seats, room_for(definition, depth))?;
+    let room = room_for(alloc, definition, depth)?;
+    let beginning = first_beginning(alloc, definition, seats, room)?;
     Ok(beginning)
 }

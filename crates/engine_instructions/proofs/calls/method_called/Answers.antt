@@ -1,26 +1,36 @@
-use Rattle.engine_world.specs.SeatView.{lent_view}
+use Rattle.std.proofs.Common.{◌≡◌, ◌∙◌, ℕ, List, Option, None, Some, IsSome, slice_get, sym, ap}
+use Rattle.ui_machine.specs.Definition.Names.{place_named}
+use Rattle.ui_machine.specs.Definition.Signals.{Method}
+use Rattle.ui_machine.specs.State.Peers.{Peer, method_number}
+use Rattle.law_typing.specs.Good.Meanings.{class_methods}
 use Rattle.engine_world.specs.View.{world_of}
 use Rattle.peer_shapes.specs.MethodViews as methods
-use Rattle.engine_instructions.proofs.PeerCalls.{found, no_method, no_peer, no_place, not_numbered}
+use Rattle.engine_instructions.proofs.PeerCalls.{by_number, no_number, no_peer, shaped_so}
 use Rattle.engine_instructions.proofs.calls.method_called.Goals as goal
 
 pub returns-in_default-clause-called : goal.returns-in_default-clause-called
 returns-in_default-clause-called c = no_peer (world_of c.args.engine.now.world) c.args.object.0 c.args.name.now c.requires.live c.in_default.ensures
 
-pub returns-in_default-seat-clause-called : goal.returns-in_default-seat-clause-called
-returns-in_default-seat-clause-called c =
-    no_place (world_of c.args.engine.now.world) c.args.object.0 c.args.name.now c.requires.live c.in-Some.peer c.in-Some.ensures c.in_default-seat.ensures.found
-
-pub returns-in_default-find-clause-called : goal.returns-in_default-find-clause-called
-returns-in_default-find-clause-called c =
-    no_method (world_of c.args.engine.now.world) c.args.object.0 c.args.name.now c.requires.live c.in-Some.peer c.in-Some.ensures (lent_view c.in-Some-seat.seat) c.in-Some-seat.ensures.found c.in_default-find.ensures.found
+pub returns-in_default-method_number-clause-called : goal.returns-in_default-method_number-clause-called
+returns-in_default-method_number-clause-called c =
+    let d = c.args.definition.now in
+    let w = world_of c.args.engine.now.world in
+    no_number w c.args.object.0 c.args.name.now c.requires.live c.in-Some.peer c.in-Some.ensures c.method_number.result
+    (shaped_so d w c.args.object.0 c.args.name.now c.requires.live c.requires.meanings c.in-Some.peer c.in-Some.ensures c.method_number.result c.method_number.ensures)
+    (sym c.in_default-method_number.is)
 
 pub returns-in_default-method-clause-called : goal.returns-in_default-method-clause-called
 returns-in_default-method-clause-called c =
-    not_numbered (world_of c.args.engine.now.world) c.args.object.0 c.args.name.now c.requires.live c.in-Some.peer c.in-Some.ensures (lent_view c.in-Some-seat.seat) c.in-Some-seat.ensures.found c.in-Some-find.number c.in-Some-find.ensures.found
-    c.in_default-method.ensures.found
+    let d = c.args.definition.now in
+    let w = world_of c.args.engine.now.world in
+    by_number w c.args.object.0 c.args.name.now c.requires.live c.in-Some.peer c.in-Some.ensures c.method_number.result
+    (shaped_so d w c.args.object.0 c.args.name.now c.requires.live c.requires.meanings c.in-Some.peer c.in-Some.ensures c.method_number.result c.method_number.ensures)
+    c.in-Some-method_number.number (sym c.in-Some-method_number.is) None c.in_default-method.ensures.found
 
 pub returns-clause-called : goal.returns-clause-called
 returns-clause-called c =
-    found (world_of c.args.engine.now.world) c.args.object.0 c.args.name.now c.requires.live c.in-Some.peer c.in-Some.ensures (lent_view c.in-Some-seat.seat) c.in-Some-seat.ensures.found c.in-Some-find.number c.in-Some-find.ensures.found
-    (methods.lent_view c.in-Some-method.method) c.in-Some-method.ensures.found
+    let d = c.args.definition.now in
+    let w = world_of c.args.engine.now.world in
+    by_number w c.args.object.0 c.args.name.now c.requires.live c.in-Some.peer c.in-Some.ensures c.method_number.result
+    (shaped_so d w c.args.object.0 c.args.name.now c.requires.live c.requires.meanings c.in-Some.peer c.in-Some.ensures c.method_number.result c.method_number.ensures)
+    c.in-Some-method_number.number (sym c.in-Some-method_number.is) (Some (methods.lent_view c.in-Some-method.method)) c.in-Some-method.ensures.found

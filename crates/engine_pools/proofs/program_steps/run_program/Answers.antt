@@ -63,6 +63,7 @@ execute-requires c =
     let same = keeps_same d e b (ap (λ (g : Engine). g.world.table) is) (ap (λ (g : Engine). g.world.weak) is) (ap (λ (g : Engine). g.links) is) (subst (λ (g : Engine). PassesGot d g) (sym is)) (ap (λ (g : Engine). g.world.context) is) (ap (λ (g : Engine). g.world.builder) is) (ap (λ (g : Engine). g.stack) is) (ap (λ (g : Engine). g.world.handlers) is) in
     record {
       room = rw is c.requires.room;
+      meanings = rw is c.requires.meanings;
       program = ap (program_at d) kept.1 ∙ sym c.in-Some.ensures.program;
       taken = taken_there d (program_view c.in-Some.program.now) (frame_view c.args.frame) t (sym c.in-Some.ensures.program) c.in-Some-take.ensures;
       result = c.in-Some.ensures.known.2;

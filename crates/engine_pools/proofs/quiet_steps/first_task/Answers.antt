@@ -18,7 +18,7 @@ use Rattle.engine_world.proofs.Rooms.{tasks_counted}
 use Rattle.engine_world.proofs.Counts.{config_same, taken_off, given_back, same_tasks}
 use Rattle.engine_world.specs.View.{world_of}
 use Rattle.engine_pools.proofs.Standing.{first_none}
-use Rattle.engine_pools.proofs.Stepping.{first_can, first_names_so, first_stepped, first_grows, view_few, view_numbers}
+use Rattle.engine_pools.proofs.Stepping.{first_can, first_names_so, first_stepped, first_grows, view_few, view_meanings, view_numbers}
 use Rattle.engine_pools.proofs.quiet_steps.first_task.Goals as goal
 
 pub sink_first_floating-requires-clause-none : goal.sink_first_floating-requires-clause-none
@@ -69,6 +69,7 @@ act-requires c = record {
       let d = c.args.definition.now in
       let e = c.args.engine.now in
       subst (λ (ts : List Task). (world_of e.world).last_handler + to_connect ts ≤ greatest_handler) (c.in-Some.ensures.tasks d e.world.handlers.handlers) (view_numbers d (config_of d e) c.requires.safe).handlers;
+  meanings = view_meanings c.args.definition.now (config_of c.args.definition.now c.args.engine.now) c.requires.safe;
   room =
       let d = c.args.definition.now in
       let e = c.args.engine.now in

@@ -3,7 +3,7 @@ use Rattle.ui_machine.specs.Definition.Lookups.{class_of}
 use Rattle.ui_machine.specs.Definition.Names.{same_name}
 use Rattle.ui_machine.specs.Definition.Signals.{ClassHandler}
 use Rattle.ui_machine.specs.Rules.EmissionPlan.{handler_in}
-use Rattle.name_tables.specs.Names.{with_number}
+use Rattle.name_tables.specs.Names.{number_of, with_number}
 use Rattle.linked_programs.specs.Steps.{AddsAll}
 use Rattle.linked_programs.proofs.Adding.{adds_more, handler_in-more, take_past}
 use Rattle.linked_programs.proofs.Linking.{got_read}
@@ -16,7 +16,7 @@ loop-at-preserved c =
     let h = c.index-handlers-at.result in
     let next : at + 1 ≡ suc at = omega arith in
     let got = got_read c.class_handlers-handlers.result.now handlers at h c.class_handlers-handlers.ensures c.loop-at-test.true c.index-handlers-at.is in
-    adds_more c.args.names.now c.loop-at.names c.add.new.self c.args.class c.program.result c.signal.result.now (handler_in (take at handlers)) (handler_in (take (at + 1) handlers)) c.loop-at.invariant
+    adds_more (number_of c.args.names.now) (number_of c.loop-at.names) (number_of c.add.new.self) c.args.class c.program.result c.signal.result.now (handler_in (take at handlers)) (handler_in (take (at + 1) handlers)) c.loop-at.invariant
     c.in_ok-add.ensures.ok
     (λ n.
     ap (λ k. handler_in (take k handlers) n) next
@@ -28,4 +28,4 @@ pub returns : goal.returns
 returns c =
     let handlers = (class_of c.args.definition.now c.args.class).handlers in
     let long = ap length c.class_handlers-handlers.ensures in
-    subst (λ (hs : List ClassHandler). AddsAll c.args.names.now c.loop-at.names c.args.class (handler_in hs)) (take_past handlers c.loop-at.at (omega (arith, long, c.loop-at-test.false))) c.loop-at.invariant
+    subst (λ (hs : List ClassHandler). AddsAll (number_of c.args.names.now) (number_of c.loop-at.names) c.args.class (handler_in hs)) (take_past handlers c.loop-at.at (omega (arith, long, c.loop-at-test.false))) c.loop-at.invariant

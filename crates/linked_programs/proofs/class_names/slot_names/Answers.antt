@@ -1,5 +1,6 @@
 use Rattle.std.proofs.Common.{arith}
 use Rattle.ui_machine.specs.Definition.Names.{canonical}
+use Rattle.name_tables.specs.Names.{number_of}
 use Rattle.linked_programs.specs.Steps.{slot_called}
 use Rattle.linked_programs.proofs.Adding.{all_classes, no_slots}
 use Rattle.linked_programs.proofs.class_names.slot_names.Goals as goal
@@ -7,5 +8,5 @@ use Rattle.linked_programs.proofs.class_names.slot_names.Goals as goal
 pub returns : goal.returns
 returns c class name =
     let d = c.args.definition.now in
-    all_classes (slot_called d) c.classes.class c.classes.names c.classes.invariant
+    all_classes (slot_called d) c.classes.class (number_of c.classes.names) c.classes.invariant
     (λ k past n. no_slots d k (omega (arith, past, c.classes-test.false, c.class_count-count.ensures.count)) n) class (canonical name)

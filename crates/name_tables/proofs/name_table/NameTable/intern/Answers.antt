@@ -6,7 +6,7 @@ use Rattle.name_tables.specs.Names.{Named, place_of}
 use Rattle.name_tables.proofs.Lookups.{with_name-there, with_name-new, place_of-last}
 use Rattle.name_tables.proofs.Numbers.{none-of}
 use Rattle.name_tables.proofs.Rows.{Row, named, place_of-position, named-insert}
-use Rattle.name_tables.proofs.name_table.NameTable.place.Goals as goal
+use Rattle.name_tables.proofs.name_table.NameTable.intern.Goals as goal
 
 -- the place that the map answers is the name's
 placed : (es : List Row) (names : List Named) (name : List ℕ) (answer place : Option ℕ) → map named es ≡ names → answer ≡ position (λ k. bytes_eq name (string_bytes k)) (keys_of es)

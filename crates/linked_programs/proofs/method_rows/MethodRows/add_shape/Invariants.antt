@@ -1,0 +1,11 @@
+use Rattle.std.proofs.Common.{◌-◌, take, length}
+use Rattle.ui_machine.specs.Definition.Names.{place_named}
+use Rattle.linked_programs.specs.Rows.{method_of}
+use Rattle.linked_programs.specs.Steps.{AddsAll}
+use Rattle.linked_programs.proofs.method_rows.MethodRows.add_shape.Given as goal
+
+abbrev pub invariant-loop-method : goal.invariant-loop-method
+invariant-loop-method l = AddsAll (method_of l.initial.self) (method_of l.self) l.number (place_named (λ m. m.name) (take l.at l.shape))
+
+abbrev pub decreases-loop-method : goal.decreases-loop-method
+decreases-loop-method l = length l.shape - l.at

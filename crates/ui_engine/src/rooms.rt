@@ -1,0 +1,201 @@
+//! How much room the runs of a definition take: what `start` reserves, so that no program, emission or construction asks for memory to begin.
+
+ghost use Rattle.std.specs.Prelude.{◌≡◌, ◌+◌, ◌*◌, ◌≤◌, ◌++◌, [], ◌∷◌, length, map, min, IfOk, OnOk};
+ghost use Rattle.ui_machine.specs.Rules.Construction.{constructed_runs};
+ghost use Rattle.bytecode.specs.View.{instruction_view, program_view};
+ghost use Rattle.ui_engine.specs.Widths.{HoldsArgs, HoldsParams, HoldsRegisters, HoldsSignals, HoldsSteps, args_in, args_of, args_within, wider};
+
+use bytecode::{Instruction, Program, SignalInstruction};
+use definitions::Definition;
+use engine_world::places::entry_at;
+use engine_world::reserves::Room;
+use std::alloc::{AllocError, Global};
+use type_tree::TypeId;
+use ui_machine::{Place, ProgramId, SignalId};
+
+// How many registers a program has at most.
+fn most_registers(definition: &Definition) -> usize
+    ensures { HoldsRegisters definition.now result }
+{
+    let mut most = 0;
+    'programs: for number in 0..ProgramId::MAX {
+        let Some(program) = definition.program(number) else {
+            return most;
+        };
+        most = most.max(program.registers);
+    }
+    most
+}
+
+// How many arguments an instruction gives to an emission.
+fn args_of(instruction: &Instruction) -> usize
+    ensures { result ≡ args_of (instruction_view instruction.now) }
+{
+    match instruction {
+        Instruction::Signal(SignalInstruction::Emit { args, .. }) => args.len(),
+        _ => 0,
+    }
+}
+
+// How many arguments an instruction of some gives at most.
+fn args_within(code: &[Instruction]) -> usize
+    ensures { result ≡ args_within (map instruction_view code.now) }
+{
+    let mut most = 0;
+    for instruction in code {
+        most = most.max(args_of(instruction));
+    }
+    most
+}
+
+// How many arguments an instruction of a program gives at most.
+fn args_in(program: &Program) -> usize
+    ensures { result ≡ args_in (program_view program.now) }
+{
+    let mut most = 0;
+    for block in &program.blocks {
+        most = most.max(args_within(block.code.as_slice()));
+    }
+    most
+}
+
+// How many arguments a signal of a class has at most.
+fn most_params_of(definition: &Definition, class: TypeId) -> usize
+    ensures { HoldsParams definition.now class result }
+{
+    // For the proof: how many signals a class has at most.
+    let _count = definition.signal_count(class);
+    let mut most = 0;
+    let mut number: SignalId = 0;
+    loop {
+        let Some(signal) = definition.signal(class, number) else {
+            return most;
+        };
+        most = most.max(signal.params.len());
+        number += 1;
+    }
+}
+
+// How many arguments a signal has at most.
+fn most_params(definition: &Definition) -> usize
+    ensures { HoldsSignals definition.now result }
+{
+    let mut most = 0;
+    'classes: for class in 0..definition.class_count() {
+        most = most.max(most_params_of(definition, TypeId::new(class as u16)));
+    }
+    most
+}
+
+// The arguments of the emissions that have more of them than so many: of each program the most that it gives, for no program runs in two
+// frames at a time, and the most that an event may give.
+fn wide_emissions(
+    alloc: Global,
+    definition: &Definition,
+    width: usize,
+) -> Result<Vec<usize>, AllocError>
+    ensures { IfOk result (λ wide. wide.items ≡ wider width (map args_in definition.now.programs)) }
+{
+    // For the proof: how many programs there are at most.
+    let _types = definition.types();
+    let mut wide = Vec::new(alloc);
+    let mut number: ProgramId = 0;
+    loop {
+        let Some(program) = definition.program(number) else {
+            return Ok(wide);
+        };
+        add_if_wide(&mut wide, width, args_in(program))?;
+        number += 1;
+    }
+}
+
+// Adds a number to others, if it is more than so many.
+fn add_if_wide(wide: &mut Vec<usize>, width: usize, count: usize) -> Result<(), AllocError>
+    ensures { OnOk result (wide.new.items ≡ wide.old.items ++ wider width (count ∷ [])) }
+{
+    if count > width {
+        wide.push(count)?;
+    }
+    Ok(())
+}
+
+// How many programs run for the objects of a class once they are constructed.
+fn constructed_count(definition: &Definition, class: TypeId) -> usize
+    ensures count { result ≡ length (constructed_runs definition.now class) }
+    ensures few { result ≤ class + 1 }
+{
+    let own = usize::from(definition.constructed(class).is_some());
+    match definition.types().parent(class) {
+        Some(parent) => constructed_count(definition, parent) + own,
+        None => own,
+    }
+}
+
+// How many steps the construction of what is at a place has at most.
+fn steps_at(definition: &Definition, place: Place) -> usize
+    ensures { HoldsSteps definition.now place.0 result }
+{
+    let Some(entry) = entry_at(definition, place) else {
+        return 0;
+    };
+    let sets = definition.slots(entry.class) + entry.given.len();
+    sets + constructed_count(definition, entry.class) + 1
+}
+
+// How many steps a construction has at most.
+fn most_steps(definition: &Definition) -> usize
+    ensures { (place : ℕ) → HoldsSteps definition.now place result }
+{
+    let mut most = 0;
+    'places: for place in 0..definition.place_count() {
+        most = most.max(steps_at(definition, Place(place as u16)));
+    }
+    most
+}
+
+// How many programs there are.
+fn program_count(definition: &Definition) -> usize
+    ensures { result ≡ length definition.now.programs }
+{
+    // For the proof: how many programs there are at most.
+    let _types = definition.types();
+    let mut number: ProgramId = 0;
+    loop {
+        if definition.program(number).is_none() {
+            return usize::from(number);
+        }
+        number += 1;
+    }
+}
+
+/// The room for runs of so many frames, each of which is a program, an emission or a construction. Between two of them is one task at most, and
+/// a step puts two tasks where one was. A construction is of the build or of a program, which runs in one frame at a time.
+///
+/// # Errors
+///
+/// `AllocError` if memory is refused.
+pub(crate) fn room_for(
+    alloc: Global,
+    definition: &Definition,
+    depth: u32,
+) -> Result<Room, AllocError>
+    ensures tasks { IfOk result (λ room. room.tasks ≡ 2 * depth + 4) }
+    ensures frames { IfOk result (λ room. room.frames ≡ depth) }
+    ensures width { IfOk result (λ room. HoldsRegisters definition.now room.width) }
+    ensures constructions { IfOk result (λ room. room.constructions ≡ min depth (length definition.now.programs + 1)) }
+    ensures steps { IfOk result (λ room. (place : ℕ) → HoldsSteps definition.now place room.steps) }
+    ensures wide { IfOk result (λ room. HoldsArgs definition.now room.width room.wide_emissions.items) }
+{
+    let frames = depth as usize;
+    let width = most_registers(definition);
+    let mut wide_emissions = wide_emissions(alloc, definition, width)?;
+    add_if_wide(&mut wide_emissions, width, most_params(definition))?;
+    Ok(Room {
+        tasks: 2 * frames + 4,
+        frames,
+        width,
+        constructions: frames.min(program_count(definition) + 1),
+        steps: most_steps(definition),
+        wide_emissions,
+    })
+}
