@@ -9,15 +9,16 @@ use Rattle.ui_machine.specs.Instructions.{in_front}
 use Rattle.ui_machine.specs.Instructions.Peers.{calling}
 use Rattle.ui_machine.specs.Instructions.Registers.{goes_on, operand_in, values_in}
 use Rattle.ui_machine.specs.Outcome.{Answer, known, only_if, ◌>>=◌}
+use Rattle.ui_machine.specs.Rules.Construction.{nearest_shape}
 use Rattle.ui_machine.specs.Rules.Disposal.{peer_of}
 use Rattle.ui_machine.specs.Rules.Programs.{all_fit}
 use Rattle.ui_machine.specs.Rules.Transform.{kind_fits}
 use Rattle.ui_machine.specs.State.Config.{Started, World, peer_at}
-use Rattle.ui_machine.specs.State.Objects.{Object, class_in, living, object_at}
+use Rattle.ui_machine.specs.State.Objects.{Object, Objects, asked, class_in, living, object_at}
 use Rattle.ui_machine.specs.State.Peers.{Peer, method_number, method_of}
 use Rattle.ui_machine.specs.State.Tasks.{Call, Calling, Frame, Task}
 use Rattle.ui_machine.specs.Steps.{left}
-use Rattle.law_typing.specs.Good.Meanings.{KeepsMeanings, class_methods}
+use Rattle.law_typing.specs.Good.Meanings.{KeepsMeanings, class_methods, shape_methods}
 use Rattle.engine_instructions.specs.CallingView.{Called, called_in, due_call}
 use Rattle.engine_world.specs.Able.{Able}
 use Rattle.engine_world.proofs.Ableness.{able_as, first, instructed, past, past_test}
@@ -98,6 +99,20 @@ shaped_so d w id name live meant peer of number is p at = by (living w.objects i
     by None lives some has = cc some
     by (Some o) lives some has =
         is o lives ∙ ap (λ ms. place_named (λ (m : Method). m.name) ms name) (sym (meant.methods id peer o p lives (sym has) at))
+
+-- the class of an object that lives
+pub class_is : (os : Objects) (id class : ℕ) (o : Object) → asked os id (λ (x : Object). Ok x.class) ≡ Ok class → living os id ≡ Some o → o.class ≡ class
+unfolding asked
+class_is os id class o is lives = let same : ◌≡◌ {A = Answer ℕ} (Ok o.class) (Ok class) = rw lives at is in cc same
+
+module _ (d : Definition) (class : ℕ) (name : List ℕ) where
+  -- a class without a shape has no methods
+  pub none_named : None ≡ nearest_shape d class → None ≡ place_named (λ (m : Method). m.name) (class_methods d class) name
+  none_named none = rw (sym none) refl
+
+  pub named_in : (shape : ℕ) → Some shape ≡ nearest_shape d class
+      → place_named (λ (m : Method). m.name) (shape_methods (slice_get d.shapes shape)) name ≡ place_named (λ (m : Method). m.name) (class_methods d class) name
+  named_in shape is = rw (sym is) refl
 
 -- ** the call
 

@@ -37,13 +37,18 @@ one_more (x ∷ numbers) n number = by (nat_eq number x) (one_more numbers n num
 pub without_more : (numbers : List ℕ) (n : ℕ) (bs : List Binding) → without_number n (without_numbers numbers bs) ≡ without_numbers (numbers ++ n ∷ []) bs
 without_more numbers n [] = refl
 without_more numbers n (b ∷ bs) =
-    by (list_any (nat_eq b.number) numbers) refl (nat_eq b.number n) refl
+    by (list_any (nat_eq b.number) numbers) refl (nat_eq b.number n) refl (without_more numbers n bs)
   where
     by : (any : Bool) → list_any (nat_eq b.number) numbers ≡ any → (is : Bool) → nat_eq b.number n ≡ is
+        → without_number n (without_numbers numbers bs) ≡ without_numbers (numbers ++ n ∷ []) bs
         → without_number n (without_numbers numbers (b ∷ bs)) ≡ without_numbers (numbers ++ n ∷ []) (b ∷ bs)
-    by true e is f = rw (one_more numbers n b.number, e) (without_more numbers n bs)
-    by false e true f = rw (one_more numbers n b.number, e, f) (without_more numbers n bs)
-    by false e false f = rw (one_more numbers n b.number, e, f) (ap (λ (rest : List Binding). b ∷ rest) (without_more numbers n bs))
+    by true e is f rest = rw (one_more numbers n b.number, e) rest
+    by false e true f rest = rw (one_more numbers n b.number, e, f) rest
+    by false e false f rest = rw (one_more numbers n b.number, e, f) (ap (λ (l : List Binding). b ∷ l) rest)
+
+pub without_none : (bs : List Binding) → without_numbers [] bs ≡ bs
+without_none [] = refl
+without_none (b ∷ bs) = ap (λ (l : List Binding). b ∷ l) (without_none bs)
 
 -- those of a name's numbers are those that are called so
 pub numbers_called : (d : Definition) (name : List ℕ) (numbers : List ℕ) → ((number : ℕ) → list_any (nat_eq number) numbers ≡ is_name name (binding_name d number))

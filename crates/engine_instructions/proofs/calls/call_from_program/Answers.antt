@@ -18,6 +18,8 @@ due_call-requires c =
     let e = c.args.engine.now in
     let call = c.args.call.now in
     record {
+      link = c.requires.link;
+      meanings = c.requires.meanings;
       able = due_able d (world_of e.world) (frame_view c.args.frame) call.to.0 call.object.0 (string_bytes call.method) (map number_of call.args.items) e.counted (agenda_of d e) c.requires.able;
     }
 

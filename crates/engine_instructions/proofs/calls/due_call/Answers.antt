@@ -10,7 +10,7 @@ use Rattle.engine_instructions.proofs.PeerCalls.{called_able, is_due, values_abl
 use Rattle.engine_instructions.proofs.calls.due_call.Goals as goal
 
 pub method_called-requires : goal.method_called-requires
-method_called-requires c = record { live = operand_lives (world_of c.args.engine.now.world) (frame_view c.args.frame.now) c.args.call.now.object.0 c.object_in-object.result.0 c.object_in-object.ensures }
+method_called-requires c = record { meanings = c.requires.meanings; link = rw c.as_str-name.ensures.value c.requires.link; live = operand_lives (world_of c.args.engine.now.world) (frame_view c.args.frame.now) c.args.call.now.object.0 c.object_in-object.result.0 c.object_in-object.ensures }
 
 pub unreachable-requires : goal.unreachable-requires
 unreachable-requires c =

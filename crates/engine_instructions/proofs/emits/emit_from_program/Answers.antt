@@ -16,7 +16,7 @@ pub new_emission-requires : goal.new_emission-requires
 new_emission-requires c =
     let d = c.args.definition.now in
     let e = c.args.engine.now in
-    record { able = emission_able d (world_of e.world) (frame_view c.args.frame) c.args.object.0 (emit_of c.args.emit) e.counted (agenda_of d e) c.requires.able; link = c.requires.link; none = c.take-args.ensures }
+    record { able = emission_able d (world_of e.world) (frame_view c.args.frame) c.args.object.0 (emit_of c.args.emit) e.counted (agenda_of d e) c.requires.able; link = c.requires.link; none = c.take_for-args.ensures }
 
 pub push_task-requires-clause-may : goal.push_task-requires-clause-may
 push_task-requires-clause-may c =
