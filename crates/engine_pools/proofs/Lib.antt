@@ -2,6 +2,7 @@ pub mod Reaching
 pub mod Living
 mod Named
 pub mod Lifting
+pub mod Meant
 pub mod Standing
 pub mod Points
 pub mod Asking

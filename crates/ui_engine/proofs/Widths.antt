@@ -1,9 +1,18 @@
 -- How much the entries of a list have that were looked at.
-use Rattle.std.proofs.Common.{◌≡◌, ◌<◌, ◌≤◌, ◌+◌, ◌++◌, ℕ, zero, suc, Bool, true, false, cond, max, nat_lt, List, [], ◌∷◌, length, map, take, Option, None, Some, sym, refl, ap, ◌∙◌, subst, arith, ⊎_elim}
+use Rattle.std.proofs.Common.{◌≡◌, ◌<◌, ◌≤◌, ◌+◌, ◌++◌, ℕ, zero, suc, Bool, true, false, cond, max, nat_lt, rules, List, [], ◌∷◌, length, map, take, get_or, reverse, option_map, Option, None, Some, sym, refl, ap, ◌∙◌, subst, arith, ⊎_elim}
 use Rattle.std.specs.Prelude.{IfSome, slice_get}
 use Rattle.std.proofs.lemmas.Bool.Decides.{nat_tests}
-use Rattle.std.proofs.lemmas.Option.{slice_get_cases, slice_get_past}
-use Rattle.ui_engine.specs.Widths.{most_of, wider}
+use Rattle.std.proofs.lemmas.List.{length-append, length-reverse}
+use Rattle.std.proofs.lemmas.Option.{slice_get-map, slice_get_cases, slice_get_past, slice_get_read}
+use Rattle.std.specs.List.{flat_map}
+use Rattle.std.specs.Ordering.{nat_cmp, ord_max}
+use Rattle.ui_machine.specs.Definition.{Definition}
+use Rattle.ui_machine.specs.Definition.Lookups.{class_of, no_class}
+use Rattle.ui_machine.specs.Rules.Ancestry.{depth, lineage}
+use Rattle.ui_machine.specs.Rules.Construction.{constructed_runs, run_of}
+use Rattle.ui_machine.specs.State.Tasks.{ConstructStep}
+use Rattle.type_tree.proofs.Entries.{read-past}
+use Rattle.ui_engine.specs.Widths.{HoldsParams, HoldsSignals, most_of, wider}
 
 module _ {A : Type 0} (weight : A → ℕ) where
   -- one has so much at most
@@ -82,3 +91,40 @@ pub wide_more : {A : Type 0} (weight : A → ℕ) (width : ℕ) (xs : List A) (n
 wide_more weight width xs n x wide new at is more =
     let next : suc n ≡ n + 1 = omega arith in
     more ∙ ap (λ l. l ++ wider width (weight x ∷ [])) is ∙ sym (wider_more weight width xs n x at) ∙ ap (λ k. wider width (map weight (take k xs))) next
+
+-- ** the signals of all classes
+
+pub all_held : (d : Definition) (count most : ℕ) → length d.classes ≤ count → ((class : ℕ) → class < count → HoldsParams d class most) → HoldsSignals d most
+all_held d count most all held class = by (nat_lt class count) refl
+  where
+    by : (b : Bool) → nat_lt class count ≡ b → HoldsParams d class most
+    by true e = held class (grind (arith, nat_tests, e))
+    by false e = λ number. (let past : length d.classes ≤ class = grind (arith, nat_tests, e, all) in rw (read-past no_class d.classes class past) tt)
+
+-- ** the programs of a construction
+
+few_of : (f : ℕ → List ConstructStep) → ((t : ℕ) → length (f t) ≤ 1) → (ts : List ℕ) → length (flat_map f ts) ≤ length ts
+few_of f one [] = omega arith
+few_of f one (t ∷ ts) = omega (arith, one t, few_of f one ts, length-append (f t) (flat_map f ts))
+
+one_run : (o : Option ℕ) → length (run_of o) ≤ 1
+one_run None = omega arith
+one_run (Some program) = omega arith
+
+-- no more than there are classes from the root down
+pub few_runs : (d : Definition) (class : ℕ) → length (constructed_runs d class) ≤ depth d.types class
+few_runs d class =
+    let few = few_of (λ c. run_of (class_of d c).constructed) (λ c. one_run (class_of d c).constructed) (reverse (lineage d.types class)) in
+    omega (arith, few, length-reverse (lineage d.types class))
+
+-- ** what a loop has of a list
+
+-- what an iteration has, as it is seen
+pub item_seen : {X A : Type 0} (view : X → A) (xs items : List X) (i : ℕ) (x : X) → items ≡ xs → i < length items → x ≡ get_or items i x
+    → slice_get (map view xs) i ≡ Some (view x)
+item_seen view xs items i x all within is =
+    ap (λ l. slice_get (map view l) i) (sym all) ∙ slice_get-map view items i ∙ ap (option_map view) (slice_get_read items (length items) i x refl within is)
+
+-- the greater of two numbers, as the code finds it
+pub is_max : (a b : ℕ) → ord_max nat_cmp a b ≡ max a b
+is_max a b = search (rules, nat_tests)

@@ -1,7 +1,6 @@
 //! How much room the runs of a definition take: what `start` reserves, so that no program, emission or construction asks for memory to begin.
 
-ghost use Rattle.std.specs.Prelude.{◌≡◌, ◌+◌, ◌*◌, ◌≤◌, ◌++◌, [], ◌∷◌, length, map, min, IfOk, OnOk};
-ghost use Rattle.ui_machine.specs.Rules.Construction.{constructed_runs};
+ghost use Rattle.std.specs.Prelude.{◌≡◌, ◌+◌, ◌*◌, ◌≤◌, ◌<◌, ◌^◌, ◌++◌, [], ◌∷◌, length, map, min, IfOk, OnOk, ℕ};
 ghost use Rattle.bytecode.specs.View.{instruction_view, program_view};
 ghost use Rattle.ui_engine.specs.Widths.{HoldsArgs, HoldsParams, HoldsRegisters, HoldsSignals, HoldsSteps, args_in, args_of, args_within, wider};
 
@@ -119,18 +118,6 @@ fn add_if_wide(wide: &mut Vec<usize>, width: usize, count: usize) -> Result<(), 
     Ok(())
 }
 
-// How many programs run for the objects of a class once they are constructed.
-fn constructed_count(definition: &Definition, class: TypeId) -> usize
-    ensures count { result ≡ length (constructed_runs definition.now class) }
-    ensures few { result ≤ class + 1 }
-{
-    let own = usize::from(definition.constructed(class).is_some());
-    match definition.types().parent(class) {
-        Some(parent) => constructed_count(definition, parent) + own,
-        None => own,
-    }
-}
-
 // How many steps the construction of what is at a place has at most.
 fn steps_at(definition: &Definition, place: Place) -> usize
     ensures { HoldsSteps definition.now place.0 result }
@@ -138,8 +125,9 @@ fn steps_at(definition: &Definition, place: Place) -> usize
     let Some(entry) = entry_at(definition, place) else {
         return 0;
     };
-    let sets = definition.slots(entry.class) + entry.given.len();
-    sets + constructed_count(definition, entry.class) + 1
+    // Each class from the root down names one program at most that runs once an object is constructed.
+    let programs = definition.types().depth(entry.class);
+    definition.slots(entry.class) + entry.given.len() + programs + 1
 }
 
 // How many steps a construction has at most.
@@ -155,7 +143,8 @@ fn most_steps(definition: &Definition) -> usize
 
 // How many programs there are.
 fn program_count(definition: &Definition) -> usize
-    ensures { result ≡ length definition.now.programs }
+    ensures count { result ≡ length definition.now.programs }
+    ensures few { result < 2 ^ 16 }
 {
     // For the proof: how many programs there are at most.
     let _types = definition.types();
