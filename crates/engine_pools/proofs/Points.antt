@@ -214,6 +214,7 @@ module _ (d : Definition) where
           safe = safe_stays d from.safe.most from.at from.safe.safe follows.replies fits there.at there.reached;
           asks = λ replies fit at reached. from.safe.asks (follows.replies ++ replies) (each_both (Fits d) follows.replies replies fits fit) at (reaches_on d there.reached reached);
           names = λ replies fit at reached. from.safe.names (follows.replies ++ replies) (each_both (Fits d) follows.replies replies fits fit) at (reaches_on d there.reached reached);
+          meanings = λ replies fit at reached. from.safe.meanings (follows.replies ++ replies) (each_both (Fits d) follows.replies replies fits fit) at (reaches_on d there.reached reached);
           few = λ replies fit at reached. from.safe.few (follows.replies ++ replies) (each_both (Fits d) follows.replies replies fits fit) at (reaches_on d there.reached reached);
           numbers = λ replies fit at reached. from.safe.numbers (follows.replies ++ replies) (each_both (Fits d) follows.replies replies fits fit) at (reaches_on d there.reached reached);
         };

@@ -190,6 +190,7 @@ module _ (d : Definition) (may : Relations) (event : Event) (w : World) (front :
           safe = safe_stays d safe.most u.start safe.safe u.later later u.at u.reached;
           asks = λ replies fit at reached. safe.asks (u.later ++ replies) (each_both (Fits d) u.later replies later fit) at (reaches_on d u.reached reached);
           names = λ replies fit at reached. safe.names (u.later ++ replies) (each_both (Fits d) u.later replies later fit) at (reaches_on d u.reached reached);
+          meanings = λ replies fit at reached. safe.meanings (u.later ++ replies) (each_both (Fits d) u.later replies later fit) at (reaches_on d u.reached reached);
           few = λ replies fit at reached. safe.few (u.later ++ replies) (each_both (Fits d) u.later replies later fit) at (reaches_on d u.reached reached);
           numbers = λ replies fit at reached. safe.numbers (u.later ++ replies) (each_both (Fits d) u.later replies later fit) at (reaches_on d u.reached reached);
         })
