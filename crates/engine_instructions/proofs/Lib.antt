@@ -21,3 +21,4 @@ mod Unbinding
 mod PeerCalls
 mod Holding
 pub mod LinkedNames
+mod InPlace

@@ -16,6 +16,7 @@ use Rattle.ui_machine.specs.Steps.{counted_left, left, most_steps}
 use Rattle.linked_programs.specs.Linked.{instruction_at}
 use Rattle.frames.specs.FrameView.{Taken, taken_in, taken_of}
 use Rattle.frames.proofs.FrameSteps.{running_taken}
+pub use Rattle.engine_world.proofs.FirstPrograms.{taken_keeps}
 
 -- a step that is counted
 pub left_counted : (n : ℕ) (a : Answer Left) → n < most_steps → counted_left n a ≡ left (suc n) a
@@ -43,26 +44,6 @@ module _ (d : Definition) (w : World) (rest : List Task) (f : Frame) where
 
     pub takes_instruction : (t : Taken) → taken_in p f ≡ Some t → running d w rest f ≡ instruction_step d w rest t.frame t.instruction
     takes_instruction t some = running_taken d w f p is rest ∙ ap (λ (o : Option Taken). known arms.Code o >>= λ t. instruction_step d w rest t.frame t.instruction) some
-
--- what is taken changes no register, and the program goes on
-pub taken_keeps : (p : Program) (f : Frame) (t : Taken) → taken_in p f ≡ Some t → (t.frame.registers ≡ f.registers) × (t.frame.program ≡ f.program)
-taken_keeps p f t is = by_block (slice_get p.blocks f.block) is
-  where
-    passed : (b : Bool) → ((cond b (record f { at = 0; passes = f.passes - 1 }) f).registers ≡ f.registers) × ((cond b (record f { at = 0; passes = f.passes - 1 }) f).program ≡ f.program)
-    passed true = (refl, refl)
-    passed false = (refl, refl)
-
-    by_code : (b : Block) (i : Option Instruction) → option_map (λ i. record { instruction = i; frame = past (in_pass b f) }) i ≡ Some t
-        → (t.frame.registers ≡ f.registers) × (t.frame.program ≡ f.program)
-    by_code b None e = absurd (cc e)
-    by_code b (Some i) e =
-        let same : record { instruction = i; frame = past (in_pass b f) } ≡ t = cc e in
-        let kept = passed (is_again b f) in
-        (sym (ap (λ (x : Taken). x.frame.registers) same) ∙ kept.0, sym (ap (λ (x : Taken). x.frame.program) same) ∙ kept.1)
-
-    by_block : (o : Option Block) → option_and_then (taken_of f) o ≡ Some t → (t.frame.registers ≡ f.registers) × (t.frame.program ≡ f.program)
-    by_block None e = absurd (cc e)
-    by_block (Some b) e = by_code b (slice_get b.code (in_pass b f).at) e
 
 -- what is taken is the instruction before the one to which the program has come
 pub taken_there : (d : Definition) (p : Program) (f : Frame) (t : Taken) → program_at d f.program ≡ Some p → taken_in p f ≡ Some t

@@ -2,6 +2,7 @@ pub mod CollectView
 pub mod EmitView
 pub mod AttachView
 pub mod HandlersView
+pub mod InPlaceView
 pub mod JumpView
 pub mod UnbindView
 pub mod PropertyView

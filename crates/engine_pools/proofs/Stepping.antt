@@ -4,7 +4,6 @@ use Rattle.std.specs.List.{filter}
 use Rattle.ui_machine.specs.declared.arm.Arm.{Arm}
 use Rattle.ui_machine.specs.declared.arm.Halt.{Halt}
 use Rattle.ui_machine.specs.Definition.{Definition}
-use Rattle.ui_machine.specs.State.Handlers.{Handler}
 use Rattle.ui_machine.specs.State.Tasks.{Answering, Beginning, Building, Calling, Handling, Constructing, Due, Emitting, Notifying, PlanEntry, Running, Setting, Task, Thawing, Transferring, Unsetting}
 use Rattle.machine_laws.specs.GoneLaws.{Gone, pruned, stays}
 use Rattle.ui_machine.specs.State.Config.{Config, sunk}
@@ -12,11 +11,8 @@ use Rattle.ui_machine.specs.State.References.{mentions, next_unheld}
 use Rattle.ui_machine.specs.Seq.{total}
 use Rattle.engine_world.specs.Measure.{weight, waiting, work}
 use Rattle.ui_machine.specs.Steps.{act, sink_first_floating, counted, finalising, most_steps, first_of, step, asked_first}
-use Rattle.engine_world.specs.declared.task.Task as code
-use Rattle.engine_world.specs.declared.stacks.Stack.{Stack}
 use Rattle.engine_world.specs.declared.engine.StepKind.{StepKind}
 use Rattle.engine_world.specs.declared.engine.StepKind.TheVariants as mades
-use Rattle.engine_world.specs.TaskView.{task_of, tasks_of}
 use Rattle.engine_world.specs.Able.{LeadsToLiving}
 use Rattle.engine_world.specs.EngineView.{IsOfKind}
 use Rattle.ui_machine.specs.Prefix.{IsPrefix}
@@ -64,17 +60,17 @@ pruned_weighs d gone (task ∷ ts) = let rest = pruned_weighs d gone ts in omega
     one (Handling request) = omega arith
     one (Due source) = omega arith
 
-module _ (d : Definition) (hs : List Handler) (c e : Config) (none : NoneUnheld d c) (task : code.Task) (s : Stack)
-    (first : c.agenda ≡ task_of d hs task ∷ tasks_of d hs s) (asks : asked_first c.world c.agenda ≡ None) where
-  acts : act d c.world None (with_first c.world c.agenda) c.counted ≡ act d c.world None (past_turns c.world (task_of d hs task) ∷ tasks_of d hs s) c.counted
+module _ (d : Definition) (c e : Config) (none : NoneUnheld d c) (task : Task) (rest : List Task)
+    (first : c.agenda ≡ task ∷ rest) (asks : asked_first c.world c.agenda ≡ None) where
+  acts : act d c.world None (with_first c.world c.agenda) c.counted ≡ act d c.world None (past_turns c.world task ∷ rest) c.counted
   acts = ap (λ (ts : List Task). act d c.world None (with_first c.world ts) c.counted) first
 
-  passes : (x : Config) → act d c.world None (past_turns c.world (task_of d hs task) ∷ tasks_of d hs s) c.counted ≡ Ok x → Passes d c.world (task_of d hs task) (tasks_of d hs s) c.counted x
+  passes : (x : Config) → act d c.world None (past_turns c.world task ∷ rest) c.counted ≡ Ok x → Passes d c.world task rest c.counted x
   passes x is =
-      if_ok_at (Passes d c.world (task_of d hs task) (tasks_of d hs s) c.counted) (act d c.world None (past_turns c.world (task_of d hs task) ∷ tasks_of d hs s) c.counted) x
-      (acted d c.world (tasks_of d hs s) c.counted None (task_of d hs task)) is
+      if_ok_at (Passes d c.world task rest c.counted) (act d c.world None (past_turns c.world task ∷ rest) c.counted) x
+      (acted d c.world rest c.counted None task) is
 
-  follows : (x : Config) → act d c.world None (past_turns c.world (task_of d hs task) ∷ tasks_of d hs s) c.counted ≡ Ok x → without_gone x ≡ e → Follows d c e
+  follows : (x : Config) → act d c.world None (past_turns c.world task ∷ rest) c.counted ≡ Ok x → without_gone x ≡ e → Follows d c e
   follows x is shows = first_follows d c none x e asks (acts ∙ is) shows
 
   -- without the turns of handlers that are gone there is no more to do
@@ -83,9 +79,9 @@ module _ (d : Definition) (hs : List Handler) (c e : Config) (none : NoneUnheld 
 
   -- what the first task did
   abbrev pub ActsSo : StepKind → Type 0
-  ActsSo made = GoesWithoutGone (as_ok made) (act d c.world None (past_turns c.world (task_of d hs task) ∷ tasks_of d hs s) c.counted) e
+  ActsSo made = GoesWithoutGone (as_ok made) (act d c.world None (past_turns c.world task ∷ rest) c.counted) e
 
-  pub first_stepped : (made : StepKind) → ActsSo made → IsOfKind made (task_of d hs task) → QuietlyStepped (Ok made) d c e
+  pub first_stepped : (made : StepKind) → ActsSo made → IsOfKind made task → QuietlyStepped (Ok made) d c e
   first_stepped mades.Nothing goes made = absurd made
   first_stepped mades.Uncounted goes made =
       let p = passes goes.0 goes.1 in
@@ -101,11 +97,11 @@ module _ (d : Definition) (hs : List Handler) (c e : Config) (none : NoneUnheld 
   first_grows made goes = subst (λ (y : Config). IsPrefix c.world.transcript y.world.transcript) goes.2 (passes goes.0 goes.1).grows
 
   -- it is not stuck
-  pub first_can : {room : ℕ} → IsSafeView d room c → (arm : Arm) → act d c.world None (past_turns c.world (task_of d hs task) ∷ tasks_of d hs s) c.counted ≡ Err arm → ⊥
+  pub first_can : {room : ℕ} → IsSafeView d room c → (arm : Arm) → act d c.world None (past_turns c.world task ∷ rest) c.counted ≡ Err arm → ⊥
   first_can safe arm is = first_acts d c none (record { pool = safe.pool; view = c }) refl safe.safe arm asks (acts ∙ is)
 
   -- and what it leaves names what lives
-  pub first_names_so : {room : ℕ} → IsSafeView d room c → LeadsToLiving (act d c.world None (past_turns c.world (task_of d hs task) ∷ tasks_of d hs s) c.counted)
+  pub first_names_so : {room : ℕ} → IsSafeView d room c → LeadsToLiving (act d c.world None (past_turns c.world task ∷ rest) c.counted)
   first_names_so safe = subst LeadsToLiving acts (first_names d c none (record { pool = safe.pool; view = c }) refl safe.safe asks)
 
 -- numbers are left for what is still to be made and connected

@@ -14,6 +14,7 @@ ghost use Rattle.engine_pools.specs.Safety.{NoneUnheld};
 
 use crate::tasks::act;
 use definitions::Definition;
+use engine_instructions::in_place::compute_in_place;
 use engine_tasks::finalisation::finalise;
 use engine_world::engine::{Engine, StepKind};
 use engine_world::references::let_go_any;
@@ -39,8 +40,8 @@ fn sink_first_floating(engine: &mut Engine, definition: &Definition) -> StepKind
     StepKind::Uncounted
 }
 
-// Makes the step of the first task, which asks no peer, or else of what floats, where nothing is to be finalised.
-fn first_task(engine: &mut Engine, definition: &Definition) -> Result<StepKind, AllocError>
+// Takes the first task, which asks no peer, and makes its step, or else that of what floats, where nothing is to be finalised.
+fn take_first_task(engine: &mut Engine, definition: &Definition) -> Result<StepKind, AllocError>
     requires safe { IsSafeView definition.now (vec_capacity engine.now.stack.tasks) (config_of definition.now engine.now) }
     requires none { NoneUnheld definition.now (config_of definition.now engine.now) }
     requires quiet { asked_first (world_of engine.now.world) (agenda_of definition.now engine.now) ≡ None }
@@ -60,6 +61,25 @@ fn first_task(engine: &mut Engine, definition: &Definition) -> Result<StepKind, 
     let made = act(engine, definition, task)?;
     let_go_any(&mut engine.world.table, held);
     Ok(made)
+}
+
+// Makes the step of the first task, which asks no peer, or else of what floats, where nothing is to be finalised. A program's computation is made
+// where the program lies.
+fn first_task(engine: &mut Engine, definition: &Definition) -> Result<StepKind, AllocError>
+    requires safe { IsSafeView definition.now (vec_capacity engine.now.stack.tasks) (config_of definition.now engine.now) }
+    requires none { NoneUnheld definition.now (config_of definition.now engine.now) }
+    requires quiet { asked_first (world_of engine.now.world) (agenda_of definition.now engine.now) ≡ None }
+    requires counted { Counts definition.now nothing engine.now }
+    ensures counted { OnOk result (Counts definition.now nothing engine.new) }
+    ensures stepped { QuietlyStepped result definition.now (config_of definition.now engine.old) (config_of definition.now engine.new) }
+    ensures known { OnOk result (LeavesKnown (world_of engine.old.world) (world_of engine.new.world) engine.new.closing) }
+    ensures grows { IsPrefix (world_of engine.old.world).transcript (world_of engine.new.world).transcript }
+    ensures room { SameRoom engine.old engine.new }
+{
+    if compute_in_place(engine, definition)? {
+        return Ok(StepKind::Counted);
+    }
+    take_first_task(engine, definition)
 }
 
 /// Makes a step in which no peer is asked, if there is one to make: what nothing holds is finalised first, then comes the first task, and at

@@ -185,14 +185,7 @@ pub fn handle_event(
             signal,
             args,
             detail,
-        } => emit_from_event(
-            engine,
-            definition,
-            place,
-            signal,
-            args.as_slice(),
-            &detail,
-        )?,
+        } => emit_from_event(engine, definition, place, signal, args.as_slice(), &detail)?,
         Request::Release { place } => release_from_event(engine, definition, place)?,
     }
     Ok(())

@@ -39,3 +39,4 @@ pub mod SeatedPeers
 mod PlainKinds
 mod ClosedPeers
 pub mod Ableness
+pub mod FirstPrograms

@@ -1,3 +1,4 @@
+pub mod FirstPrograms
 pub mod GivenView
 pub mod KinView
 pub mod WeakView

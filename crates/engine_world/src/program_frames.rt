@@ -1,24 +1,28 @@
 //! Programs that run: what their registers hold, and the results that they wait for.
 
-ghost use Rattle.std.specs.Prelude.{◌≡◌, ℕ, ◌+◌, ◌≤◌, [], ◌∷◌, Some, Ok, option_map, OnOk};
+ghost use Rattle.std.specs.Prelude.{◌≡◌, ℕ, ◌+◌, ◌≤◌, List, [], ◌∷◌, None, Some, Ok, option_map, OnOk};
+ghost use Rattle.std.specs.Option.{IsSomeAnd};
+ghost use Rattle.ui_machine.specs.Seq.{write};
 ghost use Rattle.ui_machine.specs.Definition as machine;
 ghost use Rattle.ui_machine.specs.Instructions.Registers.{with_register};
 ghost use Rattle.engine_world.specs.Able.{Able, Leads};
 ghost use Rattle.ui_machine.specs.Rules.Accumulation.{passed_down, received, received_by, taken};
 ghost use Rattle.ui_machine.specs.State.References.{in_register, in_value};
 ghost use Rattle.ui_machine.specs.State.Tasks.{Running};
+ghost use Rattle.ui_machine.specs.State.Tasks as tasks;
 ghost use Rattle.g_values.specs.View.{value_view};
-ghost use Rattle.frames.specs.FrameView.{frame_view};
-ghost use Rattle.bytecode.specs.View.{number_of};
+ghost use Rattle.frames.specs.FrameView.{Taken, frame_view, taken_in};
+ghost use Rattle.bytecode.specs.View.{number_of, program_view};
+ghost use Rattle.engine_world.specs.FirstPrograms.{CanWrite, first_program};
 ghost use Rattle.instance_tables.specs.Store.{count_of};
 ghost use Rattle.engine_world.specs.Room.{HasRoom, SameRoom, TakesRoom};
 ghost use Rattle.engine_world.specs.TaskView.{agenda_of};
-ghost use Rattle.engine_world.specs.Counting.{Counts, HoldsTasks, KeepsCounts, MayHold, OnlyCounts, OnlyTasks, in_frame};
+ghost use Rattle.engine_world.specs.Counting.{Counts, HoldsTasks, KeepsCounts, MayHold, OnlyCounts, OnlyTasks, in_frame, nothing};
 
 use crate::engine::Engine;
 use crate::references::{hold_any, let_go_any, register_named};
 use crate::task::Task;
-use bytecode::Register;
+use bytecode::{Program, Register};
 use definitions::Definition;
 use frames::Frame;
 use g_values::Value;
@@ -39,6 +43,33 @@ pub fn put(table: &mut Table, frame: &mut Frame, to: Register, value: Option<Val
     hold_any(table, register_named(&value));
     let held = frame.put(to, value);
     let_go_any(table, register_named(&held));
+}
+
+/// The program that is the first task takes its next instruction, and writes a register, or unsets it, where it lies. What the register names
+/// then is held, and what it named is let go.
+#[inline(always)]
+pub fn put_first(
+    engine: &mut Engine,
+    definition: &Definition,
+    program: &Program,
+    to: Register,
+    value: Option<Value>,
+)
+    requires there { IsSomeAnd (first_program engine.now.stack.tasks.items) (λ f. CanWrite (program_view program.now) to.0 (frame_view f)) }
+    requires counted { Counts definition.now nothing engine.now }
+    requires may { MayHold engine.now.world.table (λ o. in_register o (option_map value_view value)) }
+    ensures agenda { (f : tasks.Frame) (t : Taken) (rest : List tasks.Task)
+        → agenda_of definition.now engine.old ≡ Running f ∷ rest → taken_in (program_view program.now) f ≡ Some t
+        → agenda_of definition.now engine.new ≡ Running (record t.frame { registers = write None t.frame.registers to.0 (option_map value_view value) }) ∷ rest }
+    ensures only { OnlyTasks engine.old engine.new }
+    ensures counted { Counts definition.now nothing engine.new }
+    ensures room { TakesRoom 0 engine.old engine.new }
+{
+    // For the proof: the clauses speak of the definition.
+    let _ = definition;
+    hold_any(&mut engine.world.table, register_named(&value));
+    let held = engine.stack.write_first(program, to, value);
+    let_go_any(&mut engine.world.table, register_named(&held));
 }
 
 /// Puts the rest of a program before the other tasks, in the room that is there. It goes on to hold what its registers name.

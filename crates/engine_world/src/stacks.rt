@@ -1,10 +1,19 @@
 //! The stack of the tasks that are left.
 
-ghost use Rattle.std.specs.Prelude.{◌≡◌, ◌+◌, ◌<◌, ◌≤◌, ℕ, List, [], ◌∷◌, drop, false, length, map, vec_capacity, vec_len, IfOk, IfSome, MatchOption};
+ghost use Rattle.std.specs.Prelude.{◌≡◌, ◌+◌, ◌<◌, ◌≤◌, ℕ, List, None, Some, [], ◌∷◌, drop, false, length, map, option_map, vec_capacity, vec_len, IfOk, IfSome, MatchOption};
 ghost use Rattle.std.specs.List.{list_any};
+ghost use Rattle.std.specs.Option.{IsSomeAnd};
+ghost use Rattle.ui_machine.specs.Seq.{read, write};
+ghost use Rattle.g_values.specs.View.{value_view};
+ghost use Rattle.bytecode.specs.View.{program_view};
+ghost use Rattle.frames.specs.FrameView.{Taken, frame_view, taken_in};
 ghost use Rattle.engine_world.specs.BuildTasks.{is_of_build};
+ghost use Rattle.engine_world.specs.FirstPrograms.{CanWrite, first_program};
 
 use crate::task::Task;
+use bytecode::{Program, Register};
+use frames::Frame;
+use g_values::Value;
 use std::alloc::{AllocError, Global};
 
 /// The tasks that are left, the first on top, in room that is reserved once. Those of the build lie at the bottom.
@@ -61,6 +70,46 @@ impl Stack {
             (λ task. (rest : List config.Task) × (tasks_of d hs self.now ≡ task_of d hs task.now ∷ rest)) }
     {
         self.tasks.last()
+    }
+
+    /// The first task, if it is a program.
+    pub fn first_program(&self) -> Option<&Frame>
+        ensures { option_map (λ f. f.now) result ≡ first_program self.now.tasks.items }
+    {
+        let Some(task) = self.tasks.last() else {
+            return None;
+        };
+        match task {
+            Task::Running(frame) => Some(frame),
+            _ => None,
+        }
+    }
+
+    /// The program that is the first task takes its next instruction, and has another value in a register. Answers what the register held.
+    pub fn write_first(
+        &mut self,
+        program: &Program,
+        to: Register,
+        value: Option<Value>,
+    ) -> Option<Value>
+        requires there { IsSomeAnd (first_program self.now.tasks.items) (λ f. CanWrite (program_view program.now) to.0 (frame_view f)) }
+        ensures written { (d : machine.Definition) (hs : List Handler) (f : config.Frame) (t : Taken) (rest : List config.Task)
+            → tasks_of d hs self.old ≡ config.Running f ∷ rest → taken_in (program_view program.now) f ≡ Some t
+            → (tasks_of d hs self.new ≡ config.Running (record t.frame { registers = write None t.frame.registers to.0 (option_map value_view value) }) ∷ rest)
+            × (option_map value_view result ≡ read None t.frame.registers to.0) }
+        ensures begun { (last : ℕ) → AllTakeKnownHandlers last self.old → AllTakeKnownHandlers last self.new }
+        ensures room { (vec_len self.new.tasks ≡ vec_len self.old.tasks) × (vec_capacity self.new.tasks ≡ vec_capacity self.old.tasks) }
+    {
+        let Some(task) = self.tasks.last_mut() else {
+            unreachable!()
+        };
+        let Task::Running(frame) = task else {
+            unreachable!()
+        };
+        let Some(_taken) = frame.take(program) else {
+            unreachable!()
+        };
+        frame.put(to, value)
     }
 
     /// Takes the first task. Its room is there again.

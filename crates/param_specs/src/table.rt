@@ -15,8 +15,8 @@ use crate::spec::Spec;
 use crate::validating::is_valid_default;
 use indexmap::IndexMap;
 use std::alloc::{AllocError, Global};
-use std::rc::RcStr;
 use std::marker::Model;
+use std::rc::RcStr;
 use type_tree::{
     TypeId, TypeTree, canonical_name, has_canonical_bytes, is_property_name, is_spelling,
 };
