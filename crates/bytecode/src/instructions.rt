@@ -5,7 +5,6 @@
 //! name means is looked up where the instruction is carried out.
 
 use crate::computations::{Computation, Register};
-use std::rc::RcStr;
 
 /// A block of a program, by its number.
 #[derive(Clone, Copy, Debug, PartialEq, Eq)]
@@ -129,8 +128,7 @@ pub enum SignalInstruction {
         into: Option<Register>,
         object: Register,
         signal: String,
-        /// The emissions that it makes share it.
-        detail: Option<RcStr>,
+        detail: Option<String>,
         args: Vec<Register>,
     },
     /// `connect d o s D p [options] z`: a program is connected to a signal.

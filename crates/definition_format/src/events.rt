@@ -1,7 +1,6 @@
 //! What an event line asks for.
 
 use crate::objects::Given;
-use std::rc::RcStr;
 use ui_machine::{Place, SignalId, Slot};
 
 /// What an event asks of an object of the builder.
@@ -29,8 +28,8 @@ pub enum Request {
         signal: SignalId,
         /// As many as the signal has parameters, in their order.
         args: Vec<Given>,
-        /// As it is written. Only a signal that takes details has one. The emission shares it.
-        detail: Option<RcStr>,
+        /// As it is written. Only a signal that takes details has one.
+        detail: Option<String>,
     },
 }
 

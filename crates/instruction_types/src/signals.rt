@@ -148,7 +148,7 @@ pub(crate) fn typed(
             *into,
             *object,
             signal.as_str(),
-            detail.as_deref(),
+            text_of(detail),
             args.as_slice(),
         ),
         SignalInstruction::Connect {
