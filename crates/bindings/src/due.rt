@@ -6,6 +6,7 @@ ghost use Rattle.bindings.specs.Due.{from_ready};
 use crate::list::Bindings;
 use std::alloc::{AllocError, Global};
 use std::marker::Model;
+use ui_machine::Slot;
 
 /// A binding that is to make a transfer, by its number, and the way that it goes.
 #[derive(Clone, Copy, Debug, PartialEq, Eq)]
@@ -19,6 +20,8 @@ pub struct DueTransfer {
 #[derive(Debug, Drop)]
 pub struct DueTransfers {
     left: Vec<DueTransfer>,
+    /// The slot of the property that was notified.
+    slot: Slot,
 }
 
 impl Model for DueTransfers {
@@ -37,7 +40,33 @@ impl DueTransfers {
     {
         DueTransfers {
             left: Vec::new(alloc),
+            slot: 0,
         }
+    }
+
+    /// No transfers of a property's notification yet, in a list that is empty.
+    pub(crate) fn in_list(left: Vec<DueTransfer>, slot: Slot) -> Self
+        requires { left.items ≡ [] }
+        ensures { result ≡ [] }
+    {
+        DueTransfers { left, slot }
+    }
+
+    /// Whether there is a list, also where no transfers are left in it.
+    pub(crate) fn has_list(&self) -> bool {
+        self.left.capacity() > 0
+    }
+
+    /// The list, and the slot of the property that was notified.
+    pub(crate) fn into_list(self) -> (Vec<DueTransfer>, Slot) {
+        (self.left, self.slot)
+    }
+
+    /// Leaves none. The room of their list stays.
+    pub fn clear(&mut self)
+        ensures { self.new ≡ [] }
+    {
+        self.left.clear();
     }
 
     // Puts one before the others.

@@ -16,6 +16,7 @@ mod listing;
 mod listings;
 mod names;
 mod rising;
+mod spare_lists;
 
 pub use binding::{Binding, Transfer};
 pub use due::{DueTransfer, DueTransfers};

@@ -12,6 +12,7 @@ use crate::bound::Bound;
 use crate::due::DueTransfers;
 use crate::fault::BindError;
 use crate::rising::Rising;
+use crate::spare_lists::SpareLists;
 use std::alloc::{AllocError, Global};
 use std::marker::Model;
 use ui_machine::{ObjectId, Slot};
@@ -26,6 +27,7 @@ pub struct Bindings {
     /// Those behind the rising ones that were made since a number did not rise.
     others: Vec<Bound>,
     next: u64,
+    lists: SpareLists,
 }
 
 impl Model for Bindings {
@@ -50,6 +52,7 @@ impl Bindings {
             rising: Rising::new(alloc),
             others: Vec::new(alloc),
             next: 0,
+            lists: SpareLists::new(alloc),
         }
     }
 
@@ -82,6 +85,7 @@ impl Bindings {
         let Some(next) = number.checked_add(1) else {
             return Err(BindError::BindingLimit);
         };
+        self.lists.add(*self.others.allocator(), &binding)?;
         put(
             &mut self.rising,
             &mut self.others,
@@ -167,23 +171,36 @@ impl Bindings {
         }
     }
 
-    /// The transfers that a notification is to make: those of the bindings that listen at the property, in document order.
+    /// The transfers that a notification is to make: those of the bindings that listen at the property, in document order. They are in a list
+    /// that has room for all of them since the bindings were made, as long as no other notification of the property has taken it.
     ///
     /// # Errors
     ///
-    /// Where there is no memory for them.
+    /// Where another notification has the list, and there is no memory for the transfers.
     pub fn due(
-        &self,
+        &mut self,
         alloc: Global,
         object: ObjectId,
         slot: Slot,
     ) -> Result<DueTransfers, AllocError>
-        ensures { IfOk result (λ due. map entry_of due ≡ transfers object.0 slot self.now.bindings) }
+        ensures due { IfOk result (λ due. map entry_of due ≡ transfers object.0 slot self.old.bindings) }
+        ensures same { self.new ≡ self.old }
     {
-        let mut due = DueTransfers::new(alloc);
+        let list = self.lists.take(alloc, object, slot);
+        let mut due = DueTransfers::in_list(list, slot);
         put_due(&self.others, &mut due, object, slot)?;
         self.rising.put_due(&mut due, object, slot)?;
         Ok(due)
+    }
+
+    /// Gives back the list of transfers that a notification of a property of the object took. Those that are left are not made.
+    pub fn give_back(&mut self, object: ObjectId, due: DueTransfers)
+        ensures { self.new ≡ self.old }
+    {
+        if due.has_list() {
+            let (list, slot) = due.into_list();
+            self.lists.give_back(object, slot, list);
+        }
     }
 
     // The binding of a number, until it ends.

@@ -1,6 +1,7 @@
 //! The event that emits a signal, read from the words of a line.
 
-ghost use Rattle.std.specs.Prelude.{◌≡◌, [], length, map, option_map, slice_get, string_bytes, None, Some, IfOk};
+ghost use Rattle.std.specs.Prelude.{◌≡◌, [], length, map, option_map, slice_get, None, Some, IfOk};
+ghost use Rattle.std.specs.Rc.{rc_str_bytes};
 ghost use Rattle.std.specs.List.{AllByRecursion};
 ghost use Rattle.serde_json.specs.Find.{as_array, as_str};
 ghost use Rattle.serde_json.specs.View.{view, items_view};
@@ -21,6 +22,7 @@ use g_values::Kind;
 use serde_json::Value;
 use signal_core::{DeclaredSignal, SignalFlags};
 use std::alloc::{AllocError, Global};
+use std::rc::RcStr;
 use type_tree::TypeId;
 use ui_machine::{Place, SignalId};
 
@@ -189,12 +191,12 @@ fn arguments_of(
     Ok(given)
 }
 
-// The same text, if there is one.
-fn copied(alloc: Global, detail: Option<&str>) -> Result<Option<String>, AllocError>
-    ensures { IfOk result (λ copy. option_map (λ text. string_bytes text) copy ≡ option_map (λ s. s.now) detail.entry) }
+// The same text, if there is one, to be shared.
+fn copied(alloc: Global, detail: Option<&str>) -> Result<Option<RcStr>, AllocError>
+    ensures { IfOk result (λ copy. option_map (λ text. rc_str_bytes text) copy ≡ option_map (λ s. s.now) detail.entry) }
 {
     match detail {
-        Some(detail) => Ok(Some(String::from_str(alloc, detail)?)),
+        Some(detail) => Ok(Some(RcStr::from_str(alloc, detail)?)),
         None => Ok(None),
     }
 }

@@ -1,5 +1,6 @@
 -- The machine's programs that code keeps.
 use Rattle.std.specs.Prelude.{ℕ, map, option_map, string_bytes}
+use Rattle.std.specs.Rc.{rc_str_bytes}
 use Rattle.ui_machine.specs.Definition.Kinds as kinds
 use Rattle.ui_machine.specs.Definition.Programs as words
 use Rattle.g_values.specs.View.{kind_view}
@@ -67,7 +68,7 @@ object_instruction_view (objects.Adopt to parent child) = words.adopt to.0 paren
 
 abbrev pub signal_instruction_view : SignalInstruction → words.Instruction
 signal_instruction_view (signals.Emit into object signal detail args) =
-    words.emit (option_map number_of into) object.0 (string_bytes signal) (option_map string_bytes detail) (map number_of args.items)
+    words.emit (option_map number_of into) object.0 (string_bytes signal) (option_map rc_str_bytes detail) (map number_of args.items)
 signal_instruction_view (signals.Connect to object connection) = words.connect to.0 object.0 (connect_view connection)
 signal_instruction_view (signals.Disconnect object program) = words.disconnect object.0 (string_bytes program)
 signal_instruction_view (signals.Block object program) = words.block object.0 (string_bytes program)

@@ -5,6 +5,7 @@
 //! name means is looked up where the instruction is carried out.
 
 use crate::computations::{Computation, Register};
+use std::rc::RcStr;
 
 /// A block of a program, by its number.
 #[derive(Clone, Copy, Debug, PartialEq, Eq)]
@@ -128,7 +129,8 @@ pub enum SignalInstruction {
         into: Option<Register>,
         object: Register,
         signal: String,
-        detail: Option<String>,
+        /// The emissions that it makes share it.
+        detail: Option<RcStr>,
         args: Vec<Register>,
     },
     /// `connect d o s D p [options] z`: a program is connected to a signal.

@@ -1,6 +1,7 @@
 //! Emissions that a host asks for.
 
-ghost use Rattle.std.specs.Prelude.{◌≡◌, ◌↔◌, ◌||◌, IsTrue, is_none, map, option_map, string_bytes};
+ghost use Rattle.std.specs.Prelude.{◌≡◌, ◌↔◌, ◌||◌, IsTrue, is_none, map, option_map};
+ghost use Rattle.std.specs.Rc.{rc_str_bytes};
 ghost use Rattle.ui_machine.specs.Definition.Properties.{has_flags};
 ghost use Rattle.ui_machine.specs.State.Tasks.{emit};
 ghost use Rattle.law_typing.specs.Good.Requests.{RequestRead};
@@ -12,13 +13,14 @@ use bitflags::Flags;
 use definition_format::Given;
 use definitions::Definition;
 use signal_core::{DeclaredSignal, SignalFlags};
+use std::rc::RcStr;
 use ui_machine::{Place, SignalId};
 
 // The first signal of each class, `notify`, which no event emits.
 const NOTIFY: SignalId = 0;
 
 // Whether a signal takes a detail, if there is one.
-fn takes_detail(signal: &DeclaredSignal<'_>, detail: &Option<String>) -> bool
+fn takes_detail(signal: &DeclaredSignal<'_>, detail: &Option<RcStr>) -> bool
     ensures { result ≡ (is_none detail.now || has_flags 16 signal.now.flags.0) }
 {
     detail.is_none() || signal.flags.contains(SignalFlags::DETAILED)
@@ -31,9 +33,9 @@ pub(crate) fn is_emission(
     place: Place,
     number: SignalId,
     args: &[Given],
-    detail: &Option<String>,
+    detail: &Option<RcStr>,
 ) -> bool
-    ensures { IsTrue result ↔ RequestRead definition.now (emit place.0 number (map given_view args.now) (option_map (λ text. string_bytes text) detail.now)) }
+    ensures { IsTrue result ↔ RequestRead definition.now (emit place.0 number (map given_view args.now) (option_map (λ text. rc_str_bytes text) detail.now)) }
 {
     // For the proof: what is known of a definition's signals.
     let _types = definition.types();

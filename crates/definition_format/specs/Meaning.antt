@@ -2,6 +2,7 @@
 use Rattle.std.specs.Prelude.{◌≡◌, ℕ, ◌<◌, ◌≤◌, ◌+◌, ◌≤ℤ◌, Bool, true, false, not, nat_le, List, [], ◌++◌, map, length, count_by, if◌then◌else◌, Option, None, Some, option_map, option_and_then, String, string_bytes, slice_get, IfSome}
 use Rattle.std.specs.Global.{Global}
 use Rattle.std.specs.List.{AllByRecursion}
+use Rattle.std.specs.Rc.{rc_str_bytes}
 use Rattle.ui_machine.specs.Seq.{listed, read}
 use Rattle.ui_machine.specs.declared.ids.Place.{Place}
 use Rattle.ui_machine.specs.declared.limits.Limits.{Limits}
@@ -307,7 +308,7 @@ abbrev pub request_of : Request → config.Request
 request_of (requests.Set place slot given) = config.set place.0 slot (given_view given)
 request_of (requests.Get place slot) = config.get place.0 slot
 request_of (requests.Release place) = config.release place.0
-request_of (requests.Emit place signal args detail) = config.emit place.0 signal (map given_view args.items) (option_map (λ text. string_bytes text) detail)
+request_of (requests.Emit place signal args detail) = config.emit place.0 signal (map given_view args.items) (option_map (λ text. rc_str_bytes text) detail)
 
 abbrev pub event_of : Event → config.Event
 event_of (events.Request request) = config.request (request_of request)

@@ -1,6 +1,7 @@
 //! What an event line asks for.
 
 use crate::objects::Given;
+use std::rc::RcStr;
 use ui_machine::{Place, SignalId, Slot};
 
 /// What an event asks of an object of the builder.
@@ -28,8 +29,8 @@ pub enum Request {
         signal: SignalId,
         /// As many as the signal has parameters, in their order.
         args: Vec<Given>,
-        /// As it is written. Only a signal that takes details has one.
-        detail: Option<String>,
+        /// As it is written. Only a signal that takes details has one. The emission shares it.
+        detail: Option<RcStr>,
     },
 }
 

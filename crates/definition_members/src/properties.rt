@@ -1,6 +1,7 @@
 //! The properties of a class, read from a definition.
 
-ghost use Rattle.std.specs.Prelude.{◌≡◌, codes, is_some, string_bytes, IfOk};
+ghost use Rattle.std.specs.Prelude.{◌≡◌, codes, is_some, IfOk};
+ghost use Rattle.std.specs.Rc.{rc_str_bytes};
 ghost use Rattle.serde_json.specs.View.{view, items_view};
 ghost use Rattle.ui_machine.specs.Rules.Ancestry.{parent_of};
 ghost use Rattle.g_values.specs.View.{kind_view, value_view, IsKnown};
@@ -20,19 +21,20 @@ use definition_parts::kinds::{is_object, kind_of};
 use definition_parts::reads::{Reads, read_each};
 use g_values::Kind;
 use param_specs::{MOST_PROPERTIES, PropertyFlags, Spec, SpecError, SpecFault, SpecTable};
+use std::rc::RcStr;
 use type_tree::{TypeId, TypeTree, is_property_name};
 
 const MEMBERS: [&str; 7] = ["name", "kind", "flags", "default", "min", "max", "weak"];
 
 // The spec of a property with this default and range.
 fn property_spec(
-    name: String,
+    name: RcStr,
     kind: Kind,
     flags: PropertyFlags,
     default: g_values::Value,
     range: NumberRange,
 ) -> Spec
-    ensures { spec_view result ≡ property_spec (string_bytes name) (kind_view kind) flags.0 (value_view default) (record { low = range.min; high = range.max }) }
+    ensures { spec_view result ≡ property_spec (rc_str_bytes name) (kind_view kind) flags.0 (value_view default) (record { low = range.min; high = range.max }) }
 {
     Spec {
         name,
@@ -135,7 +137,7 @@ fn valued(
     ensures kind { IfOk result (λ s. s.kind ≡ kind) }
 {
     let default = default_of(part, types, kind)?;
-    let name = String::from_str(part.alloc, name)?;
+    let name = RcStr::from_str(part.alloc, name)?;
     let whole = property_spec(name, kind, flags, default, whole_range(&kind));
     check_unranged(part, types, &whole)?;
     let range = range_of(part, &kind)?;

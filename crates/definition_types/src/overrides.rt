@@ -2,6 +2,7 @@
 
 ghost use Rattle.std.specs.Prelude.{◌≡◌, [], codes, is_some, map, string_bytes, option_map, option_and_then, IfOk, IfSome, None};
 ghost use Rattle.std.specs.List.{find, list_any};
+ghost use Rattle.std.specs.Rc.{rc_str_bytes};
 ghost use Rattle.serde_json.specs.View.{view, items_view};
 ghost use Rattle.serde_json.specs.Find.{get, as_str};
 ghost use Rattle.ui_machine.specs.Rules.Ancestry.{parent_of};
@@ -209,7 +210,7 @@ pub(crate) struct Heir<'a> {
 
 // How a class has a property of an interface, where it inherits this one or none of that name.
 fn override_by(own: &OwnAhead, inherited: Option<&Spec>, wanted: &Spec) -> Override
-    ensures { override_view result ≡ override_by (own_named (map own_view own.now.entries) (string_bytes wanted.now.name)) (option_map (λ s. spec_view s.now) inherited.entry) (spec_view wanted.now) }
+    ensures { override_view result ≡ override_by (own_named (map own_view own.now.entries) (rc_str_bytes wanted.now.name)) (option_map (λ s. spec_view s.now) inherited.entry) (spec_view wanted.now) }
 {
     match own.get(wanted.name.as_str()) {
         Some(Some(spec)) => compared(Some(spec), wanted),

@@ -1,6 +1,7 @@
 //! What a definition says.
 
-ghost use Rattle.std.specs.Prelude.{◌≡◌, ◌<◌, ◌≤◌, ◌+◌, None, ℕ, length, option_and_then, option_map, slice_get, string_bytes, IfOk, IfSome, map};
+ghost use Rattle.std.specs.Prelude.{◌≡◌, ◌<◌, ◌≤◌, ◌+◌, None, ℕ, length, option_and_then, option_map, slice_get, IfOk, IfSome, map};
+ghost use Rattle.std.specs.Rc.{rc_str_bytes};
 ghost use Rattle.ui_machine.specs.Definition.Names.{place_named};
 ghost use Rattle.ui_machine.specs.Definition.Lookups.{class_of, place_of, program_at, program_of, spec_of, specs_of, slot_of, type_of};
 ghost use Rattle.ui_machine.specs.Seq.{read};
@@ -31,6 +32,7 @@ use peer_shapes::Shape;
 use signal_core::{ClassHandler, DeclaredSignal, Emission, SignalRows, SignalTable};
 use std::alloc::{AllocError, Global};
 use std::marker::Model;
+use std::rc::RcStr;
 use type_tree::{TypeId, TypeTree};
 use ui_machine::{Limits, ObjectId, Place, ProgramId, SignalId, Slot};
 
@@ -265,11 +267,11 @@ impl Definition {
         class: TypeId,
         object: ObjectId,
         number: SignalId,
-        detail: Option<String>,
+        detail: Option<RcStr>,
     ) -> Option<Emission>
         ensures { (greatest : ℕ) → option_map (λ e. begun e greatest) result
             ≡ option_map (λ s. walk_for greatest s.accumulator
-            (planned self.now class object.0 number (option_map (λ text. string_bytes text) detail) s))
+            (planned self.now class object.0 number (option_map (λ text. rc_str_bytes text) detail) s))
             (signal_of self.now class number) }
     {
         if class.index() >= self.types.len() {

@@ -10,13 +10,14 @@ use Rattle.ui_machine.specs.Rules.EmissionPlan.{new_emission}
 use Rattle.ui_machine.specs.State.Config.{World}
 use Rattle.ui_machine.specs.State.Tasks.{Emission, Frame}
 use Rattle.bytecode.specs.View.{number_of}
+use Rattle.engine_world.specs.GivenView.{shared_detail_of}
 use Rattle.engine_instructions.specs.declared.emits.Emit as code
 
 abbrev pub emit_of : code.Emit → machine.Emit
 emit_of e = record {
   into = option_map number_of e.into;
   signal = e.signal.now;
-  detail = option_map (λ text. text.now) e.detail;
+  detail = shared_detail_of e.detail.now;
   args = map number_of e.args.now;
 }
 

@@ -27,7 +27,7 @@ use engine_world::task::{Task, Transfers};
 use g_values::Value;
 use instance_tables::Table;
 use signal_core::{Accumulator, Cursor, is_last};
-use std::alloc::{AllocError, Global};
+use std::alloc::AllocError;
 
 // An emission takes what its program gave, if it gave something, and answers whether that was the last. It holds what that names, and lets
 // go what the value before it named.
@@ -56,11 +56,11 @@ fn collect(
 }
 
 // The transfers of an emission, of which none are left where it stopped.
-fn unless_stopped(alloc: Global, transfers: Transfers, is_stopped: bool) -> Transfers
+fn unless_stopped(transfers: Transfers, is_stopped: bool) -> Transfers
     ensures { result ≡ cond is_stopped (at.Due []) transfers }
 {
     if is_stopped {
-        Transfers::new(alloc)
+        transfers.emptied()
     } else {
         transfers
     }
@@ -104,7 +104,7 @@ fn accumulate(
         signal.accumulator,
         given,
     );
-    let left = unless_stopped(engine.alloc, transfers, is_last);
+    let left = unless_stopped(transfers, is_last);
     engine.stack.push(Task::Emitting {
         cursor,
         args,

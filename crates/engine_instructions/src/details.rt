@@ -5,7 +5,7 @@ ghost use Rattle.ui_machine.specs.Rules.Connections.{detail_in};
 ghost use Rattle.linked_programs.specs.Linked.{IsDetail};
 ghost use Rattle.linked_programs.specs.Linked as linked;
 ghost use Rattle.engine_world.specs.Able.{Able};
-ghost use Rattle.engine_world.specs.GivenView.{detail_named, detail_of};
+ghost use Rattle.engine_world.specs.GivenView.{detail_named, detail_of, shared_detail_of};
 ghost use Rattle.engine_world.specs.View.{world_of};
 
 use definitions::Definition;
@@ -13,6 +13,7 @@ use engine_world::arguments;
 use engine_world::engine::Engine;
 use linked_programs::Link;
 use std::alloc::AllocError;
+use std::rc::RcStr;
 use type_tree::TypeId;
 use ui_machine::{ObjectId, SignalId};
 
@@ -71,4 +72,40 @@ pub(crate) fn detail_in(
     let class = engine.world.table.class_of(object);
     let name = property_named(engine, definition, class, text, link)?;
     Ok(Some(name))
+}
+
+// The same detail, to be shared.
+fn shared(detail: Option<String>) -> Result<Option<RcStr>, AllocError>
+    ensures { IfOk result (λ text. shared_detail_of text ≡ detail_of detail) }
+{
+    match detail {
+        Some(detail) => Ok(Some(RcStr::from_string(detail)?)),
+        None => Ok(None),
+    }
+}
+
+/// The detail of an emission as it is at a signal of an object. Its text is shared with the program. A detail of `notify` asks for memory: no
+/// program of an accepted definition emits it.
+///
+/// # Errors
+///
+/// `AllocError` where a text has 2^64 - 1 sharers, and at `notify` if no memory is found.
+pub(crate) fn shared_detail_in(
+    engine: &Engine,
+    definition: &Definition,
+    object: ObjectId,
+    signal: SignalId,
+    detail: &Option<RcStr>,
+    link: Link,
+) -> Result<Option<RcStr>, AllocError>
+    requires able { Able (detail_in definition.now (world_of engine.now.world) object.0 signal (shared_detail_of detail.now)) }
+    requires link { IsDetail definition.now engine.now.links (shared_detail_of detail.now) (linked.detail_in link) }
+    ensures { IfOk result (λ own. detail_in definition.now (world_of engine.now.world) object.0 signal (shared_detail_of detail.now) ≡ Ok (shared_detail_of own)) }
+{
+    if signal != 0 {
+        return arguments::shared_detail_in(engine, definition, object, signal, detail);
+    }
+    let text = arguments::shared_text(detail);
+    let own = detail_in(engine, definition, object, signal, text, link)?;
+    shared(own)
 }

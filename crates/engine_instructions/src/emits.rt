@@ -16,7 +16,7 @@ ghost use Rattle.engine_world.specs.TaskView.{agenda_of, new_of};
 ghost use Rattle.engine_world.specs.Room.{HasRoom, SameRoom};
 ghost use Rattle.engine_world.specs.View.{world_of};
 
-use crate::details::detail_in;
+use crate::details::shared_detail_in;
 use crate::operands::object_in;
 use bytecode::Register;
 use definitions::Definition;
@@ -28,6 +28,7 @@ use frames::{Frame, copy_values};
 use g_values::Value;
 use linked_programs::Link;
 use std::alloc::AllocError;
+use std::rc::RcStr;
 use ui_machine::{ObjectId, SignalId};
 
 /// What `emit` says beside the object.
@@ -36,7 +37,7 @@ pub(crate) struct Emit<'a> {
     /// The register that waits for the result.
     pub(crate) into: Option<Register>,
     pub(crate) signal: &'a str,
-    pub(crate) detail: Option<&'a str>,
+    pub(crate) detail: &'a Option<RcStr>,
     pub(crate) args: &'a [Register],
     /// What the names mean.
     pub(crate) link: Link,
@@ -79,7 +80,7 @@ fn new_emission(
 {
     let object = object_in(engine, frame, object);
     let signal = signal_in(engine, definition, object, emit.signal, emit.link);
-    let detail = detail_in(engine, definition, object, signal, emit.detail, emit.link)?;
+    let detail = shared_detail_in(engine, definition, object, signal, emit.detail, emit.link)?;
     let registers = frame.registers.as_slice();
     copy_values(registers, emit.args, &mut args)?;
     Ok(NewEmission {

@@ -39,7 +39,6 @@ use bytecode::{
     SignalInstruction, SourceInstruction,
 };
 use definitions::Definition;
-use engine_world::arguments::as_text;
 use engine_world::engine::Engine;
 use frames::Frame;
 use linked_programs::Link;
@@ -290,7 +289,7 @@ fn execute_on_signals(
             let emit = Emit {
                 into: *into,
                 signal: signal.as_str(),
-                detail: as_text(detail),
+                detail,
                 args: args.as_slice(),
                 link,
             };

@@ -19,7 +19,7 @@ ghost use Rattle.engine_world.specs.View.{world_of};
 use definitions::Definition;
 use engine_world::engine::Engine;
 use engine_world::program_frames::push_frame;
-use engine_world::task::{Task, Transfers};
+use engine_world::task::Task;
 use frames::Frame;
 use std::alloc::AllocError;
 
@@ -38,18 +38,19 @@ fn stop_emission(engine: &mut Engine)
         mut cursor,
         args,
         by_event,
-        transfers: _,
+        transfers,
     } = task
     else {
         engine.stack.push(task);
         return;
     };
     cursor.stop();
+    let transfers = transfers.emptied();
     engine.stack.push(Task::Emitting {
         cursor,
         args,
         by_event,
-        transfers: Transfers::new(engine.alloc),
+        transfers,
     });
 }
 

@@ -34,7 +34,7 @@ use crate::programs::begin_program;
 use crate::turns::Invocation;
 use bindings::{Bindings, DueTransfer};
 use definitions::Definition;
-use engine_world::arguments::as_text;
+use engine_world::arguments::shared_text;
 use engine_world::counted_steps::count;
 use engine_world::engine::Engine;
 use engine_world::lines::Line;
@@ -47,6 +47,7 @@ use g_values::{Kind, Value, zero_of};
 use signal_core::{Cursor, Emission, Turn};
 use std::alloc::{AllocError, Global};
 use type_tree::TypeTree;
+use ui_machine::ObjectId;
 
 // What an emission results in: the value that it has accumulated, or else the zero value of the kind.
 fn result_of(definition: &Definition, kind: Option<Kind>, value: Option<Value>) -> Option<Value>
@@ -94,7 +95,7 @@ fn emission_line(
     ensures { IfOk result (λ line. string_bytes line ≡ text_of_line types.now
         (lines.emit emission.now.object.0 signal.now (new_of emission.now).detail (new_of emission.now).args)) }
 {
-    let detail = as_text(&emission.detail);
+    let detail = shared_text(&emission.detail);
     let args = emission.args.as_slice();
     let told = Line::Emit {
         object: emission.object,
@@ -254,7 +255,15 @@ fn say_result_if(
     say_result(engine, definition, value)
 }
 
-// An emission ends. A program that waits for its result takes it, and what it was given is let go.
+// Gives back the list of an object's emission in which its transfers were.
+fn give_back_list(engine: &mut Engine, object: ObjectId, transfers: Transfers)
+    ensures { engine.new ≡ engine.old }
+{
+    let due = transfers.into_due();
+    engine.world.bindings.give_back(object, due);
+}
+
+// An emission ends. A program that waits for its result takes it, what it was given is let go, and its lists are given back.
 #[tactic(auto, unfolding(ui_machine::specs::Rules::Accumulation::ending, ui_machine::specs::Rules::Accumulation::resulting, ui_machine::specs::Rules::EmissionPlan::signal_at, ui_machine::specs::Steps::left))]
 fn end_emission(
     engine: &mut Engine,
@@ -262,6 +271,7 @@ fn end_emission(
     cursor: Cursor,
     args: Vec<Value>,
     by_event: bool,
+    transfers: Transfers,
 ) -> Result<(), AllocError>
     requires able { Able (left engine.now.counted (ending definition.now (world_of engine.now.world) (emission_of cursor args.items by_event) (agenda_of definition.now engine.now))) }
     requires counted { Counts definition.now (λ o. same o cursor.object + in_emitted o (emission_of cursor args.items by_event)) engine.now }
@@ -288,6 +298,7 @@ fn end_emission(
     let_go_values(&mut engine.world.table, args.as_slice());
     let_go_any(&mut engine.world.table, held);
     engine.spare_args.give_back(args);
+    give_back_list(engine, object, transfers);
     Ok(())
 }
 
@@ -397,7 +408,7 @@ fn emit_transfers(
         return Ok(());
     }
     let Some(turn) = engine.world.handlers.next(&mut cursor) else {
-        return end_emission(engine, definition, cursor, args, by_event);
+        return end_emission(engine, definition, cursor, args, by_event, transfers);
     };
     take_turn(engine, definition, turn, cursor, args, by_event, transfers)
 }
@@ -441,7 +452,7 @@ pub fn emit(
         return Ok(());
     }
     let Some(turn) = engine.world.handlers.next(&mut cursor) else {
-        return end_emission(engine, definition, cursor, args, by_event);
+        return end_emission(engine, definition, cursor, args, by_event, transfers);
     };
     match turn {
         Turn::Transfers => {

@@ -5,6 +5,7 @@ ghost use Rattle.ui_machine.specs.Steps.{uncounted};
 ghost use Rattle.ui_machine.specs.Rules.Events.{request_step, set_from_event, get_from_event, emit_from_event, release_from_event};
 ghost use Rattle.definition_format.specs.Meaning.{given_view, request_of};
 ghost use Rattle.engine_world.specs.Able.{Able, Leads, LeadsToLiving};
+ghost use Rattle.engine_world.specs.GivenView.{shared_detail_of};
 ghost use Rattle.engine_world.specs.Quiet.{IsQuiet};
 ghost use Rattle.engine_world.specs.Room.{HasRoom, SameRoom};
 ghost use Rattle.engine_world.specs.View.{world_of};
@@ -14,7 +15,7 @@ ghost use Rattle.engine_world.specs.EngineView.{config_of};
 
 use definition_format::{Given, Request};
 use definitions::Definition;
-use engine_world::arguments::{add_operands, as_text, detail_in};
+use engine_world::arguments::{add_operands, shared_detail_in};
 use engine_world::builder::{BuilderEntry, set_builder_entry};
 use engine_world::engine::Engine;
 use engine_world::given::{held_object, operand};
@@ -24,6 +25,7 @@ use engine_world::properties::spec_of;
 use engine_world::references::{let_go_any, push_task};
 use engine_world::task::{NewEmission, Task};
 use std::alloc::AllocError;
+use std::rc::RcStr;
 use ui_machine::{Place, SignalId, Slot};
 
 // A set by an event.
@@ -94,21 +96,21 @@ fn emit_from_event(
     place: Place,
     signal: SignalId,
     args: &[Given],
-    detail: Option<&str>,
+    detail: &Option<RcStr>,
 ) -> Result<(), AllocError>
-    requires able { Able (uncounted (agenda_of definition.now engine.now) engine.now.counted (emit_from_event definition.now (world_of engine.now.world) place.0 signal (map given_view args.now) (option_map (λ text. text.now) detail))) }
-    requires names { LeadsToLiving (uncounted (agenda_of definition.now engine.now) engine.now.counted (emit_from_event definition.now (world_of engine.now.world) place.0 signal (map given_view args.now) (option_map (λ text. text.now) detail))) }
+    requires able { Able (uncounted (agenda_of definition.now engine.now) engine.now.counted (emit_from_event definition.now (world_of engine.now.world) place.0 signal (map given_view args.now) (shared_detail_of detail.now))) }
+    requires names { LeadsToLiving (uncounted (agenda_of definition.now engine.now) engine.now.counted (emit_from_event definition.now (world_of engine.now.world) place.0 signal (map given_view args.now) (shared_detail_of detail.now))) }
     requires counted { IsCounted definition.now engine.now }
     requires room { HasRoom 1 engine.now }
     ensures step { Leads result
-        (uncounted (agenda_of definition.now engine.old) engine.old.counted (emit_from_event definition.now (world_of engine.old.world) place.0 signal (map given_view args.now) (option_map (λ text. text.now) detail.entry)))
+        (uncounted (agenda_of definition.now engine.old) engine.old.counted (emit_from_event definition.now (world_of engine.old.world) place.0 signal (map given_view args.now) (shared_detail_of detail.now)))
         (config_of definition.now engine.new) }
     ensures quiet { OnErr result (IsQuiet (world_of engine.old.world) (world_of engine.new.world)) }
     ensures counted { OnOk result (KeepsCounts definition.now engine.old engine.new) }
     ensures room { SameRoom engine.old engine.new }
 {
     let object = held_object(engine, place);
-    let detail = detail_in(engine, definition, object, signal, detail)?;
+    let detail = shared_detail_in(engine, definition, object, signal, detail)?;
     let mut values = engine.spare_args.take_for(engine.alloc, args.len());
     add_operands(engine, args, &mut values)?;
     push_task(
@@ -183,14 +185,7 @@ pub fn handle_event(
             signal,
             args,
             detail,
-        } => emit_from_event(
-            engine,
-            definition,
-            place,
-            signal,
-            args.as_slice(),
-            as_text(&detail),
-        )?,
+        } => emit_from_event(engine, definition, place, signal, args.as_slice(), &detail)?,
         Request::Release { place } => release_from_event(engine, definition, place)?,
     }
     Ok(())

@@ -1,10 +1,12 @@
 //! Notifications: how one begins, and those of a thaw.
 
-ghost use Rattle.std.specs.Prelude.{OnOk, OnErr, IsSome, ◌≡◌, Ok};
+ghost use Rattle.std.specs.Prelude.{IfOk, OnOk, OnErr, IsSome, ◌≡◌, Ok, map};
 ghost use Rattle.ui_machine.specs.Rules.EmissionPlan.{notifying};
 ghost use Rattle.ui_machine.specs.Steps.{counted, uncounted};
 ghost use Rattle.ui_machine.specs.Rules.NotifyQueue.{thawing};
+ghost use Rattle.ui_machine.specs.State.Bindings.{transfers};
 ghost use Rattle.ui_machine.specs.State.Objects.{living};
+ghost use Rattle.bindings.specs.Due.{entry_of};
 ghost use Rattle.engine_world.specs.Able.{Able, Leads};
 ghost use Rattle.engine_world.specs.Quiet.{IsQuiet};
 ghost use Rattle.engine_world.specs.Room.{HasRoom, SameRoom};
@@ -14,6 +16,7 @@ ghost use Rattle.engine_world.specs.Counting.{IsCounted, KeepsCounts};
 ghost use Rattle.engine_world.specs.EngineView.{config_of};
 
 use crate::emission::start_emission;
+use bindings::DueTransfers;
 use definitions::Definition;
 use engine_world::counted_steps::count;
 use engine_world::engine::Engine;
@@ -26,18 +29,28 @@ use ui_machine::{ObjectId, SignalId, Slot};
 // The number of the signal `notify`.
 const NOTIFY: SignalId = 0;
 
-/// A due notification begins, with the transfers of the bindings that listen at the property. It is counted and reported.
-///
-/// # Errors
-///
-/// `AllocError` if no memory is found.
+// The transfers of the bindings that listen at a property.
+fn due_transfers(
+    engine: &mut Engine,
+    object: ObjectId,
+    slot: Slot,
+) -> Result<DueTransfers, AllocError>
+    ensures due { IfOk result (λ due. map entry_of due ≡ transfers object.0 slot engine.old.world.bindings.bindings) }
+    ensures same { engine.new ≡ engine.old }
+{
+    engine.world.bindings.due(engine.alloc, object, slot)
+}
+
+// A due notification begins, with these transfers.
 #[tactic(auto, unfolding(ui_machine::specs::Rules::EmissionPlan::notifying))]
-pub fn notify(
+fn notify_with(
     engine: &mut Engine,
     definition: &Definition,
     object: ObjectId,
     slot: Slot,
+    due: DueTransfers,
 ) -> Result<(), AllocError>
+    requires due { map entry_of due ≡ transfers object.0 slot engine.now.world.bindings.bindings }
     requires able { Able (counted (agenda_of definition.now engine.now) engine.now.counted (notifying definition.now (world_of engine.now.world) object.0 slot)) }
     requires counted { IsCounted definition.now engine.now }
     requires room { HasRoom 1 engine.now }
@@ -55,7 +68,7 @@ pub fn notify(
     let Some(spec) = definition.spec(class, slot) else {
         unreachable!()
     };
-    let name = String::from_str(engine.alloc, spec.name.as_str())?;
+    let name = spec.name.clone()?;
     let Some(emission) = engine
         .links
         .emission(definition, class, object, NOTIFY, Some(name))
@@ -67,10 +80,34 @@ pub fn notify(
         property: spec.name.as_str(),
     };
     let line = told.text(engine.alloc, definition.types())?;
-    let due = engine.world.bindings.due(engine.alloc, object, slot)?;
     let args = engine.spare_args.take(engine.alloc);
     start_emission(engine, emission, args, false, Transfers::Ahead(due), line)?;
     Ok(())
+}
+
+/// A due notification begins, with the transfers of the bindings that listen at the property. It is counted and reported.
+///
+/// # Errors
+///
+/// `AllocError` if no memory is found.
+pub fn notify(
+    engine: &mut Engine,
+    definition: &Definition,
+    object: ObjectId,
+    slot: Slot,
+) -> Result<(), AllocError>
+    requires able { Able (counted (agenda_of definition.now engine.now) engine.now.counted (notifying definition.now (world_of engine.now.world) object.0 slot)) }
+    requires counted { IsCounted definition.now engine.now }
+    requires room { HasRoom 1 engine.now }
+    ensures step { Leads result
+        (counted (agenda_of definition.now engine.old) engine.old.counted (notifying definition.now (world_of engine.old.world) object.0 slot))
+        (config_of definition.now engine.new) }
+    ensures quiet { OnErr result (IsQuiet (world_of engine.old.world) (world_of engine.new.world)) }
+    ensures counted { OnOk result (KeepsCounts definition.now engine.old engine.new) }
+    ensures room { SameRoom engine.old engine.new }
+{
+    let due = due_transfers(engine, object, slot)?;
+    notify_with(engine, definition, object, slot, due)
 }
 
 /// The next of the notifications that are left of a thaw.

@@ -1,6 +1,8 @@
 -- What is given, as an operand of the engine.
 use Rattle.std.specs.Prelude.{ℕ, List, Option, Some, option_map, Ok, String, string_bytes, is_some}
 use Rattle.std.specs.Global.{Global}
+use Rattle.std.specs.Rc.{rc_str_bytes}
+use Rattle.std.specs.declared.rc.RcStr.{RcStr}
 use Rattle.ui_machine.specs.declared.arm.Arm.TheVariants as arms
 use Rattle.ui_machine.specs.Definition.Lookups.{slot_of}
 use Rattle.ui_machine.specs.Definition.Names.{canonical}
@@ -19,6 +21,10 @@ held_value w place = held_object w place >>= λ id. Ok (values.object (Some id))
 -- a detail as the machine has it
 abbrev pub detail_of : Option (String Global) → Option (List ℕ)
 detail_of detail = option_map (λ text. string_bytes text) detail
+
+-- the same of one that is shared
+abbrev pub shared_detail_of : Option (RcStr Global) → Option (List ℕ)
+shared_detail_of detail = option_map (λ text. rc_str_bytes text) detail
 
 -- a detail as it is at a signal of a class, if it may
 abbrev pub standing : Definition → (class number : ℕ) → Signal → Option (List ℕ) → Answer (Option (List ℕ))

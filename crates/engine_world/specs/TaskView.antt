@@ -1,5 +1,6 @@
 -- What a task of the engine denotes in the machine.
-use Rattle.std.specs.Prelude.{ℕ, suc, Bool, List, [], ◌∷◌, ◌++◌, map, reverse, drop, Option, Some, None, option_map, string_bytes}
+use Rattle.std.specs.Prelude.{ℕ, suc, Bool, List, [], ◌∷◌, ◌++◌, map, reverse, drop, Option, Some, None, option_map}
+use Rattle.std.specs.Rc.{rc_str_bytes}
 use Rattle.std.specs.List.{flat_map}
 use Rattle.ui_machine.specs.Definition as machine
 use Rattle.ui_machine.specs.Definition.Lookups.{place_at}
@@ -76,7 +77,7 @@ build_behind d place forwards = adopts_of place (place_at d place) ++ build_from
 
 -- an emission before it begins
 abbrev pub new_of : NewEmission → config.Emission
-new_of e = new_emission e.object.0 e.signal (option_map (λ detail. string_bytes detail) e.detail) (map value_view e.args.items) e.by_event
+new_of e = new_emission e.object.0 e.signal (option_map (λ detail. rc_str_bytes detail) e.detail) (map value_view e.args.items) e.by_event
 
 -- one that goes on, by how far it has come and what it was given
 abbrev pub emission_of : Walk → List Value → Bool → config.Emission

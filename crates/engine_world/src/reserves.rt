@@ -18,14 +18,20 @@ pub struct Room {
     pub wide_emissions: Vec<usize>,
 }
 
+// Vectors of one room, and of more.
+#[derive(Drop)]
+struct Vectors<T> {
+    // Those of one room.
+    plain: Vec<Vec<T>>,
+    room: usize,
+    // Those of more room each, and one without any at the place of each that is in use.
+    wide: Vec<Vec<T>>,
+}
+
 /// Vectors that are not in use. They are empty, and keep their room. A contract sees nothing of them.
 #[derive(Drop)]
 pub struct Spare<T> {
-    /// Those of one room.
-    vectors: Vec<Vec<T>>,
-    room: usize,
-    /// Those of more room each, and one without any at the place of each that is in use.
-    wide: Vec<Vec<T>>,
+    vectors: Box<Vectors<T>>,
 }
 
 impl<T> Model for Spare<T> {
@@ -35,7 +41,7 @@ impl<T> Model for Spare<T> {
 
     ghost view = { λ s. tt };
 
-    ghost invariant = { λ s. All (λ v. v.items ≡ []) s.vectors.items × All (λ v. v.items ≡ []) s.wide.items };
+    ghost invariant = { λ s. All (λ v. v.items ≡ []) s.vectors.value.plain.items × All (λ v. v.items ≡ []) s.vectors.value.wide.items };
 }
 
 impl<T: Drop> Spare<T> {
@@ -45,15 +51,13 @@ impl<T: Drop> Spare<T> {
     ///
     /// `AllocError` if memory is refused.
     pub fn new(alloc: Global, count: usize, room: usize) -> Result<Self, AllocError> {
-        let mut vectors = Vec::with_capacity(alloc, count)?;
+        let mut plain = Vec::with_capacity(alloc, count)?;
         for _ in 0..count {
-            vectors.push_reserved(Vec::with_capacity(alloc, room)?);
+            plain.push_reserved(Vec::with_capacity(alloc, room)?);
         }
-        Ok(Spare {
-            vectors,
-            room,
-            wide: Vec::new(alloc),
-        })
+        let wide = Vec::new(alloc);
+        let vectors = Box::new(alloc, Vectors { plain, room, wide })?;
+        Ok(Spare { vectors })
     }
 
     /// One vector more for each of these numbers, with so much room.
@@ -63,7 +67,7 @@ impl<T: Drop> Spare<T> {
     /// `AllocError` if memory is refused.
     pub fn add_wide(&mut self, alloc: Global, rooms: &[usize]) -> Result<(), AllocError> {
         for room in rooms {
-            self.wide.push(Vec::with_capacity(alloc, *room)?)?;
+            self.vectors.wide.push(Vec::with_capacity(alloc, *room)?)?;
         }
         Ok(())
     }
@@ -72,7 +76,7 @@ impl<T: Drop> Spare<T> {
     pub fn take(&mut self, alloc: Global) -> Vec<T>
         ensures { result.items ≡ [] }
     {
-        match self.vectors.pop() {
+        match self.vectors.plain.pop() {
             Some(vector) => vector,
             None => Vec::new(alloc),
         }
@@ -82,11 +86,11 @@ impl<T: Drop> Spare<T> {
     pub fn take_for(&mut self, alloc: Global, count: usize) -> Vec<T>
         ensures { result.items ≡ [] }
     {
-        if count <= self.room {
+        if count <= self.vectors.room {
             return self.take(alloc);
         }
-        match narrowest(&self.wide, count) {
-            Some(at) => mem::replace(&mut self.wide[at], Vec::new(alloc)),
+        match narrowest(&self.vectors.wide, count) {
+            Some(at) => mem::replace(&mut self.vectors.wide[at], Vec::new(alloc)),
             None => Vec::new(alloc),
         }
     }
@@ -94,10 +98,10 @@ impl<T: Drop> Spare<T> {
     /// Gives a vector back. What it holds is dropped.
     pub fn give_back(&mut self, mut vector: Vec<T>) {
         vector.clear();
-        if vector.capacity() > self.room {
+        if vector.capacity() > self.vectors.room {
             self.give_back_wide(vector);
-        } else if self.vectors.len() < self.vectors.capacity() {
-            self.vectors.push_reserved(vector);
+        } else if self.vectors.plain.len() < self.vectors.plain.capacity() {
+            self.vectors.plain.push_reserved(vector);
         }
     }
 
@@ -105,8 +109,9 @@ impl<T: Drop> Spare<T> {
     fn give_back_wide(&mut self, vector: Vec<T>)
         requires { vector.items ≡ [] }
     {
-        if let Some(at) = self.wide.iter().position(|other| other.capacity() == 0) {
-            self.wide[at] = vector;
+        let mut vectors = self.vectors.wide.iter();
+        if let Some(at) = vectors.position(|other| other.capacity() == 0) {
+            self.vectors.wide[at] = vector;
         }
     }
 }

@@ -11,6 +11,7 @@ use g_values::Value;
 use signal_core::Cursor;
 use std::alloc::Global;
 use std::marker::Model;
+use std::rc::RcStr;
 use ui_machine::{ObjectId, Place, ProgramId, SignalId, Slot};
 
 /// The notifications that are left of a thaw. They are kept the other way round: the last is made first.
@@ -132,7 +133,7 @@ pub struct NewEmission {
     /// The signal, by its number in the list of the object's class.
     pub signal: SignalId,
     /// The detail, as it is at the signal.
-    pub detail: Option<String>,
+    pub detail: Option<RcStr>,
     pub args: Vec<Value>,
     /// Whether an event emits, which reports the result.
     pub by_event: bool,
@@ -155,6 +156,23 @@ impl Transfers {
         ensures { result ≡ at.Due [] }
     {
         Transfers::Due(DueTransfers::new(alloc))
+    }
+
+    /// No transfers, in the list of these.
+    pub fn emptied(self) -> Self
+        ensures { result ≡ at.Due [] }
+    {
+        let mut due = self.into_due();
+        due.clear();
+        Transfers::Due(due)
+    }
+
+    /// Those that are left, whenever their turn is.
+    pub fn into_due(self) -> DueTransfers {
+        match self {
+            Transfers::Ahead(due) => due,
+            Transfers::Due(due) => due,
+        }
     }
 }
 

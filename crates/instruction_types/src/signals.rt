@@ -148,7 +148,7 @@ pub(crate) fn typed(
             *into,
             *object,
             signal.as_str(),
-            text_of(detail),
+            detail.as_deref(),
             args.as_slice(),
         ),
         SignalInstruction::Connect {

@@ -5,6 +5,7 @@ use g_values::{Kind, Value};
 use instances::{Classes, WeakSlots};
 use param_specs::{PropertyFlags, Spec, SpecError, SpecTable};
 use std::alloc::Global;
+use std::rc::RcStr;
 use type_tree::{TypeError, TypeFlags, TypeId, TypeTree};
 
 // Readable and writable.
@@ -37,7 +38,7 @@ fn add_number(
     class: TypeId,
 ) -> Result<(), CallFault> {
     let spec = Spec {
-        name: String::from_str(alloc, "size")?,
+        name: RcStr::from_str(alloc, "size")?,
         kind: Kind::Int,
         flags: PLAIN,
         default: Value::Int(7),

@@ -1,6 +1,7 @@
 //! What the names in a definition's programs mean.
 
-ghost use Rattle.std.specs.Prelude.{◌≡◌, ℕ, None, IfOk, option_map, slice_get, string_bytes};
+ghost use Rattle.std.specs.Prelude.{◌≡◌, ℕ, None, IfOk, option_map, slice_get};
+ghost use Rattle.std.specs.Rc.{rc_str_bytes};
 ghost use Rattle.ui_machine.specs.Rules.EmissionPlan.{signal_of};
 ghost use Rattle.ui_machine.specs.Seq.{read};
 ghost use Rattle.signal_core.specs.Emission.{begun};
@@ -19,6 +20,7 @@ use name_tables::NameId;
 use signal_core::Emission;
 use std::alloc::{AllocError, Global};
 use std::marker::Model;
+use std::rc::RcStr;
 use type_tree::TypeId;
 use ui_machine::{ObjectId, ProgramId, SignalId, Slot};
 
@@ -129,12 +131,12 @@ impl Links {
         class: TypeId,
         object: ObjectId,
         number: SignalId,
-        detail: Option<String>,
+        detail: Option<RcStr>,
     ) -> Option<Emission>
         requires { AreLinked definition.now self.now }
         ensures { (greatest : ℕ) → option_map (λ e. begun e greatest) result
             ≡ option_map (λ s. walk_for greatest s.accumulator
-            (planned definition.now class object.0 number (option_map (λ text. string_bytes text) detail) s))
+            (planned definition.now class object.0 number (option_map (λ text. rc_str_bytes text) detail) s))
             (signal_of definition.now class number) }
     {
         match definition.signal(class, number) {

@@ -1,6 +1,6 @@
 //! The links of programs.
 
-ghost use Rattle.std.specs.Prelude.{◌≡◌, IfOk, IfSome, Some, map, option_map, slice_get, string_bytes};
+ghost use Rattle.std.specs.Prelude.{◌≡◌, IfOk, IfSome, Some, map, option_map, slice_get};
 ghost use Rattle.ui_machine.specs.Definition.Names.{canonical};
 ghost use Rattle.bytecode.specs.View.{block_view, connect_view, instruction_view, object_instruction_view, program_view, property_instruction_view, signal_instruction_view, source_instruction_view};
 ghost use Rattle.name_tables.specs.Names.{place_of};
@@ -52,11 +52,11 @@ impl Names<'_> {
     }
 
     // The place of the property that a detail would name.
-    fn detail(&self, detail: &Option<String>) -> Result<Option<NameId>, AllocError>
-        ensures { IfOk result (IsDetail self.now.definition.now (tables_alone self.now.tables.now) (option_map string_bytes detail.now)) }
+    fn detail(&self, detail: Option<&str>) -> Result<Option<NameId>, AllocError>
+        ensures { IfOk result (IsDetail self.now.definition.now (tables_alone self.now.tables.now) (option_map (λ text. text.now) detail.entry)) }
     {
         match detail {
-            Some(detail) => self.property(detail.as_str()),
+            Some(detail) => self.property(detail),
             None => Ok(None),
         }
     }
@@ -95,7 +95,7 @@ impl Names<'_> {
         ensures { IfOk result (LinksConnection self.now.definition.now (tables_alone self.now.tables.now) (connect_view connection.now)) }
     {
         let signal = self.signal(connection.signal.as_str())?;
-        let detail = self.detail(&connection.detail)?;
+        let detail = self.detail(connection.detail.as_deref())?;
         Ok(Link::Connection {
             signal,
             detail,
@@ -110,7 +110,7 @@ impl Names<'_> {
         match instruction {
             SignalInstruction::Emit { signal, detail, .. } => {
                 let signal = self.signal(signal.as_str())?;
-                let detail = self.detail(detail)?;
+                let detail = self.detail(detail.as_deref())?;
                 Ok(Link::Emission { signal, detail })
             }
             SignalInstruction::Connect { connection, .. } => self.connection(connection),

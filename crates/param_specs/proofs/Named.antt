@@ -1,4 +1,5 @@
 -- The specs of a type beside the names under which they are.
+use Rattle.std.specs.Rc.{rc_str_bytes}
 use Rattle.std.proofs.Common.{◌≡◌, ℕ, suc, ◌+◌, Bool, true, false, cond, not, nat_eq, ◌&&◌, List, [], ◌∷◌, ◌++◌, map, Option, None, Some, position, String, Global, string_eq, string_bytes, if◌then◌else◌, refl, sym, ap, ◌∙◌, add-one, arith}
 use Rattle.std.proofs.Math.Path.{fun_ext}
 use Rattle.std.specs.List.{list_all, position_from}
@@ -47,8 +48,8 @@ named_from : (name : List ℕ) (i : ℕ) (es : List Entry) → AreNamed es
 named_from name i [] h = refl
 named_from name i (e ∷ es) h =
     ap (λ n. cond (same_name n name) (Some i) (position_from (λ k. same_name (string_bytes k) name) (i + 1) (keys_of es))) h.0
-    ∙ ap (λ k. cond (same_name (string_bytes (e.1).name) name) (Some i) (position_from (λ k. same_name (string_bytes k) name) k (keys_of es))) (add-one i)
-    ∙ ap (cond (same_name (string_bytes (e.1).name) name) (Some i)) (named_from name (suc i) es h.1)
+    ∙ ap (λ k. cond (same_name (rc_str_bytes (e.1).name) name) (Some i) (position_from (λ k. same_name (string_bytes k) name) k (keys_of es))) (add-one i)
+    ∙ ap (cond (same_name (rc_str_bytes (e.1).name) name) (Some i)) (named_from name (suc i) es h.1)
 
 pub spelled_slot : (name : List ℕ) (es : List Entry) (r : Option ℕ) → AreNamed es
     → r ≡ position (λ k. same_name (string_bytes k) (canonical name)) (keys_of es) → r ≡ slot_named (map spec_view (specs_in es)) name
@@ -67,7 +68,7 @@ fresh_from id v i [] n h = refl
 fresh_from id v i (e ∷ es) n h =
     by (bytes_eq (string_bytes id) (string_bytes e.0)) refl (fresh_from id v (suc i) es n.1)
   where
-    same : same_name (string_bytes (e.1).name) (string_bytes id) ≡ bytes_eq (string_bytes id) (string_bytes e.0)
+    same : same_name (rc_str_bytes (e.1).name) (string_bytes id) ≡ bytes_eq (string_bytes id) (string_bytes e.0)
     same = ap (λ k. same_name k (string_bytes id)) (sym n.0) ∙ same_name-is (string_bytes id) (string_bytes e.0)
 
     rest : Option ℕ
@@ -89,6 +90,6 @@ pub specs_more : (es : List Entry) (e : Entry) → specs_in (es ++ e ∷ []) ≡
 specs_more [] e = refl
 specs_more (x ∷ es) e = ap (λ l. x.1 ∷ l) (specs_more es e)
 
-pub named_more : (es : List Entry) (e : Entry) → AreNamed es → string_bytes e.0 ≡ string_bytes (e.1).name → AreNamed (es ++ e ∷ [])
+pub named_more : (es : List Entry) (e : Entry) → AreNamed es → string_bytes e.0 ≡ rc_str_bytes (e.1).name → AreNamed (es ++ e ∷ [])
 named_more [] e h n = (n, tt)
 named_more (x ∷ es) e h n = (h.0, named_more es e h.1 n)

@@ -1,4 +1,5 @@
 -- The specs of a type beside those of its parent.
+use Rattle.std.specs.Rc.{rc_str_bytes}
 use Rattle.std.proofs.Common.{◌≡◌, ℕ, zero, suc, ◌+◌, ◌<◌, ◌≤◌, List, [], ◌∷◌, ◌++◌, length, map, reverse, get_or, Option, None, Some, option_map, string_bytes, slice_get, position, Bool, true, false, cond, subst, ◌-◌, add-one, refl, sym, ap, ◌∙◌, arith, length-append, append-nil}
 use Rattle.std.proofs.lemmas.List.{length-map, reverse-append}
 use Rattle.type_tree.proofs.Entries.{read-past}
@@ -82,15 +83,15 @@ place_from-shift n i (y ∷ ys) name =
 
 -- where specs of these names are, as a place in the pure specs
 pub slot-position : (specs : List Entry.Spec) (name : List ℕ) (r : Option ℕ) (own : List Spec) → map spec_view specs ≡ own
-    → r ≡ position (λ s. same_name (string_bytes s.name) (canonical name)) specs → r ≡ slot_named own name
+    → r ≡ position (λ s. same_name (rc_str_bytes s.name) (canonical name)) specs → r ≡ slot_named own name
 slot-position specs name r own m h =
     h ∙ position_from-zero _ specs ∙ at 0 specs ∙ ap (λ l. slot_named l name) m
   where
-    at : (i : ℕ) (xs : List Entry.Spec) → position_from (λ s. same_name (string_bytes s.name) (canonical name)) i xs ≡ place_from (λ s. s.name) i (map spec_view xs) (canonical name)
+    at : (i : ℕ) (xs : List Entry.Spec) → position_from (λ s. same_name (rc_str_bytes s.name) (canonical name)) i xs ≡ place_from (λ s. s.name) i (map spec_view xs) (canonical name)
     at i [] = refl
     at i (x ∷ xs) =
-        ap (λ k. cond (same_name (string_bytes x.name) (canonical name)) (Some i) (position_from (λ s. same_name (string_bytes s.name) (canonical name)) k xs)) (add-one i)
-        ∙ ap (cond (same_name (string_bytes x.name) (canonical name)) (Some i)) (at (suc i) xs)
+        ap (λ k. cond (same_name (rc_str_bytes x.name) (canonical name)) (Some i) (position_from (λ s. same_name (rc_str_bytes s.name) (canonical name)) k xs)) (add-one i)
+        ∙ ap (cond (same_name (rc_str_bytes x.name) (canonical name)) (Some i)) (at (suc i) xs)
 
 module _ (types : List GType) (tree : IsTree types) (table : List (List Spec)) where
   pub specs_of-child : (t p : ℕ) → parent_of types t ≡ Some p → specs_of types table t ≡ specs_of types table p ++ own_of table t

@@ -1,6 +1,7 @@
 -- What a spec denotes.
 use Rattle.std.specs.Prelude.{◌≡◌, List, [], ◌∷◌, map, Option, None, Some, String, string_bytes}
 use Rattle.std.specs.Global.{Global}
+use Rattle.std.specs.Rc.{rc_str_bytes}
 use Rattle.ui_machine.specs.Definition.Properties as properties
 use Rattle.g_values.specs.View.{kind_view, value_view}
 use Rattle.param_specs.specs.declared.spec.Spec.{Spec}
@@ -8,7 +9,7 @@ use Rattle.param_specs.specs.declared.spec.Spec.{Spec}
 -- the pure spec
 abbrev pub spec_view : Spec → properties.Spec
 spec_view s = record {
-  name = string_bytes s.name;
+  name = rc_str_bytes s.name;
   kind = kind_view s.kind;
   flags = s.flags.0;
   default = value_view s.default;
@@ -35,7 +36,7 @@ entries_or_none (Some es) = es
 -- each spec is under its own name
 abbrev pub AreNamed : List Entry → Type 0
 AreNamed [] = Unit {0}
-AreNamed (e ∷ es) = (string_bytes e.0 ≡ string_bytes (e.1).name) × AreNamed es
+AreNamed (e ∷ es) = (string_bytes e.0 ≡ rc_str_bytes (e.1).name) × AreNamed es
 
 abbrev pub AllNamed : {A : Type 0} → (A → List Entry) → List A → Type 0
 AllNamed entries [] = Unit {0}

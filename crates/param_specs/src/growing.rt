@@ -1,6 +1,7 @@
 //! The own properties of each type, by their names, as they grow.
 
 ghost use Rattle.std.specs.Prelude.{◌≡◌, ℕ, ◌+◌, ◌<◌, ◌≤◌, List, [], ◌∷◌, ◌++◌, map, nat_eq, None, string_bytes, if◌then◌else◌, vec_len, OnOk, OnErr};
+ghost use Rattle.std.specs.Rc.{rc_str_bytes};
 ghost use Rattle.ui_machine.specs.Definition.Names.{place_named};
 ghost use Rattle.param_specs.specs.View.{spec_view, specs_in, lists_of, AllNamed};
 ghost use Rattle.param_specs.specs.Table.{AddsSpec, SameSpecs, own_of};
@@ -41,7 +42,7 @@ pub fn add(
     spec: Spec,
 ) -> Result<(), AllocError>
     requires within { at < vec_len lists.old }
-    requires named { string_bytes name ≡ string_bytes spec.name }
+    requires named { string_bytes name ≡ rc_str_bytes spec.name }
     requires new { place_named (λ s. s.name) (own_of (lists_of (λ m. specs_in m.entries) lists.old.items) at) (string_bytes name) ≡ None }
     requires all { AllNamed (λ m. m.entries) lists.old.items }
     ensures ok { OnOk result (AddsSpec (lists_of (λ m. specs_in m.entries) lists.old.items) (lists_of (λ m. specs_in m.entries) lists.new.items) at (spec_view spec)) }

@@ -8,12 +8,13 @@ ghost use Rattle.param_specs.specs.View.{spec_view};
 use crate::flags::PropertyFlags;
 use bitflags::Flags;
 use g_values::{Kind, Value};
+use std::rc::RcStr;
 
 /// What a property may hold, and how it may be used.
 #[derive(Debug, Drop)]
 pub struct Spec {
-    /// The name; a table keeps it in the canonical spelling, with `-` for `_`.
-    pub name: String,
+    /// The name; a table keeps it in the canonical spelling, with `-` for `_`. Whoever notifies of the property shares it.
+    pub name: RcStr,
     pub kind: Kind,
     pub flags: PropertyFlags,
     pub default: Value,

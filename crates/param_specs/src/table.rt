@@ -1,6 +1,7 @@
 //! Which properties the types have.
 
 ghost use Rattle.std.specs.Prelude.{◌≡◌, ◌≢◌, ◌<◌, ◌≤◌, ◌+◌, ◌*◌, List, [], map, length, string_bytes, slice_get, position, option_map, None, Some, IfSome, IfNone, true, OnOk, OnErr};
+ghost use Rattle.std.specs.Rc.{rc_str_bytes};
 ghost use Rattle.ui_machine.specs.Definition.Names.{same_name, canonical, place_named};
 ghost use Rattle.param_specs.specs.View.{spec_view, specs_in, AreNamed, entries_or_none};
 ghost use Rattle.indexmap.specs.IndexMap.{keys};
@@ -15,6 +16,7 @@ use crate::validating::is_valid_default;
 use indexmap::IndexMap;
 use std::alloc::{AllocError, Global};
 use std::marker::Model;
+use std::rc::RcStr;
 use type_tree::{
     TypeId, TypeTree, canonical_name, has_canonical_bytes, is_property_name, is_spelling,
 };
@@ -148,7 +150,7 @@ impl SpecTable {
     // Adds a property of a type's own, under its name.
     fn add_own(&mut self, t: TypeId, name: String, spec: Spec) -> Result<(), AllocError>
         requires room { length (own_of self.old t) < 64 }
-        requires named { string_bytes name ≡ string_bytes spec.name }
+        requires named { string_bytes name ≡ rc_str_bytes spec.name }
         requires new { place_named (λ s. s.name) (own_of self.old t) (string_bytes name) ≡ None }
         ensures ok { OnOk result (AddsSpec self.old self.new t (spec_view spec)) }
         ensures err { OnErr result (SameSpecs self.old self.new) }
@@ -164,9 +166,9 @@ impl SpecTable {
     fn install_fault(&self, tree: &TypeTree, t: TypeId, spec: &Spec) -> Option<SpecFault>
         requires { IsKnown tree.now spec.now.kind }
         ensures fault { result ≡ install_fault tree.now (specs_of tree.now self.now t) (spec_view spec.now) }
-        ensures named { IfNone result (is_property_name (string_bytes spec.now.name) ≡ true) }
+        ensures named { IfNone result (is_property_name (rc_str_bytes spec.now.name) ≡ true) }
         ensures room { IfNone result (length (specs_of tree.now self.now t) < 64) }
-        ensures new { IfNone result (slot_named (specs_of tree.now self.now t) (string_bytes spec.now.name) ≡ None) }
+        ensures new { IfNone result (slot_named (specs_of tree.now self.now t) (rc_str_bytes spec.now.name) ≡ None) }
     {
         if !is_property_name(spec.name.as_str()) {
             return Some(SpecFault::BadName);
@@ -209,8 +211,8 @@ impl SpecTable {
             return Err(SpecError::Refused(fault));
         }
         let slot = self.slots_of(tree, t);
-        let name = canonical_name(self.allocator(), spec.name.as_str())?;
-        let key = name.clone()?;
+        let key = canonical_name(self.allocator(), spec.name.as_str())?;
+        let name = RcStr::from_str(self.allocator(), key.as_str())?;
         let spec = renamed(spec, name);
         self.add_own(t, key, spec)?;
         Ok(slot as Slot)
@@ -255,8 +257,8 @@ fn spelled_position(own: &IndexMap<String, Spec>, name: &str) -> Option<usize>
 }
 
 // The same property under another name.
-fn renamed(spec: Spec, name: String) -> Spec
-    ensures { spec_view result ≡ record (spec_view spec) { name = string_bytes name } }
+fn renamed(spec: Spec, name: RcStr) -> Spec
+    ensures { spec_view result ≡ record (spec_view spec) { name = rc_str_bytes name } }
 {
     let mut spec = spec;
     spec.name = name;

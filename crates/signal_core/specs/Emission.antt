@@ -1,6 +1,7 @@
 -- What an emission has still to come, and which turn of it is the next.
 use Rattle.std.specs.List.{filter, find}
-use Rattle.std.specs.Prelude.{Bool, List, None, Option, Some, [], cond, false, map, nat_eq, nat_le, nat_lt, not, option_map, string_bytes, true, ℕ, ◌&&◌, ◌++◌, ◌∷◌}
+use Rattle.std.specs.Prelude.{Bool, List, None, Option, Some, [], cond, false, map, nat_eq, nat_le, nat_lt, not, option_map, true, ℕ, ◌&&◌, ◌++◌, ◌∷◌}
+use Rattle.std.specs.Rc.{rc_str_bytes}
 use Rattle.ui_machine.specs.Definition.Properties.{has_flags}
 use Rattle.ui_machine.specs.Definition.Signals as machine
 use Rattle.ui_machine.specs.Definition.Values.{Value}
@@ -49,7 +50,7 @@ abbrev pub walk_of : Emission → (greatest : ℕ) → Stage → Option carried.
 walk_of e greatest stage v = record {
   object = e.object.0;
   signal = e.signal;
-  detail = option_map (λ detail. string_bytes detail) e.detail;
+  detail = option_map (λ detail. rc_str_bytes detail) e.detail;
   flags = e.flags.0;
   accumulator = option_map accumulator_of e.accumulator;
   class_program = e.class_program;

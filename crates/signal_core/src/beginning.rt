@@ -1,6 +1,7 @@
 //! What an emission of a type's signal begins with.
 
-ghost use Rattle.std.specs.Prelude.{◌≡◌, ℕ, option_map, slice_get, string_bytes};
+ghost use Rattle.std.specs.Prelude.{◌≡◌, ℕ, option_map, slice_get};
+ghost use Rattle.std.specs.Rc.{rc_str_bytes};
 ghost use Rattle.signal_core.specs.Emission.{begun};
 ghost use Rattle.signal_core.specs.Laws.{walk_for};
 ghost use Rattle.signal_core.specs.Sources.{signals_of};
@@ -8,6 +9,7 @@ ghost use Rattle.signal_core.specs.Table.{planned_for};
 
 use crate::emission::Emission;
 use crate::table::SignalTable;
+use std::rc::RcStr;
 use type_tree::{TypeId, TypeTree};
 use ui_machine::{ObjectId, SignalId};
 
@@ -20,11 +22,11 @@ impl SignalTable {
         t: TypeId,
         object: ObjectId,
         number: SignalId,
-        detail: Option<String>,
+        detail: Option<RcStr>,
     ) -> Option<Emission>
         ensures { (greatest : ℕ) → option_map (λ e. begun e greatest) result
             ≡ option_map (λ s. walk_for greatest s.accumulator
-            (planned_for tree.now self.now.handlers t object.0 number (option_map (λ d. string_bytes d) detail) s))
+            (planned_for tree.now self.now.handlers t object.0 number (option_map (λ d. rc_str_bytes d) detail) s))
             (slice_get (signals_of tree.now self.now.signals t) number) }
     {
         match self.signal(tree, t, number) {

@@ -70,10 +70,13 @@ impl Cursor {
         self.emission.object == object && self.emission.signal == signal
     }
 
-    pub(crate) fn detail(&self) -> &Option<String>
-        ensures { option_map (λ d. string_bytes d) result.now ≡ self.now.detail }
+    pub(crate) fn detail(&self) -> Option<&str>
+        ensures { option_map (λ d. d.now) result ≡ self.now.detail }
     {
-        &self.emission.detail
+        match &self.emission.detail {
+            Some(detail) => Some(detail.as_str()),
+            None => None,
+        }
     }
 
     /// Whether a handler of this detail runs in the emission.

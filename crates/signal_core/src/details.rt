@@ -6,6 +6,16 @@ ghost use Rattle.signal_core.specs.Kept.{detail_number};
 use std::alloc::{AllocError, Global};
 use std::collections::BTreeMap;
 
+/// The text of a detail, if there is one.
+pub(crate) fn as_text(detail: &Option<String>) -> Option<&str>
+    ensures { option_map (λ d. d.now) result ≡ option_map (λ d. string_bytes d) detail.now }
+{
+    match detail {
+        Some(detail) => Some(detail.as_str()),
+        None => None,
+    }
+}
+
 /// Details by their numbers, which rise from 1. A detail keeps its number (GLib manual: GQuark).
 #[derive(Debug, Drop)]
 pub(crate) struct Details {
@@ -21,11 +31,11 @@ impl Details {
     }
 
     /// The number of a detail, if it has one. Where there is no detail it is 0.
-    pub(crate) fn number(&self, detail: &Option<String>) -> Option<u64>
-        ensures { result ≡ detail_number self.now (option_map (λ d. string_bytes d) detail.now) }
+    pub(crate) fn number(&self, detail: Option<&str>) -> Option<u64>
+        ensures { result ≡ detail_number self.now (option_map (λ d. d.now) detail.entry) }
     {
         match detail {
-            Some(detail) => self.numbers.get(detail.as_str()).copied(),
+            Some(detail) => self.numbers.get(detail).copied(),
             None => Some(0),
         }
     }
@@ -35,7 +45,7 @@ impl Details {
         ensures number { IfOk result (λ number. detail_number self.new (option_map (λ d. string_bytes d) detail.now) ≡ Some number) }
         ensures stays { (d : Option (List ℕ)) (n : ℕ) → detail_number self.old d ≡ Some n → detail_number self.new d ≡ Some n }
     {
-        if let Some(number) = self.number(detail) {
+        if let Some(number) = self.number(as_text(detail)) {
             return Ok(number);
         }
         let Some(detail) = detail else {

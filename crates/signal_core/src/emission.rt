@@ -7,6 +7,7 @@ ghost use Rattle.signal_core.specs.Emission.{accumulator_of};
 
 use crate::flags::SignalFlags;
 use g_values::Value;
+use std::rc::RcStr;
 use ui_machine::{ObjectId, ProgramId, SignalId};
 
 /// How the results of an emission's programs are put together (GObject manual, Signals: GSignalAccumulator). Without an accumulator the last
@@ -37,8 +38,8 @@ pub struct Emission {
     pub object: ObjectId,
     /// The signal, by its number in the list of the object's class; 0 is `notify`.
     pub signal: SignalId,
-    /// The detail. Of `notify` it is the canonical name of a property.
-    pub detail: Option<String>,
+    /// The detail, which is shared with whoever named it. Of `notify` it is the canonical name of a property.
+    pub detail: Option<RcStr>,
     /// The flags of the signal.
     pub flags: SignalFlags,
     /// The accumulator of the signal.

@@ -8,7 +8,7 @@ ghost use Rattle.signal_core.specs.Kept.{IsAbove, IsBeside, IsListed, NotBefore,
 use crate::code_counts::CodeCounts;
 use crate::connected::Handler;
 use crate::cursor::Cursor;
-use crate::details::Details;
+use crate::details::{Details, as_text};
 use crate::listing::{Listing, least};
 use std::alloc::{AllocError, Global};
 use ui_machine::SignalId;
@@ -121,7 +121,7 @@ impl Listings {
         ensures counts { self.new.by_code ≡ self.old.by_code }
     {
         let channel = channel(handler.signal(), handler.is_after());
-        if let Some(detail) = self.details.number(handler.detail()) {
+        if let Some(detail) = self.details.number(as_text(handler.detail())) {
             self.by_signal
                 .remove(handler.object().0, channel, detail, handler.number());
         }
@@ -156,7 +156,7 @@ impl Listings {
         let object = handler.object().0;
         let number = handler.number();
         let channel = channel(handler.signal(), handler.is_after());
-        if let Some(detail) = self.details.number(handler.detail()) {
+        if let Some(detail) = self.details.number(as_text(handler.detail())) {
             self.by_signal.remove(object, channel, detail, number);
         }
         self.by_program

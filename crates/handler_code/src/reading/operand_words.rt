@@ -1,6 +1,7 @@
 //! The operands of instructions, as JSON gives them. The entry 0 of an instruction is its word.
 
 ghost use Rattle.std.specs.Prelude.{◌≡◌, ◌<◌, ◌≤ℤ◌, option_map, IfOk, IfSome, string_bytes};
+ghost use Rattle.std.specs.Rc.{rc_str_bytes};
 ghost use Rattle.std.specs.List.{list_all};
 ghost use Rattle.serde_json.specs.View.{view};
 ghost use Rattle.serde_json.specs.Find.{as_str};
@@ -15,6 +16,7 @@ use bytecode::{BlockNumber, InstructionError, Register};
 use g_values::{JsonError, Kind, from_json};
 use serde_json::Value;
 use std::alloc::Global;
+use std::rc::RcStr;
 use type_tree::TypeTree;
 
 // The entry of a number.
@@ -202,6 +204,16 @@ fn detail_or_null(value: &Value) -> Option<Option<&str>>
     Some(Some(name))
 }
 
+// The text of the detail at an entry, or null.
+fn detail_text_at(json: &Value, at: usize) -> Result<Option<&str>, InstructionError>
+    ensures { Gives (option_map (λ s. s.now)) result (detail_at (view json.now) at) }
+{
+    match detail_or_null(operand(json, at)?) {
+        Some(detail) => Ok(detail),
+        None => Err(InstructionError::BadInstruction),
+    }
+}
+
 // The detail at an entry, or null.
 pub(crate) fn detail_at(
     alloc: Global,
@@ -210,10 +222,23 @@ pub(crate) fn detail_at(
 ) -> Result<Option<String>, InstructionError>
     ensures { Gives (option_map string_bytes) result (detail_at (view json.now) at) }
 {
-    match detail_or_null(operand(json, at)?) {
-        Some(Some(name)) => Ok(Some(String::from_str(alloc, name)?)),
-        Some(None) => Ok(None),
-        None => Err(InstructionError::BadInstruction),
+    match detail_text_at(json, at)? {
+        Some(name) => Ok(Some(String::from_str(alloc, name)?)),
+        None => Ok(None),
+    }
+}
+
+// The same, to be shared.
+pub(crate) fn shared_detail_at(
+    alloc: Global,
+    json: &Value,
+    at: usize,
+) -> Result<Option<RcStr>, InstructionError>
+    ensures { Gives (option_map rc_str_bytes) result (detail_at (view json.now) at) }
+{
+    match detail_text_at(json, at)? {
+        Some(name) => Ok(Some(RcStr::from_str(alloc, name)?)),
+        None => Ok(None),
     }
 }
 

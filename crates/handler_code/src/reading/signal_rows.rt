@@ -11,7 +11,7 @@ ghost use Rattle.bytecode.specs.Reading.SignalRows.{emit_row, connect_row, disco
 use crate::reading::operand_lists::registers_at;
 use crate::reading::operand_shapes::{connection_at, one_name, register_and_name};
 use crate::reading::operand_words::{
-    check_none, detail_at, name_at, register_at, register_or_null_at,
+    check_none, name_at, register_at, register_or_null_at, shared_detail_at,
 };
 use crate::reading::scope::Scope;
 use bytecode::{Instruction, InstructionError, SignalInstruction, SourceInstruction};
@@ -32,7 +32,7 @@ pub(crate) fn read_emit(
     let into = register_or_null_at(json, 1, scope.registers)?;
     let object = register_at(json, 2, scope.registers)?;
     let signal = name_at(alloc, json, 3)?;
-    let detail = detail_at(alloc, json, 4)?;
+    let detail = shared_detail_at(alloc, json, 4)?;
     let args = registers_at(alloc, json, 5, scope.registers)?;
     Ok(Instruction::Signal(SignalInstruction::Emit {
         into,

@@ -1,4 +1,5 @@
-use Rattle.std.proofs.Common.{◌<◌, map, string_bytes, sym, arith}
+use Rattle.std.proofs.Common.{◌<◌, map, sym, arith}
+use Rattle.std.specs.Rc.{rc_str_bytes}
 use Rattle.signal_core.specs.SignalView.{declared_view}
 use Rattle.definition_format.specs.Meaning.{given_view}
 use Rattle.checked_events.proofs.Emitting.{is_asked}
@@ -13,5 +14,5 @@ pub returns : goal.returns
 returns c =
     let above : 0 < c.args.number = omega (arith, c.if-number-eq-NOTIFY.false) in
     is_asked c.args.definition.now c.args.place.0 c.args.number c.in-Some.class (declared_view c.in-Some-signal.signal) c.in-Some.ensures.1 (sym c.in-Some-signal.ensures)
-    (λ text. string_bytes text) (map given_view c.args.args.now) c.args.detail.now c.are_given_of_kinds.result c.in-Some.ensures.0 above (sym c.if-not-takes_detail.ensures)
+    (λ text. rc_str_bytes text) (map given_view c.args.args.now) c.args.detail.now c.are_given_of_kinds.result c.in-Some.ensures.0 above (sym c.if-not-takes_detail.ensures)
     c.are_given_of_kinds.ensures

@@ -14,8 +14,8 @@ signal_in-signal-requires c = record {
   link = c.requires.link.0;
 }
 
-pub detail_in-requires : goal.detail_in-requires
-detail_in-requires c =
+pub shared_detail_in-requires : goal.shared_detail_in-requires
+shared_detail_in-requires c =
     let able = detail_able c.args.definition.now (world_of c.args.engine.now.world) (frame_view c.args.frame.now) c.args.object.0 (emit_of c.args.emit) c.requires.able
     c.object_in-object.result.0 c.signal_in-signal.result c.object_in-object.ensures c.signal_in-signal.ensures in
     record { able = able; link = c.requires.link.1 }

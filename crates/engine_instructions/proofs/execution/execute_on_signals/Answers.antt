@@ -3,7 +3,7 @@ use Rattle.engine_instructions.proofs.Whole.{leads_whole}
 use Rattle.engine_instructions.proofs.execution.execute_on_signals.Goals as goal
 
 pub returns-in_ok-emit_from_program-in-Emit-clause-step : goal.returns-in_ok-emit_from_program-in-Emit-clause-step
-returns-in_ok-emit_from_program-in-Emit-clause-step c = rw (c.in-Emit.is, ← c.as_str.ensures.value, ← c.as_text.ensures, ← c.as_slice.ensures.value) (leads_whole {X = Unit {0}} c.args.definition.now c.emit_from_program.new.engine (Ok tt) _ c.in_ok-emit_from_program-in-Emit.ensures.step)
+returns-in_ok-emit_from_program-in-Emit-clause-step c = rw (c.in-Emit.is, ← c.as_str.ensures.value, ← c.as_slice.ensures.value) (leads_whole {X = Unit {0}} c.args.definition.now c.emit_from_program.new.engine (Ok tt) _ c.in_ok-emit_from_program-in-Emit.ensures.step)
 
 pub returns-in_ok-connect_from_program-in-Connect-clause-step : goal.returns-in_ok-connect_from_program-in-Connect-clause-step
 returns-in_ok-connect_from_program-in-Connect-clause-step c = rw c.in-Connect.is (leads_whole {X = Unit {0}} c.args.definition.now c.connect_from_program.new.engine (Ok tt) _ c.in_ok-connect_from_program-in-Connect.ensures.step)

@@ -61,7 +61,7 @@ returns-clause-agenda c d =
     let first = c.in-Some.ensures.tasks d hs ∙ ap (λ (t : code.Task). task_of d hs t ∷ rest) c.in-Emitting.is in
     let known = subst (λ (t : code.Task). TakesKnownHandlers last t) c.in-Emitting.is (c.in-Some.ensures.first last c.requires.begun) in
     c.push-2.ensures.tasks d hs
-    ∙ ap (λ (x : Transfers). Emitting (emission_of c.stop.new.self args c.in-Emitting.by_event) (entries_to_come c.stop.new.self hs x) ∷ rest) c.new.ensures
+    ∙ ap (λ (x : Transfers). Emitting (emission_of c.stop.new.self args c.in-Emitting.by_event) (entries_to_come c.stop.new.self hs x) ∷ rest) c.emptied-transfers.ensures
     ∙ ap (λ (u : Walk). Emitting (emission_of u args c.in-Emitting.by_event) (entries_to_come u hs (at.Due [])) ∷ rest) c.stop.ensures
     ∙ ap (λ (e : Emission). Emitting e (entries_to_come (walks.stopped w) hs (at.Due [])) ∷ rest) (sym (stop_same w hs args c.in-Emitting.by_event))
     ∙ ap (λ (entries : List PlanEntry). Emitting (emission_of w args c.in-Emitting.by_event) entries ∷ rest) (sym (stop_leaves w hs args c.in-Emitting.by_event ts known.1))
@@ -70,4 +70,4 @@ returns-clause-agenda c d =
 pub returns-clause-begun : goal.returns-clause-begun
 returns-clause-begun c last h =
     let was = subst (λ (t : code.Task). TakesKnownHandlers last t) c.in-Emitting.is (c.in-Some.ensures.first last h) in
-    c.push-2.ensures.begun last (subst (λ (u : Walk). u.greatest ≤ last) (sym c.stop.ensures) was.0, rw c.new.ensures (λ _. refl)) (c.in-Some.ensures.begun last h)
+    c.push-2.ensures.begun last (subst (λ (u : Walk). u.greatest ≤ last) (sym c.stop.ensures) was.0, rw c.emptied-transfers.ensures (λ _. refl)) (c.in-Some.ensures.begun last h)

@@ -1,4 +1,4 @@
-use Rattle.std.proofs.Common.{◌≡◌, ℕ, ◌+◌, List, [], map, Option, option_map, Ok, refl, sym, ap, ◌∙◌, arith}
+use Rattle.std.proofs.Common.{◌≡◌, ℕ, ◌+◌, List, [], map, Option, option_map, Ok, refl, sym, ap, subst, ◌∙◌, arith}
 use Rattle.std.proofs.lemmas.Result.{err_from_is_err_and}
 use Rattle.ui_machine.specs.Definition.Values as values
 use Rattle.ui_machine.specs.Rules.Accumulation.{result_of, told, ending}
@@ -18,7 +18,8 @@ use Rattle.ui_machine.specs.State.Config.{World}
 use Rattle.engine_world.specs.declared.engine.Engine.{Engine}
 use Rattle.engine_world.proofs.Ableness.{in_left, no_arm}
 use Rattle.engine_world.proofs.LivingObjects.{lives_where}
-use Rattle.engine_world.specs.Counting.{in_emitted}
+use Rattle.engine_world.specs.Counting.{Counts, in_emitted}
+use Rattle.engine_world.specs.EngineView.{config_of}
 use Rattle.engine_world.specs.declared.task.Task.TheVariants as tasks
 use Rattle.engine_world.specs.declared.task.Transfers.TheVariants as at
 use Rattle.engine_world.proofs.Held.{counted_lives, may_counted}
@@ -131,6 +132,7 @@ returns-clause-step c =
     (c.in_ok-say_result_if.ensures.world ∙ ap (λ (w : World). told d w c.args.by_event v) (tasks_world e b only_tasks))
     (same_agenda d b g c.say_result_if.ensures.same.0 c.say_result_if.ensures.handlers) (c.say_result_if.ensures.same.1 ∙ ap (λ (x : Engine). x.counted) only_tasks.beside)
     ∙ ap (λ x. Ok x) (sym (config_same d g c.let_go_any.new.table only))
+    ∙ ap (λ (x : Engine). Ok (config_of d x)) (sym c.give_back_list.ensures)
 
 pub returns-clause-counted : goal.returns-clause-counted
 returns-clause-counted c =
@@ -138,6 +140,7 @@ returns-clause-counted c =
     let passed = c.in_ok-pass_down.ensures.counted in
     let g = c.say_result_if.new.engine in
     let only = both_only g.world.table c.let_go_values.new.table c.let_go_any.new.table c.let_go_values.ensures.only c.let_go_any.ensures.only in
-    less_held d g c.let_go_any.new.table _ (λ o. same o c.args.cursor.object) (λ o. total (in_value o) (map value_view c.args.args.items) + in_register o c.args.cursor.value) only
+    subst (λ (x : Engine). Counts d (λ o. same o c.args.cursor.object) x) (sym c.give_back_list.ensures)
+    (less_held d g c.let_go_any.new.table _ (λ o. same o c.args.cursor.object) (λ o. total (in_value o) (map value_view c.args.args.items) + in_register o c.args.cursor.value) only
     (λ o. omega (arith, c.let_go_any.ensures.counts o, c.let_go_values.ensures.counts o, c.accumulated-held.ensures o, slice c.args.args.items c.as_slice.result.now c.as_slice.ensures.value o)) (λ o. refl)
-    (c.in_ok-say_result_if.ensures.counted.at _ (passed.at _ c.requires.counted))
+    (c.in_ok-say_result_if.ensures.counted.at _ (passed.at _ c.requires.counted)))

@@ -18,8 +18,8 @@ held_object-object-requires c =
     let e = c.args.engine.now in
     record { able = none_stops _ (λ arm none. no_arm _ arm c.requires.able (not_held d (world_of e.world) c.args.place.0 c.args.signal _ _ (agenda_of d e) e.counted arm none)) }
 
-pub detail_in-requires : goal.detail_in-requires
-detail_in-requires c =
+pub shared_detail_in-requires : goal.shared_detail_in-requires
+shared_detail_in-requires c =
     let d = c.args.definition.now in
     let e = c.args.engine.now in
     record {

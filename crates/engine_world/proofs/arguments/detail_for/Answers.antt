@@ -14,8 +14,8 @@ returns-then-signal-ne0 c =
     let same = ap (option_map (λ (text : Bor (List ℕ)). text.now)) c.in-Some.is ∙ ap (λ (text : List ℕ). Some text) (sym c.in_ok-from_str.ensures.ok) in
     stands_so c.args.definition.now c.args.class c.args.signal _ c.requires.able ∙ ap (λ o. Ok o) (stands_other c.args.signal _ other ∙ same)
 
-pub property_named-requires : goal.property_named-requires
-property_named-requires c = record {
+pub property_named-name-requires : goal.property_named-name-requires
+property_named-name-requires c = record {
   able =
       let first : nat_eq c.args.signal 0 ≡ true = grind (arith, nat_tests, c.if-signal-ne0.false) in
       names_property c.args.definition.now c.args.class c.args.signal _ first (rw c.in-Some.is at c.requires.able);
@@ -25,6 +25,6 @@ pub returns : goal.returns
 returns c =
     let d = c.args.definition.now in
     let first : nat_eq c.args.signal 0 ≡ true = grind (arith, nat_tests, c.if-signal-ne0.false) in
-    let named = stands_notify d c.args.class c.args.signal c.in-Some.detail.now _ first c.in_ok-name.ensures in
+    let named = stands_notify d c.args.class c.args.signal c.in-Some.detail.now _ first (c.property_named-name.ensures ∙ ap (λ (xs : List ℕ). Ok xs) (sym (c.in_ok-from_str-2.ensures.ok ∙ c.as_str.ensures.value))) in
     let so = stands_so d c.args.class c.args.signal _ c.requires.able in
     rw c.in-Some.is (rw c.in-Some.is at so ∙ ap (λ o. Ok o) named)

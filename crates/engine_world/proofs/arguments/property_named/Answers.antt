@@ -26,5 +26,4 @@ returns c =
     let some : ◌≡◌ {A = Option Spec} (Some (spec_view c.in-Some-spec.spec.now)) (Some named.0) = ap (option_map (λ (s : Bor code.Spec). spec_view s.now)) (sym c.in-Some-spec.is) ∙ c.spec.ensures ∙ named.1 in
     let same : spec_view c.in-Some-spec.spec.now ≡ named.0 = cc some in
     let name = ap (λ (s : Spec). s.name) same ∙ named.2 in
-    let text = c.in_ok-from_str.ensures.ok ∙ c.as_str.ensures.value ∙ name in
-    ap (λ (slot : Option ℕ). only_if (is_some slot) arms.Code (Ok (canonical c.args.name.now))) found ∙ ap (λ (xs : List ℕ). Ok xs) (sym text)
+    ap (λ (slot : Option ℕ). only_if (is_some slot) arms.Code (Ok (canonical c.args.name.now))) found ∙ ap (λ (xs : List ℕ). Ok xs) (sym name)

@@ -3,7 +3,7 @@ use Rattle.engine_world.proofs.reserves.Spare.new.Given as goal
 
 abbrev pub invariant-loop : goal.invariant-loop
 invariant-loop g l = record {
-  made : vec_len l.vectors ≡ l.counter;
-  room : l.count ≤ vec_capacity l.vectors;
-  all_spare : All (λ v. v.items ≡ []) l.vectors.items;
+  made : vec_len l.plain ≡ l.counter;
+  room : l.count ≤ vec_capacity l.plain;
+  all_spare : All (λ v. v.items ≡ []) l.plain.items;
 }

@@ -1,3 +1,4 @@
+use Rattle.std.specs.Rc.{rc_str_bytes}
 use Rattle.std.proofs.Common.{◌∙◌, string_bytes, ap, sym}
 use Rattle.ui_machine.specs.Definition.Names.{canonical, place_named}
 use Rattle.ui_machine.specs.Definition.Properties.{Spec}
@@ -13,5 +14,5 @@ returns-in-Some c =
 
 pub add_own-requires-clause-new : goal.add_own-requires-clause-new
 add_own-requires-clause-new c =
-    ap (λ name. place_named (λ (s : Spec). s.name) (own_of c.args.self.now c.args.t) name) (c.in_ok-key.ensures.cases ∙ c.in_ok-name.ensures ∙ ap canonical c.as_str.ensures.value)
-    ∙ none_own c.args.tree.now c.args.self.now c.args.t (string_bytes c.args.spec.name) c.in_default.ensures.new
+    ap (λ name. place_named (λ (s : Spec). s.name) (own_of c.args.self.now c.args.t) name) (c.in_ok-key.ensures ∙ ap canonical c.as_str.ensures.value)
+    ∙ none_own c.args.tree.now c.args.self.now c.args.t (rc_str_bytes c.args.spec.name) c.in_default.ensures.new

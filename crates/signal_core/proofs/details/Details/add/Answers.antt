@@ -24,6 +24,6 @@ returns-clause-stays c (Some cs) n some =
     let bs = string_bytes c.in_ok-detail.detail in
     let none : get_by_text c.args.self.now.numbers bs ≡ None =
     ap (get_by_text c.args.self.now.numbers) c.in_ok-detail.ensures.cases
-    ∙ ap (λ d. detail_number c.args.self.now (option_map (λ d. string_bytes d) d)) (sym c.in-Some-detail.is) ∙ sym c.number.ensures ∙ c.in_default.is in
+    ∙ ap (λ d. detail_number c.args.self.now (option_map (λ d. string_bytes d) d)) (sym c.in-Some-detail.is) ∙ ap (detail_number c.args.self.now) (sym c.as_text.ensures) ∙ sym c.number.ensures ∙ c.in_default.is in
     more (get_by_text c.args.self.now.numbers) (get_by_text c.insert.new.self) bs cs (c.len.result + 1) n
     (btree_map_updates_text bs c.args.self.now.numbers c.insert.new.self (Some (c.len.result + 1)) c.in_ok-insert.ensures.updates cs) (same_bytes bs cs) none some

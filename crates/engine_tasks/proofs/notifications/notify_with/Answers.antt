@@ -1,4 +1,5 @@
-use Rattle.std.proofs.Common.{ℕ, suc, List, [], ◌∷◌, map, false, Some, IsSome, Bor, option_map, string_bytes, sym, ap, subst, ◌∙◌, arith}
+use Rattle.std.proofs.Common.{◌≡◌, ℕ, suc, List, [], ◌∷◌, map, false, Some, IsSome, Bor, option_map, sym, ap, subst, ◌∙◌, arith}
+use Rattle.std.specs.Rc.{rc_str_bytes}
 use Rattle.ui_machine.specs.Definition.Types.{GType}
 use Rattle.ui_machine.specs.Definition.Signals.{Signal}
 use Rattle.ui_machine.specs.Output.Lines as lines
@@ -7,6 +8,7 @@ use Rattle.ui_machine.specs.Rules.EmissionPlan.{notifying}
 use Rattle.ui_machine.specs.State.Tasks.{Emitting, Task}
 use Rattle.ui_machine.specs.Steps.{counted}
 use Rattle.ui_machine.specs.Seq.{total}
+use Rattle.ui_machine.specs.State.Bindings.{transfers}
 use Rattle.ui_machine.specs.State.Objects.{living}
 use Rattle.ui_machine.specs.State.References.{in_value}
 use Rattle.g_values.specs.View.{value_view}
@@ -18,6 +20,7 @@ use Rattle.signal_core.specs.Emission.{Walk, begun}
 use Rattle.signal_core.specs.Laws.{walk_for}
 use Rattle.signal_core.specs.declared.emission.Emission.{Emission}
 use Rattle.definition_format.specs.Meaning.{planned}
+use Rattle.bindings.specs.Due.{entry_of}
 use Rattle.engine_world.specs.Counting.{PassesGot}
 use Rattle.engine_world.specs.View.{with_line, world_of}
 use Rattle.engine_world.specs.TaskView.{agenda_of, emission_of, entries_to_come}
@@ -30,7 +33,7 @@ use Rattle.engine_world.proofs.Notified.{counted_on, unnamed, unknown, unheard}
 use Rattle.engine_world.proofs.Ableness.{in_counted, no_arm}
 use Rattle.engine_world.proofs.Held.{may_on}
 use Rattle.engine_world.proofs.LivingObjects.{lives_where}
-use Rattle.engine_tasks.proofs.notifications.notify.Goals as goal
+use Rattle.engine_tasks.proofs.notifications.notify_with.Goals as goal
 
 pub count-requires : goal.count-requires
 count-requires c = record { few = (in_counted (agenda_of c.args.definition.now c.args.engine.now) c.args.engine.now.counted _ c.requires.able).0 }
@@ -64,7 +67,7 @@ unreachable-requires-in_default-emission c =
     let id = c.args.object.0 in
     let able = (in_counted (agenda_of d c.args.engine.now) c.args.engine.now.counted _ c.requires.able).1 in
     let some = sym c.spec.ensures ∙ ap (option_map (λ (s : Bor Spec). spec_view s.now)) c.in-Some.is in
-    let g = λ (s : Signal). walk_for 0 s.accumulator (planned d c.class_of-class.result id 0 (Some (string_bytes c.in_ok-name.name)) s) in
+    let g = λ (s : Signal). walk_for 0 s.accumulator (planned d c.class_of-class.result id 0 (Some (rc_str_bytes c.in_ok-name.name)) s) in
     let none = begun_none (λ (m : Emission). begun m 0) g _ (ap (option_map (λ (m : Emission). begun m 0)) (sym c.in_default-emission.is) ∙ c.emission.ensures 0) in
     no_arm (notifying d w id c.args.slot) _ able (unknown d w id c.args.slot _ (rw c.count.ensures at c.class_of-class.ensures) _ some none)
 
@@ -74,7 +77,7 @@ start_emission-requires c =
     let e = c.args.engine.now in
     let is = c.count.ensures in
     let id = c.args.object.0 in
-    let name = string_bytes c.in_ok-name.name in
+    let name = rc_str_bytes c.in_ok-name.name in
     let able = (in_counted (agenda_of d e) e.counted _ c.requires.able).1 in
     let lives = lives_where (world_of e.world).objects id _ (λ arm never. no_arm (notifying d (world_of e.world) id c.args.slot) arm able (unheard d (world_of e.world) id c.args.slot arm never)) in
     let g = λ (s : Signal). walk_for 0 s.accumulator (planned d c.class_of-class.result id 0 (Some name) s) in
@@ -104,19 +107,19 @@ returns-clause-step c =
     let p = spec_view c.in-Some.spec.now in
     let last = f.world.handlers.last in
     let some = sym c.spec.ensures ∙ ap (option_map (λ (s : Bor Spec). spec_view s.now)) c.in-Some.is in
-    let name = c.in_ok-name.ensures.ok ∙ c.as_str.ensures.value in
+    let name = c.in_ok-name.ensures.cases in
     let g = λ (detail : List ℕ) (s : Signal). walk_for last s.accumulator (planned d class id 0 (Some detail) s) in
     let found = ap (option_map (λ (m : Emission). begun m last)) (sym c.in-Some-emission.is) ∙ c.emission.ensures last in
-    let declared = begun_some (λ (m : Emission). begun m last) (g (string_bytes c.in_ok-name.name)) c.in-Some-emission.emission _ found in
-    let walk = begun_as (λ (m : Emission). begun m last) (g (string_bytes c.in_ok-name.name)) c.in-Some-emission.emission _ declared.0 found declared.1 ∙ ap (λ (detail : List ℕ). g detail declared.0) name in
+    let declared = begun_some (λ (m : Emission). begun m last) (g (rc_str_bytes c.in_ok-name.name)) c.in-Some-emission.emission _ found in
+    let walk = begun_as (λ (m : Emission). begun m last) (g (rc_str_bytes c.in_ok-name.name)) c.in-Some-emission.emission _ declared.0 found declared.1 ∙ ap (λ (detail : List ℕ). g detail declared.0) name in
     let rises = subst (λ (h : Engine). Numbered 0 h.world.handlers.handlers h.world.handlers.last) (sym is) c.last-last.ensures.rises in
-    let due = c.in_ok-due.ensures in
-    let starts_so = notifying_starts d w rises id c.args.slot class c.in_ok-due.due due c.class_of-class.ensures p some declared.0 declared.1 (begun c.in-Some-emission.emission last) walk in
-    let line = (rw c.as_str-2.ensures.value at c.in_ok-line.ensures) ∙ ap (λ (types : List GType). text_of_line types (lines.notify id p.name)) c.types.ensures.types in
+    let due = subst (λ (h : Engine). map entry_of c.args.due ≡ transfers id c.args.slot (world_of h.world).bindings) (sym is) c.requires.due in
+    let starts_so = notifying_starts d w rises id c.args.slot class c.args.due due c.class_of-class.ensures p some declared.0 declared.1 (begun c.in-Some-emission.emission last) walk in
+    let line = (rw c.as_str.ensures.value at c.in_ok-line.ensures) ∙ ap (λ (types : List GType). text_of_line types (lines.notify id p.name)) c.types.ensures.types in
     let world = c.in_ok-start_emission.ensures.world ∙ ap (λ (text : List ℕ). with_line text w) line in
     let agenda = c.in_ok-start_emission.ensures.agenda d
-    ∙ ap (λ (vs : List Value). Emitting (emission_of (begun c.in-Some-emission.emission last) vs false) (entries_to_come (begun c.in-Some-emission.emission last) f.world.handlers.handlers (at.Ahead c.in_ok-due.due)) ∷ agenda_of d f) c.take-args.ensures
-    ∙ ap (λ (ts : List Task). Emitting (emission_of (begun c.in-Some-emission.emission last) [] false) (entries_to_come (begun c.in-Some-emission.emission last) f.world.handlers.handlers (at.Ahead c.in_ok-due.due)) ∷ ts) (ap (λ (h : Engine). agenda_of d h) is) in
+    ∙ ap (λ (vs : List Value). Emitting (emission_of (begun c.in-Some-emission.emission last) vs false) (entries_to_come (begun c.in-Some-emission.emission last) f.world.handlers.handlers (at.Ahead c.args.due)) ∷ agenda_of d f) c.take-args.ensures
+    ∙ ap (λ (ts : List Task). Emitting (emission_of (begun c.in-Some-emission.emission last) [] false) (entries_to_come (begun c.in-Some-emission.emission last) f.world.handlers.handlers (at.Ahead c.args.due)) ∷ ts) (ap (λ (h : Engine). agenda_of d h) is) in
     ap (λ (h : Engine). counted rest n (notifying d (world_of h.world) id c.args.slot)) (sym is)
     ∙ counted_on rest n _ (in_counted rest n _ c.requires.able).0
     ∙ left_with (world_of c.start_emission.new.engine.world) (agenda_of d c.start_emission.new.engine) (suc n) c.start_emission.new.engine.counted rest (notifying d w id c.args.slot) _ _ starts_so world agenda
