@@ -16,7 +16,7 @@ use Rattle.event_lines.specs.Opening.{Opening, Opens}
 use Rattle.event_lines.specs.LineOutcome.{dispatch_fault, outcome_of}
 use Rattle.event_lines.specs.OpeningView.{IsOpening, Opened}
 use Rattle.event_lines.specs.Texts.{lines_text}
-use Rattle.event_lines.specs.declared.opening.Opening.TheVariants as code
+use Rattle.event_lines.specs.declared.session_start.Opening.TheVariants as code
 use Rattle.event_lines.proofs.EventLemmas.{answers_fault, answers_reply}
 use Rattle.c_sessions.specs.Nobody.{held, nobody}
 use Rattle.c_sessions.specs.Starting.{IsBuilt, IsRefused, IsStopped}

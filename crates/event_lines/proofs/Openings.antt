@@ -20,7 +20,7 @@ use Rattle.ui_engine.specs.declared.faults.SessionFault.{SessionFault}
 use Rattle.ui_engine.specs.declared.faults.SessionFault.TheVariants as faults
 use Rattle.ui_engine.specs.declared.session.Session.{Session}
 use Rattle.ui_engine.specs.SessionView.{SessionState, without_lines, building, state_at, Comes}
-use Rattle.event_lines.specs.declared.opening.Opening.TheVariants as code
+use Rattle.event_lines.specs.declared.session_start.Opening.TheVariants as code
 use Rattle.event_lines.specs.OpeningView.{IsOpening, Opened}
 use Rattle.event_lines.specs.CheckView.{IsUnread, IsRejected}
 use Rattle.law_pools.specs.Needs.{Mismatch, mismatch}

@@ -1,7 +1,7 @@
 -- What the program says and answers where it runs nothing.
 use Rattle.std.specs.Prelude.{ℕ, Bool, true, false, List, [], ◌∷◌, codes}
-use Rattle.event_lines.specs.declared.ending.Ending.{Ending}
-use Rattle.event_lines.specs.declared.ending.Ending.TheVariants as endings
+use Rattle.event_lines.specs.declared.exit_status.Ending.{Ending}
+use Rattle.event_lines.specs.declared.exit_status.Ending.TheVariants as endings
 use Rattle.event_lines.specs.Texts.{joined}
 
 -- how its line begins

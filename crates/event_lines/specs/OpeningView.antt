@@ -9,8 +9,8 @@ use Rattle.ui_engine.specs.SessionView.{state_at}
 use Rattle.event_lines.specs.Texts.{mismatch_text}
 use Rattle.event_lines.specs.Opening as openings
 use Rattle.event_lines.specs.Opening.{Opens}
-use Rattle.event_lines.specs.declared.opening.Opening.{Opening}
-use Rattle.event_lines.specs.declared.opening.Opening.TheVariants as code
+use Rattle.event_lines.specs.declared.session_start.Opening.{Opening}
+use Rattle.event_lines.specs.declared.session_start.Opening.TheVariants as code
 
 -- the pool of an opening
 abbrev pub pool_in : {P : Type 0} {g : Ghosts P} → Opening P g → P

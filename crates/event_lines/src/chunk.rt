@@ -7,7 +7,7 @@ ghost use Rattle.event_lines.specs.Writing.{Waits, IsFine};
 ghost use Rattle.event_lines.specs.declared.chunk.TheConstants.{CHUNK_SIZE};
 
 use crate::devices::{Reader, Writer};
-use crate::gather::Gather;
+use crate::output_buffer::Gather;
 use std::marker::Model;
 use ui_machine::DeviceFault;
 

@@ -13,9 +13,9 @@ ghost use Rattle.event_lines.specs.Writing.{Sends};
 
 use crate::chunk::Chunk;
 use crate::devices::{Reader, Writer};
-use crate::gather::Gather;
 use crate::line_outcome::{LineOutcome, LineStart, start_line};
 use crate::line_reader::{Found, LineReader};
+use crate::output_buffer::Gather;
 use crate::slices::follow;
 use crate::writing::put_outcome;
 use builder_defs::EventReader;

@@ -8,7 +8,7 @@ ghost use Rattle.event_lines.specs.Writing.{Waits, IsFine};
 use crate::MAX_LINE_BYTES;
 use crate::chunk::{CHUNK_SIZE, Chunk};
 use crate::devices::{Reader, Writer};
-use crate::gather::Gather;
+use crate::output_buffer::Gather;
 use ui_machine::DeviceFault;
 
 /// A line that was found.

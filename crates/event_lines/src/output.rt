@@ -4,7 +4,7 @@ ghost use Rattle.std.specs.Prelude.{◌≡◌, ◌≤◌, ◌<◌, ◌+◌, [], 
 ghost use Rattle.event_lines.specs.Writing.{Writes, Passes, Tears, Puts, Finishes, IsMarked};
 
 use crate::devices::Writer;
-use crate::gather::Gather;
+use crate::output_buffer::Gather;
 use ui_machine::DeviceFault;
 
 // Writes all the bytes, or what comes before the first write that fails.

@@ -9,8 +9,8 @@ ghost use Rattle.event_lines.specs.Slices.{Follows, IsBegun, PutsMore};
 ghost use Rattle.event_lines.specs.Texts.{lines_text, stopped_line};
 
 use crate::devices::Writer;
-use crate::gather::Gather;
 use crate::line_outcome::LineOutcome;
+use crate::output_buffer::Gather;
 use crate::writing::{put_lines, put_stopped};
 use native_peers::Peers;
 use ui_engine::{Progress, Session};

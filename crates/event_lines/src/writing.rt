@@ -7,8 +7,8 @@ ghost use Rattle.event_lines.specs.EventFileRun.{text_at};
 ghost use Rattle.event_lines.specs.LineOutcome.{outcome_with};
 
 use crate::devices::Writer;
-use crate::gather::Gather;
 use crate::line_outcome::LineOutcome;
+use crate::output_buffer::Gather;
 use crate::refusal::LineRefusal;
 use itoa::Buffer;
 use ui_machine::DeviceFault;

@@ -1,5 +1,5 @@
 use Rattle.event_lines.proofs.Pieces.{said_and_out, said_and_torn}
-use Rattle.event_lines.proofs.ending.Ending.write.Goals as goal
+use Rattle.event_lines.proofs.exit_status.Ending.write.Goals as goal
 
 pub returns-in_default-clause-writes : goal.returns-in_default-clause-writes
 returns-in_default-clause-writes g c =

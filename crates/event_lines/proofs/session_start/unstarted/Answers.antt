@@ -2,7 +2,7 @@ use Rattle.std.proofs.Common.{refl}
 use Rattle.law_pools.specs.Needs.{mismatch}
 use Rattle.native_peers.specs.Matching.{as_peers}
 use Rattle.event_lines.proofs.Openings.{opens_mismatched, opens_unbegun}
-use Rattle.event_lines.proofs.opening.unstarted.Goals as goal
+use Rattle.event_lines.proofs.session_start.unstarted.Goals as goal
 
 pub returns-in-Some-clause-opened : goal.returns-in-Some-clause-opened
 returns-in-Some-clause-opened g c bytes d denotes judged why =

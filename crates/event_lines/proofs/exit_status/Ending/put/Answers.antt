@@ -1,4 +1,4 @@
-use Rattle.event_lines.proofs.ending.Ending.put.Goals as goal
+use Rattle.event_lines.proofs.exit_status.Ending.put.Goals as goal
 
 pub returns-in-Usage-clause-puts : goal.returns-in-Usage-clause-puts
 returns-in-Usage-clause-puts g c = rw c.in-Usage.is (rw c.as_bytes-name.ensures.value at c.put_parts.ensures.puts)

@@ -7,7 +7,7 @@ use Rattle.ui_engine.specs.declared.faults.SessionFault.{SessionFault}
 use Rattle.ui_engine.specs.SessionView.{Comes, building, state_at}
 use Rattle.event_lines.specs.Opening.{IsTaken}
 use Rattle.event_lines.proofs.Openings.{all_free, opens_built, opens_stopped}
-use Rattle.event_lines.proofs.opening.build.Goals as goal
+use Rattle.event_lines.proofs.session_start.build.Goals as goal
 
 pub returns-in-Ok-build-clause-opened : goal.returns-in-Ok-build-clause-opened
 returns-in-Ok-build-clause-opened g c bytes denotes =

@@ -5,7 +5,7 @@ ghost use Rattle.event_lines.specs.Endings.{ending_line, ending_status};
 ghost use Rattle.event_lines.specs.Writing.{Writes, Puts, IsTold};
 
 use crate::devices::Writer;
-use crate::gather::Gather;
+use crate::output_buffer::Gather;
 use crate::writing::put_parts;
 use ui_machine::DeviceFault;
 

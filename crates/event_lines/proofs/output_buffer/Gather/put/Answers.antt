@@ -1,6 +1,6 @@
 use Rattle.std.proofs.Common.{arith, length-take, length-drop}
 use Rattle.event_lines.proofs.Pieces.{passes_on, tears_before}
-use Rattle.event_lines.proofs.gather.Gather.put.Goals as goal
+use Rattle.event_lines.proofs.output_buffer.Gather.put.Goals as goal
 
 pub returns-in_default-clause-puts : goal.returns-in_default-clause-puts
 returns-in_default-clause-puts g c = tears_before _ _ _ _ _ c.args.bytes.now c.loop-done.done c.loop-done.invariant.passes c.in_default.ensures.puts

@@ -1,7 +1,7 @@
 //! Bytes that were said and not yet written.
 
 ghost use Rattle.std.specs.Prelude.{◌≡◌, ◌≤◌, ◌<◌, ◌-◌, min, ◌++◌, [], ℕ, List, take, length, true, false};
-ghost use Rattle.event_lines.specs.declared.gather.TheConstants.{GATHER_SIZE};
+ghost use Rattle.event_lines.specs.declared.output_buffer.TheConstants.{GATHER_SIZE};
 
 use std::marker::Model;
 

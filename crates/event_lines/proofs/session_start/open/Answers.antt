@@ -2,7 +2,7 @@ use Rattle.std.proofs.Common.{refl}
 use Rattle.native_peers.specs.Matching.{as_peers}
 use Rattle.engine_pools.proofs.Points.{same_here}
 use Rattle.event_lines.proofs.Openings.{opens_refused, opens_unbegun}
-use Rattle.event_lines.proofs.opening.open.Goals as goal
+use Rattle.event_lines.proofs.session_start.open.Goals as goal
 
 pub returns-in-Refused-clause-opened : goal.returns-in-Refused-clause-opened
 returns-in-Refused-clause-opened g c bytes judged =

@@ -1,6 +1,6 @@
 use Rattle.std.proofs.Common.{length, take, ◌-◌, ◌≡◌, ◌≤◌, false}
 use Rattle.event_lines.specs.Writing.{Passes}
-use Rattle.event_lines.proofs.gather.Gather.put.Given as goal
+use Rattle.event_lines.proofs.output_buffer.Gather.put.Given as goal
 
 abbrev pub invariant-loop-done : goal.invariant-loop-done
 invariant-loop-done g l = record {
