@@ -7,10 +7,13 @@ ghost use Rattle.std.specs.Prelude.{◌≡◌, ℕ, ◌<◌, ◌^◌, [], true, 
 ghost use Rattle.std.specs.Option.{option_copied_mut, option_map};
 ghost use Rattle.std.specs.Ordering.{nat_cmp};
 ghost use Rattle.std.specs.Borrow.{sem};
+ghost use Rattle.std.specs.BTreeMap.{get as in_map, IsOrdered};
 ghost use Rattle.std.specs.BTreeMap.Range.{entries_between};
 ghost use Rattle.std.specs.List.Sorted.{IsStrictlySortedBy};
 ghost use Rattle.std.specs.Map.{keys_of};
 ghost use Rattle.std.specs.declared.ops.Bound.TheVariants.{Included, Unbounded};
+ghost use Rattle.slab.specs.Slab.{get as in_slab};
+ghost use Rattle.instance_tables.specs.Index.{IsIndex};
 ghost use Rattle.instance_tables.specs.Lent.{LendsInstance};
 ghost use Rattle.instance_tables.specs.Names.{forgotten_in};
 ghost use Rattle.instance_tables.specs.Store.{id_of};
@@ -42,7 +45,25 @@ impl Entry {
     }
 }
 
-/// Instances, each under an identity, seen in the order of their identities. To find one costs the logarithm of how many there are.
+// The key of an identity, if it has an instance. The first key that an identity may have is looked at before the index: while no key was given
+// again, it is there.
+fn key_of(entries: &Slab<Entry>, keys: &BTreeMap<u64, usize>, id: ObjectId) -> Option<usize>
+    requires ordered { IsOrdered nat_cmp keys.now }
+    requires index { IsIndex (in_slab entries.now) (in_map nat_cmp keys.now) }
+    ensures { result ≡ in_map nat_cmp keys.now id.0 }
+{
+    let first = id.0.saturating_sub(1) as usize;
+    if let Some(entry) = entries.get(first) {
+        if entry.id == id {
+            return Some(first);
+        }
+    }
+    let key = keys.get(&id.0)?;
+    Some(*key)
+}
+
+/// Instances, each under an identity, seen in the order of their identities. To find one costs the logarithm of how many there are, or nothing
+/// of it while none was taken out.
 #[derive(Drop)]
 pub(crate) struct Instances {
     entries: Slab<Entry>,
@@ -89,15 +110,15 @@ impl Instances {
     pub(crate) fn contains(&self, id: ObjectId) -> bool
         ensures { result ≡ is_some (instances_at self.now id.0) }
     {
-        self.keys.contains_key(&id.0)
+        key_of(&self.entries, &self.keys, id).is_some()
     }
 
     /// The instance of an identity, if there is one.
     pub(crate) fn get(&self, id: ObjectId) -> Option<&Instance>
         ensures value { option_copied result ≡ instances_at self.now id.0 }
     {
-        let key = self.keys.get(&id.0)?;
-        Some(&self.entries[*key].instance)
+        let key = key_of(&self.entries, &self.keys, id)?;
+        Some(&self.entries[key].instance)
     }
 
     /// The same to write to.
@@ -105,7 +126,7 @@ impl Instances {
         ensures* writes_back { sem 𝓛 (LendsInstance self.entry id.0 result) }
         ensures value { option_copied_mut result ≡ instances_at self.old id.0 }
     {
-        let key = *self.keys.get(&id.0)?;
+        let key = key_of(&self.entries, &self.keys, id)?;
         Some(&mut self.entries[key].instance)
     }
 

@@ -76,6 +76,31 @@ between a b c n m x y z k lo hi =
     let three = tied c z (nat_cmp n k) (nat_cmp k m) two.0 two.1 in
     (up_to n k three.0, up_to k m three.1)
 
+-- of two numbers each at most the other, they are one
+tied_same : (x y : ℕ) (o p : Ordering) → is_gt (ordering_then (nat_cmp x y) o) ≡ false → is_gt (ordering_then (nat_cmp y x) p) ≡ false → x ≡ y
+tied_same x y o p lo hi =
+    elim (first_of x y o lo) [
+      | inl l ↦
+          elim (first_of y x p hi) [
+            | inl r ↦ absurd (omega (arith, l, r))
+            | inr e ↦ absurd (omega (arith, l, e.0))
+          ]
+      | inr e ↦ e.0
+    ]
+
+-- a key between two of the same first three has these too
+pub front : (a b c n m : ℕ) (x y z k : ℕ) → is_gt (key_cmp (a, b, c, n) (x, y, z, k)) ≡ false → is_gt (key_cmp (x, y, z, k) (a, b, c, m)) ≡ false
+    → (a ≡ x) × (b ≡ y) × (c ≡ z)
+front a b c n m x y z k lo hi =
+    let low = ap is_gt (sym (regrouped (nat_cmp a x) (nat_cmp b y) (nat_cmp c z) (nat_cmp n k))) ∙ lo in
+    let high = ap is_gt (sym (regrouped (nat_cmp x a) (nat_cmp y b) (nat_cmp z c) (nat_cmp k m))) ∙ hi in
+    let one = tied a x (ordering_then (nat_cmp b y) (ordering_then (nat_cmp c z) (nat_cmp n k))) (ordering_then (nat_cmp y b) (ordering_then (nat_cmp z c) (nat_cmp k m))) low high in
+    let two = tied b y (ordering_then (nat_cmp c z) (nat_cmp n k)) (ordering_then (nat_cmp z c) (nat_cmp k m)) one.0 one.1 in (
+      tied_same a x _ _ low high,
+      tied_same b y _ _ one.0 one.1,
+      tied_same c z _ _ two.0 two.1,
+    )
+
 rising : (n m : ℕ) → n ≤ m → is_gt (nat_cmp n m) ≡ false
 rising n m h = grind (arith, nat_tests)
 

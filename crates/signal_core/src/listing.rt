@@ -1,6 +1,6 @@
 //! Numbers of handlers, listed under others.
 
-ghost use Rattle.std.specs.Prelude.{◌≡◌, OnOk, true};
+ghost use Rattle.std.specs.Prelude.{◌≡◌, ◌<◌, ◌^◌, ◌&&◌, OnOk, nat_eq, true};
 ghost use Rattle.signal_core.specs.Kept.{IsNext, Stays, StaysBeside, is_listed, least_of};
 
 use std::alloc::{AllocError, Global};
@@ -48,10 +48,27 @@ impl Listing {
         ensures { IsNext self.now first second third given result }
     {
         let from = given.checked_add(1)?;
-        let range = (first, second, third, from)..=(first, second, third, u64::MAX);
-        let (_, _, _, number) = self.keys.range(range).next()?;
-        Some(*number)
+        let key = self.keys.range((first, second, third, from)..).next()?;
+        if is_under(key, first, second, third) {
+            return Some(number_of(key));
+        }
+        None
     }
+}
+
+// Whether these are the first three numbers of a key.
+fn is_under(key: &(u64, u64, u64, u64), first: u64, second: u64, third: u64) -> bool
+    ensures { result ≡ (nat_eq key.now.0 first && nat_eq key.now.1 second && nat_eq key.now.2 third) }
+{
+    key.0 == first && key.1 == second && key.2 == third
+}
+
+// The last number of a key.
+fn number_of(key: &(u64, u64, u64, u64)) -> u64
+    ensures number { result ≡ key.now.3 }
+    ensures fits { result < 2 ^ 64 }
+{
+    key.3
 }
 
 /// The lower one of two numbers.
