@@ -1,6 +1,6 @@
 //! What C has of a session.
 
-ghost use Rattle.std.specs.Prelude.{◌≡◌, [], None, Some, length, option_map};
+ghost use Rattle.std.specs.Prelude.{◌≡◌, [], IfSome, None, Some, length, option_map};
 ghost use Rattle.c_sessions.specs.Held.{is_kept};
 ghost use Rattle.c_sessions.specs.Handles.{Dispatches, FailsAs, KeepsAs, Starts, Takes};
 ghost use Rattle.c_sessions.specs.Buffers.{padded};
@@ -105,7 +105,7 @@ impl SessionHandle {
         requires { self.now.kept.session ≡ None }
         ensures { KeepsAs session status result self.new.kept.session }
     {
-        let Ok(session) = Box::new(alloc, session) else {
+        let Some(session) = boxed(alloc, session) else {
             return Status::Stopped;
         };
         self.put(alloc, session);
@@ -143,6 +143,16 @@ impl SessionHandle {
         }
         kept.discard();
         None
+    }
+}
+
+// A value in a box, if there is memory for it.
+fn boxed<T: Drop>(alloc: Global, value: T) -> Option<Box<T>>
+    ensures { IfSome result (λ boxed. boxed.value ≡ value) }
+{
+    match Box::new(alloc, value) {
+        Ok(boxed) => Some(boxed),
+        Err(_) => None,
     }
 }
 
