@@ -28,3 +28,4 @@ pub mod Turning
 pub mod StepProofs
 pub mod Fronting
 pub mod UnderWay
+pub mod Answers

@@ -1,13 +1,12 @@
 -- How an event goes on: by steps of a dispatch, and from one dispatch to the next.
-use Rattle.std.proofs.Common.{◌≡◌, ◌<◌, ◌≤◌, ◌+◌, ◌*◌, refl, ap, sym, ◌∙◌, subst, ℕ, List, [], ◌∷◌, ◌++◌, length, map, option_map, Option, None, Some, Result, Ok, Err, append_assoc, arith}
-use Rattle.std.specs.declared.alloc.AllocError.{AllocError}
+use Rattle.std.proofs.Common.{◌≡◌, ◌<◌, ◌≤◌, ◌+◌, ◌*◌, refl, ap, sym, ◌∙◌, subst, ℕ, List, [], ◌∷◌, ◌++◌, length, map, option_map, Option, None, Some, Ok, append_assoc, arith}
 use Rattle.ui_machine.specs.declared.arm.Halt.TheVariants as halts
 use Rattle.ui_machine.specs.Definition.{Definition}
 use Rattle.ui_machine.specs.Output.Lines as lines
 use Rattle.ui_machine.specs.Prefix.{IsPrefix}
 use Rattle.ui_machine.specs.Rules.Events.{Refusal, refusal}
 use Rattle.ui_machine.specs.Rules.MainLoop.{turned}
-use Rattle.ui_machine.specs.Runs.{Comes, Dispatches, Does, Fits, HasEnded, RunsSource, RunsSources, Serves, Tally, HaltsIn, at_a_source, at_its_beginning, beginning, no_dispatch, of_request, one_dispatch, tallied}
+use Rattle.ui_machine.specs.Runs.{Comes, Dispatches, Does, Fits, HasEnded, RunsSource, RunsSources, Serves, Tally, HaltsIn, at_a_source, at_its_beginning, beginning, of_request, one_dispatch, tallied}
 use Rattle.ui_machine.specs.State.Config.{Config, World, said}
 use Rattle.ui_machine.specs.State.Peers.{Peer, Reply}
 use Rattle.ui_machine.specs.State.Sources.{Source, source_of}
@@ -16,6 +15,7 @@ use Rattle.ui_machine.specs.State.Tasks as config
 use Rattle.ui_machine.specs.Steps.{most_steps}
 use Rattle.ui_machine.proofs.Prefixes.{prefix_one}
 use Rattle.g_values.specs.View.{value_view}
+use Rattle.g_values.specs.declared.kind.Kind.{Kind}
 use Rattle.law_sessions.proofs.SafeProofs.{safe_stays}
 use Rattle.law_sessions.proofs.SessionProofs.{not_released}
 use Rattle.law_tasks.proofs.StepsProofs.{steps_keep_good}
@@ -25,7 +25,6 @@ use Rattle.machine_laws.specs.FrontLaws.{fronted, fronted_at}
 use Rattle.main_context.specs.Attached.{next_source, numbers_after}
 use Rattle.native_peers.specs.Seen.{Relations, SameRelations, Seen}
 use Rattle.engine_world.specs.EngineView.{config_of}
-use Rattle.engine_world.specs.Quiet.{IsQuiet}
 use Rattle.engine_world.specs.Standing.{without_gone}
 use Rattle.engine_world.specs.View.{world_of}
 use Rattle.engine_world.specs.declared.engine.Engine.{Engine}
@@ -38,7 +37,7 @@ use Rattle.engine_pools.specs.CallPoints.{point_of}
 use Rattle.engine_pools.specs.Courses.{BeginsNext, HasCome, IfGoesOn, IfHasEnded, IsUnderWay, LeadsTo, MayBegin, NextBegins, Proceeds, Starts, fronted_point, nothing_yet, sources_left}
 use Rattle.engine_pools.specs.Dispatched.{EndsBy}
 use Rattle.engine_pools.specs.Following.{Breaks, Follows, Halting, Point, Stands}
-use Rattle.engine_pools.specs.PoolView.{GivenBy, Knows, Replied, forgotten_seen, seen_of, with_seen, world_at}
+use Rattle.engine_pools.specs.PoolView.{GivenBy, Knows, Replied, forgotten_seen, seen_of, world_at}
 use Rattle.engine_pools.specs.Promises.{IsRoomy, Rests}
 use Rattle.engine_pools.specs.Safety.{ComesOfSafe, IsSafe}
 use Rattle.engine_pools.specs.TurnView.{TurnBegins}
@@ -332,7 +331,7 @@ still_there e new (progress.Ended reply) h = ap (λ (x : Engine). world_of x.wor
 
 module _ (d : Definition) (may : Relations) (event : Event) (w : World) (front : List (List ℕ)) (course : Course) (p : Point) (u : IsUnderWay d may event w front course p)
     (ended : HasEnded d p.view) (one : code.Reply) (e : Engine) (ends : EndsBy one d p.view (world_of e.world)) (next : Course)
-    (is : next ≡ record { left = course.left; so_far = after course.so_far one }) where
+    (is : next ≡ record { left = course.left; so_far = after course.so_far one; asked = course.asked }) where
   come_so : HasCome d may event w (sources_left next.left) next.so_far (fronted front (world_at p.pool (world_of e.world)))
   come_so =
       subst (λ (x : Course). HasCome d may event w (sources_left x.left) x.so_far (fronted front (world_at p.pool (world_of e.world)))) (sym is)
@@ -423,9 +422,9 @@ module _ (d : Definition) {may later : Relations} (same : SameRelations may late
 
 module _ (d : Definition) (may : Relations) (pool : List Seen) (w : World) (knows : Knows w pool) where
   -- a request
-  pub request_begins : (r : Request) (view : Config) → MayBegin d (config.request r) (world_at pool w) → view ≡ beginning w (Handling r) → without_gone view ≡ view
-      → IsUnderWay d may (config.request r) (world_at pool w) [] (record { left = None; so_far = nothing_yet }) (record { pool = pool; view = view })
-  request_begins r view begins is whole =
+  pub request_begins : (asked : Option Kind) (r : Request) (view : Config) → MayBegin d (config.request r) (world_at pool w) → view ≡ beginning w (Handling r) → without_gone view ≡ view
+      → IsUnderWay d may (config.request r) (world_at pool w) [] (record { left = None; so_far = nothing_yet; asked = asked }) (record { pool = pool; view = view })
+  request_begins asked r view begins is whole =
       let q : Point = record { pool = pool; view = view } in
       let known : Knows view.world pool = knows ∙ sym (ap (λ (x : Config). map seen_of x.world.peers) is) in
       let begun : real d q ≡ of_request (world_at pool w) r = ap (λ (x : Config). record x { world = world_at pool x.world }) is in
@@ -467,6 +466,6 @@ engine_begins d may event w front course pool e new h knows p still begins =
     begins_on d may event w front course pool (world_of e.world) h knows p (config_of d new) (engine_whole d new) (still_there e new p still) begins
 
 -- a request has begun
-pub engine_handles : (d : Definition) (may : Relations) (pool : List Seen) (w : World) → Knows w pool → (r : Request) (new : Engine) → MayBegin d (config.request r) (world_at pool w)
-    → config_of d new ≡ beginning w (Handling r) → IsUnderWay d may (config.request r) (world_at pool w) [] (record { left = None; so_far = nothing_yet }) (point_of d pool new)
-engine_handles d may pool w knows r new begins is = request_begins d may pool w knows r (config_of d new) begins is (engine_whole d new)
+pub engine_handles : (d : Definition) (may : Relations) (pool : List Seen) (w : World) → Knows w pool → (asked : Option Kind) (r : Request) (new : Engine) → MayBegin d (config.request r) (world_at pool w)
+    → config_of d new ≡ beginning w (Handling r) → IsUnderWay d may (config.request r) (world_at pool w) [] (record { left = None; so_far = nothing_yet; asked = asked }) (point_of d pool new)
+engine_handles d may pool w knows asked r new begins is = request_begins d may pool w knows asked r (config_of d new) begins is (engine_whole d new)

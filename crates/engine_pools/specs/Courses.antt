@@ -17,7 +17,6 @@ use Rattle.law_typing.specs.Verdict.Accepted.{Each}
 use Rattle.machine_laws.specs.FrontLaws.{fronted, fronted_at}
 use Rattle.main_context.specs.Attached.{next_source, numbers_after}
 use Rattle.native_peers.specs.Seen.{Relations}
-use Rattle.engine_world.specs.Quiet.{IsQuiet}
 use Rattle.engine_pools.specs.declared.courses.Course.{Course}
 use Rattle.engine_pools.specs.declared.courses.Progress.{Progress}
 use Rattle.engine_pools.specs.declared.courses.Progress.TheVariants as progress

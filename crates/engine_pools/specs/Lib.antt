@@ -11,3 +11,4 @@ pub mod Dispatched
 pub mod Ways
 pub mod TurnView
 pub mod Courses
+pub mod Asked

@@ -14,6 +14,8 @@ ghost use Rattle.law_typing.specs.Verdict.Accepted.{Accepted};
 ghost use Rattle.main_context.specs.Attached.{next_source, numbers_after};
 ghost use Rattle.main_context.specs.Dues.{due_of};
 ghost use Rattle.native_peers.specs.Seen.{SameRelations};
+ghost use Rattle.g_values.specs.View.{kind_view};
+ghost use Rattle.engine_pools.specs.Asked.{IsAnswerTo};
 ghost use Rattle.engine_pools.specs.CallPoints.{point_of};
 ghost use Rattle.engine_pools.specs.Courses.{BeginsNext, GoesOn, IfEnded, IfGoesOn, IfHasEnded, IfUnderWay, IsUnderWay, Proceeds, sources_left};
 ghost use Rattle.engine_pools.specs.Dispatched.{IsAtRest};
@@ -25,6 +27,7 @@ use crate::runs::run_for;
 use definitions::Definition;
 use engine_world::engine::Engine;
 use engine_world::task::Task;
+use g_values::Kind;
 use main_context::{Batch, Due};
 use native_peers::Peers;
 use std::alloc::AllocError;
@@ -36,6 +39,8 @@ pub struct Course {
     pub left: Option<Batch>,
     /// What the dispatches before this one led to.
     pub so_far: Reply,
+    /// The kind of the value that the event asks for, if it asks for one.
+    pub asked: Option<Kind>,
 }
 
 /// How far an event has come.
@@ -65,16 +70,25 @@ pub fn begin_next(engine: &mut Engine, definition: &Definition, course: Course) 
     ensures still { IfHasEnded result (λ _. engine.new ≡ engine.old) }
     ensures counted { IfGoesOn result (λ _. Counts definition.now nothing engine.new) }
     ensures begins { BeginsNext result course (world_of engine.old.world) (config_of definition.now engine.new) }
+    ensures asked { IfGoesOn result (λ next. next.asked ≡ course.asked) }
     ensures grows { IsPrefix (world_of engine.old.world).transcript (world_of engine.new.world).transcript }
     ensures room { SameRoom engine.old engine.new }
 {
-    let Course { mut left, so_far } = course;
+    let Course {
+        mut left,
+        so_far,
+        asked,
+    } = course;
     let Some(due) = next_due(engine, &mut left) else {
         return Progress::Ended(so_far);
     };
     let task = Task::Due { source: due.source };
     begin_dispatch(engine, definition, task);
-    Progress::UnderWay(Course { left, so_far })
+    Progress::UnderWay(Course {
+        left,
+        so_far,
+        asked,
+    })
 }
 
 /// Goes on with an event for at most so many counted steps: where it does not end, just so many were made. The dispatch of a source begins
@@ -107,6 +121,9 @@ pub fn advance<P: Peers>(
         (point_of definition.now (P.seen pool.new) engine.new) }
     ensures made { IfUnderWay result (λ next. next.so_far.steps + engine.new.counted ≡ course.so_far.steps + engine.old.counted + most) }
     ensures most { IfEnded result (λ reply. reply.steps ≤ course.so_far.steps + engine.old.counted + most) }
+    ensures asked { IfUnderWay result (λ next. next.asked ≡ course.asked) }
+    // An object that it asks for is known by the type that it asks for.
+    ensures kind { IfEnded result (λ reply. IsAnswerTo (option_map kind_view course.asked) reply.result) }
     ensures same { SameRelations (P.relations pool.old) (P.relations pool.new) }
     ensures grows { IsPrefix (world_of engine.old.world).transcript (world_of engine.new.world).transcript }
     ensures room { SameRoom engine.old engine.new }
@@ -118,7 +135,7 @@ pub fn advance<P: Peers>(
             Some(rest) => rest,
             None => return Ok(Progress::UnderWay(course)),
         };
-        let one = end_dispatch(engine, definition)?;
+        let one = end_dispatch(engine, definition, course.asked)?;
         match begin_next(engine, definition, course.after(one)) {
             Progress::UnderWay(next) => course = next,
             Progress::Ended(reply) => return Ok(Progress::Ended(reply)),
@@ -131,7 +148,7 @@ impl Course {
     fn after(self, one: Reply) -> Course
         requires few { self.so_far.dispatches + 1 ≤ 256 }
         requires steps { self.so_far.steps + one.steps ≤ 256 * most_steps }
-        ensures { result ≡ record { left = self.left; so_far = record { result = one.result; dispatches = self.so_far.dispatches + 1; steps = self.so_far.steps + one.steps } } }
+        ensures { result ≡ record { left = self.left; so_far = record { result = one.result; dispatches = self.so_far.dispatches + 1; steps = self.so_far.steps + one.steps }; asked = self.asked } }
     {
         Course {
             left: self.left,
@@ -140,6 +157,7 @@ impl Course {
                 dispatches: self.so_far.dispatches + 1,
                 steps: self.so_far.steps + one.steps,
             },
+            asked: self.asked,
         }
     }
 }

@@ -1,7 +1,7 @@
 //! Dispatches: one task, and all that it leads to.
 
-ghost use Rattle.std.specs.Prelude.{◌≡◌, ◌≤◌, [], option_map, OnOk, OnErr, IfOk, ◌<◌, vec_capacity};
-ghost use Rattle.g_values.specs.View.{value_view};
+ghost use Rattle.std.specs.Prelude.{◌≡◌, ◌≤◌, [], Some, option_map, OnOk, OnErr, IfOk, ◌<◌, vec_capacity};
+ghost use Rattle.g_values.specs.View.{kind_view, value_view};
 ghost use Rattle.ui_machine.specs.Runs.{beginning};
 ghost use Rattle.ui_machine.specs.Steps.{most_steps};
 ghost use Rattle.engine_world.specs.KnownHandlers.{TakesKnownHandlers};
@@ -13,6 +13,7 @@ ghost use Rattle.engine_world.specs.EngineView.{config_of};
 ghost use Rattle.ui_machine.specs.Prefix.{IsPrefix};
 ghost use Rattle.native_peers.specs.Seen.{SameRelations};
 ghost use Rattle.engine_world.specs.Counting.{KeepsCounts};
+ghost use Rattle.engine_pools.specs.Asked.{IsAnswerTo, IsKnownBy};
 ghost use Rattle.engine_pools.specs.Courses.{nothing_yet};
 ghost use Rattle.engine_pools.specs.Dispatched.{Carried, EndsBy, HoldsNothing, IsAtRest};
 ghost use Rattle.engine_pools.specs.PoolView.{Knows, world_at};
@@ -24,14 +25,14 @@ use engine_world::engine::Engine;
 use engine_world::lines::Line;
 use engine_world::references::push_task;
 use engine_world::task::Task;
-use g_values::Value;
+use g_values::{Kind, Value};
 use native_peers::Peers;
 use std::alloc::AllocError;
 
 /// What a dispatch led to.
 #[derive(Drop)]
 pub struct Reply {
-    /// The value that the event gave, where it gave one.
+    /// The value that the event gave, where it gave one. An object is known by the type that the property or the signal declares.
     pub result: Option<Value>,
     /// How many lines `end` were said.
     pub dispatches: u32,
@@ -98,10 +99,10 @@ pub fn dispatch<P: Peers>(
 {
     begin_dispatch(engine, definition, task);
     run(engine, definition, pool)?;
-    end_dispatch(engine, definition)
+    end_dispatch(engine, definition, None)
 }
 
-/// Says the line of a dispatch's end, and answers what it led to.
+/// Says the line of a dispatch's end, and answers what it led to. The value that it gave is asked for by this kind.
 ///
 /// # Errors
 ///
@@ -109,14 +110,16 @@ pub fn dispatch<P: Peers>(
 pub(crate) fn end_dispatch(
     engine: &mut Engine,
     definition: &Definition,
+    asked: Option<Kind>,
 ) -> Result<Reply, AllocError>
     requires rests { IsAtRest definition.now engine.now }
     ensures rests { OnOk result (IsAtRest definition.now engine.new) }
     ensures says { IfOk result (λ reply. EndsBy reply definition.now (config_of definition.now engine.old) (world_of engine.new.world)) }
+    ensures kind { IfOk result (λ reply. IsAnswerTo (option_map kind_view asked) reply.result) }
     ensures quiet { OnErr result (IsQuiet (world_of engine.old.world) (world_of engine.new.world)) }
     ensures room { SameRoom engine.old engine.new }
 {
-    let result = copied(&engine.world.result)?;
+    let result = copied(&engine.world.result, asked)?;
     let steps = engine.counted;
     let line = Line::End { steps }.text(engine.alloc, definition.types())?;
     engine.world.say(line)?;
@@ -127,12 +130,30 @@ pub(crate) fn end_dispatch(
     })
 }
 
-// The same value once more, if there is one.
-fn copied(value: &Option<Value>) -> Result<Option<Value>, AllocError>
-    ensures { IfOk result (λ copy. option_map value_view copy ≡ option_map value_view value.now) }
+// The same value, where it is asked for by this kind.
+fn known_by(asked: Kind, value: Value) -> Value
+    ensures value { value_view result ≡ value_view value }
+    ensures kind { IsKnownBy (Some (kind_view asked)) result }
+{
+    match (&value, asked) {
+        (Value::Object(_, object), Kind::Object(declared)) => Value::Object(declared, *object),
+        (_, _) => value,
+    }
+}
+
+// The same value once more, if there is one, where it is asked for by this kind.
+fn copied(value: &Option<Value>, asked: Option<Kind>) -> Result<Option<Value>, AllocError>
+    ensures value { IfOk result (λ copy. option_map value_view copy ≡ option_map value_view value.now) }
+    ensures kind { IfOk result (λ copy. IsAnswerTo (option_map kind_view asked) copy) }
 {
     match value {
-        Some(value) => Ok(Some(value.copied()?)),
+        Some(value) => {
+            let copy = value.copied()?;
+            match asked {
+                Some(asked) => Ok(Some(known_by(asked, copy))),
+                None => Ok(Some(copy)),
+            }
+        }
         None => Ok(None),
     }
 }

@@ -6,7 +6,7 @@ use g_values::Value;
 use std::alloc::Global;
 use ui_machine::{Place, SignalId, Slot};
 
-/// A button. As it is clicked its peer, a tally, adds the button's step; in the next turn the button shows the sum.
+/// A button in a row of a panel. As it is clicked its peer, a tally, adds the button's step; in the next turn the button shows the sum.
 pub const DEFINITION: &str = r#"{
   "format": 1,
   "shapes": [
@@ -19,12 +19,15 @@ pub const DEFINITION: &str = r#"{
     }
   ],
   "classes": [
+    {"name": "Panel"},
+    {"name": "Row", "parent": "Panel"},
     {
       "name": "Button",
       "shape": "Tally",
       "properties": [
         {"name": "step", "kind": "int64", "default": 1},
-        {"name": "total", "kind": "int64"}
+        {"name": "total", "kind": "int64"},
+        {"name": "panel", "kind": "object:Panel"}
       ],
       "signals": [{"name": "clicked"}],
       "class-handlers": [["clicked", "count"]]
@@ -63,7 +66,15 @@ pub const DEFINITION: &str = r#"{
       ]
     }
   ],
-  "objects": [{"id": "button", "class": "Button", "peer": "clicks"}]
+  "objects": [
+    {"id": "row", "class": "Row"},
+    {
+      "id": "button",
+      "class": "Button",
+      "peer": "clicks",
+      "properties": [{"name": "panel", "value": "row"}]
+    }
+  ]
 }"#;
 
 /// The button of the definition: its place, and what events name of its class, looked up once.
@@ -72,6 +83,7 @@ pub struct Button {
     place: Place,
     step: Slot,
     total: Slot,
+    panel: Slot,
     clicked: SignalId,
 }
 
@@ -84,6 +96,7 @@ impl Button {
             place,
             step: definition.slot(class, "step")?,
             total: definition.slot(class, "total")?,
+            panel: definition.slot(class, "panel")?,
             clicked: definition.signal_number(class, "clicked")?,
         })
     }
@@ -109,9 +122,19 @@ impl Button {
 
     /// The total is read.
     pub fn get_total(&self) -> Event {
+        self.get(self.total)
+    }
+
+    /// The panel that the button is in is read.
+    pub fn get_panel(&self) -> Event {
+        self.get(self.panel)
+    }
+
+    // A property is read.
+    fn get(&self, slot: Slot) -> Event {
         Event::Request(Request::Get {
             place: self.place,
-            slot: self.total,
+            slot,
         })
     }
 }

@@ -9,6 +9,7 @@ use builder_defs::{ReadError, read_definition};
 use button::{Button, DEFINITION};
 use checked_events::is_event_of;
 use definition_format::Event;
+use definitions::Definition;
 use g_values::Value;
 use host_faults::HostFault;
 use host_peers::Tally;
@@ -94,6 +95,7 @@ fn play<P: Peers>(rt: &HostRuntime, session: &mut Session<P>) -> Result<(), Host
     carry_out(rt, session, button.click(rt.alloc()))?;
     carry_out(rt, session, Event::Turn(40))?;
     carry_out(rt, session, button.get_total())?;
+    carry_out(rt, session, button.get_panel())?;
     // A text is no step.
     carry_out(rt, session, button.set_step(Value::Text(None)))?;
     // The clock does not go back.
@@ -113,7 +115,7 @@ fn carry_out<P: Peers>(
     let outcome = session.dispatch(event);
     take_lines(rt, session)?;
     match outcome {
-        Ok(reply) => print_answer(rt, reply.result),
+        Ok(reply) => print_answer(rt, session.definition(), reply.result),
         Err(SessionFault::OutOfMemory | SessionFault::Stopped) => Err(HostFault::Stopped),
         Err(SessionFault::Released) => {
             println!(rt; "the object was released")?;
@@ -140,10 +142,19 @@ fn print_lines(rt: &HostRuntime, lines: &[String]) -> Result<(), HostFault> {
     Ok(())
 }
 
-// Prints the value that an event answered, if it answered one.
-fn print_answer(rt: &HostRuntime, answer: Option<Value>) -> Result<(), HostFault> {
-    if let Some(value) = answer {
-        println!(rt; "the answer is {value:?}")?;
+// Prints the value that an event answered, if it answered one: an object with the type that its property declares.
+fn print_answer(
+    rt: &HostRuntime,
+    definition: &Definition,
+    answer: Option<Value>,
+) -> Result<(), HostFault> {
+    match &answer {
+        Some(Value::Object(declared, Some(object))) => {
+            let class = definition.class_name(*declared);
+            println!(rt; "the answer is #{}, a {class}", object.0)?;
+        }
+        Some(value) => println!(rt; "the answer is {value:?}")?,
+        None => {}
     }
     Ok(())
 }

@@ -1,5 +1,5 @@
 -- What going on with an event asks is met by a session that is in a turn: of two sources the first is running, and the second is left.
-use Rattle.std.specs.Prelude.{◌≡◌, true, [], ◌∷◌, Some}
+use Rattle.std.specs.Prelude.{◌≡◌, true, [], ◌∷◌, None, Some}
 use Rattle.ui_machine.specs.Definition.{Definition}
 use Rattle.ui_machine.specs.State.Config.{Config, World}
 use Rattle.ui_machine.specs.State.Tasks.{turn}
@@ -24,7 +24,7 @@ session_at d c = record {
 
 -- no dispatch has ended, and behind that of the first source the second one is left
 abbrev pub course : Course
-course = record { left = Some (3 ∷ []); so_far = nothing_yet }
+course = record { left = Some (3 ∷ []); so_far = nothing_yet; asked = None }
 
 -- there are no peers, so none may do anything
 abbrev pub none_may : Relations

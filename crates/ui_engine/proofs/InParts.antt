@@ -1,5 +1,3 @@
-use Rattle.law_typing.specs.Verdict.Accepted.{Accepted}
-use Rattle.engine_world.specs.Room.{SameRoom}
 -- How events go on in a session: what its engine comes to is what the session answers.
 use Rattle.std.proofs.Common.{◌≡◌, ◌<◌, ◌+◌, ℕ, Bool, true, false, nat_lt, List, [], ◌++◌, Option, None, Some, Result, Ok, Err, refl, sym, ap, subst, arith, vec_capacity}
 use Rattle.std.proofs.lemmas.Bool.Decides.{nat_tests}
@@ -11,9 +9,12 @@ use Rattle.ui_machine.specs.Runs.{at_its_beginning, beginning}
 use Rattle.ui_machine.specs.State.Config.{World}
 use Rattle.ui_machine.specs.State.Tasks.{Event, Handling, Request}
 use Rattle.ui_machine.specs.State.Tasks as config
+use Rattle.g_values.specs.declared.kind.Kind.{Kind}
+use Rattle.law_typing.specs.Verdict.Accepted.{Accepted}
 use Rattle.native_peers.specs.Seen.{Relations, Seen}
 use Rattle.engine_world.specs.Counting.{Counts, nothing}
 use Rattle.engine_world.specs.EngineView.{config_of}
+use Rattle.engine_world.specs.Room.{SameRoom}
 use Rattle.engine_world.specs.View.{world_of}
 use Rattle.engine_world.specs.declared.engine.Engine.{Engine}
 use Rattle.engine_pools.specs.declared.courses.Course.{Course}
@@ -153,26 +154,26 @@ module _ (may : Relations) (pool : List Seen) (old : SessionState) where
 
 module _ (may : Relations) (d e : Definition) (same : e ≡ d) (pool : List Seen) (engine new : Engine) (knows : Knows (world_of engine.world) pool) where
   -- a request has begun
-  pub request_so_far : (r : Request) → MayBegin d (config.request r) (world_at pool (world_of engine.world)) → config_of e new ≡ beginning (world_of engine.world) (Handling r) → (so_far : Reply) → so_far ≡ nothing_yet
-      → ComesOn (Ok (progress.UnderWay (record { left = None; so_far = so_far }))) may d (config.request r) (world_at pool (world_of engine.world)) [] pool (session_at d new phases.UnderWay)
-  request_so_far r begins is so_far none =
-      subst (λ (x : Reply). ComesOn (Ok (progress.UnderWay (record { left = None; so_far = x }))) may d (config.request r) (world_at pool (world_of engine.world)) [] pool (session_at d new phases.UnderWay)) (sym none) (record {
+  pub request_so_far : (asked : Option Kind) (r : Request) → MayBegin d (config.request r) (world_at pool (world_of engine.world)) → config_of e new ≡ beginning (world_of engine.world) (Handling r) → (so_far : Reply) → so_far ≡ nothing_yet
+      → ComesOn (Ok (progress.UnderWay (record { left = None; so_far = so_far; asked = asked }))) may d (config.request r) (world_at pool (world_of engine.world)) [] pool (session_at d new phases.UnderWay)
+  request_so_far asked r begins is so_far none =
+      subst (λ (x : Reply). ComesOn (Ok (progress.UnderWay (record { left = None; so_far = x; asked = asked }))) may d (config.request r) (world_at pool (world_of engine.world)) [] pool (session_at d new phases.UnderWay)) (sym none) (record {
         definition = refl;
         under_way = refl;
         stops = refl;
-        so_far = engine_handles d may pool (world_of engine.world) knows r new begins (subst (λ (x : Definition). config_of x new ≡ beginning (world_of engine.world) (Handling r)) same is);
+        so_far = engine_handles d may pool (world_of engine.world) knows asked r new begins (subst (λ (x : Definition). config_of x new ≡ beginning (world_of engine.world) (Handling r)) same is);
       })
 
   -- the first source of a turn begins, if there is one
-  module _ (event : Event) (w : World) (batch : List ℕ) (so_far : Reply) (none : so_far ≡ nothing_yet)
+  module _ (event : Event) (w : World) (batch : List ℕ) (so_far : Reply) (asked : Option Kind) (none : so_far ≡ nothing_yet)
       (h : HasCome d may event w batch nothing_yet (world_at pool (world_of engine.world))) where
-    pub sources_begin : (p : Progress) → IfHasEnded p (λ _. new ≡ engine) → BeginsNext p (record { left = Some batch; so_far = so_far }) (world_of engine.world) (config_of e new)
+    pub sources_begin : (p : Progress) → IfHasEnded p (λ _. new ≡ engine) → BeginsNext p (record { left = Some batch; so_far = so_far; asked = asked }) (world_of engine.world) (config_of e new)
         → (phase : Phase) → phase ≡ phase_of p → ComesOn (Ok p) may d event w [] pool (session_at d new phase)
     sources_begin p still begins phase is =
         comes_so_far d may event w [] pool new p
-        (engine_begins d may event w [] (record { left = Some batch; so_far = so_far }) pool engine new
+        (engine_begins d may event w [] (record { left = Some batch; so_far = so_far; asked = asked }) pool engine new
         (subst (λ (x : Reply). HasCome d may event w batch x (world_at pool (world_of engine.world))) (sym none) h) knows p still
-        (subst (λ (x : Definition). BeginsNext p (record { left = Some batch; so_far = so_far }) (world_of engine.world) (config_of x new)) same begins))
+        (subst (λ (x : Definition). BeginsNext p (record { left = Some batch; so_far = so_far; asked = asked }) (world_of engine.world) (config_of x new)) same begins))
         phase is
 
 -- ** an event that goes on

@@ -1,6 +1,7 @@
 pub mod Phases
 pub mod SessionView
 pub mod BuildBegins
+pub mod AskedKinds
 pub mod Endings
 pub mod Widths
 pub use Rattle.engine_pools.specs.Dispatched

@@ -1,6 +1,6 @@
 //! What a session is beside its pool: how its events are carried out.
 
-ghost use Rattle.std.specs.Prelude.{◌≡◌, ◌≤◌, ◌+◌, [], None, Ok, ℕ, List, map, string_bytes, false};
+ghost use Rattle.std.specs.Prelude.{◌≡◌, ◌≤◌, ◌+◌, [], None, Ok, ℕ, List, map, option_map, string_bytes, false, IfOk};
 ghost use Rattle.ui_machine.specs.Prefix.{IsPrefix};
 ghost use Rattle.ui_machine.specs.Rules.Events.{refusal};
 ghost use Rattle.ui_machine.specs.State.Config.{World};
@@ -8,13 +8,17 @@ ghost use Rattle.ui_machine.specs.State.Tasks as config;
 ghost use Rattle.law_sessions.specs.Sessions.{EventRead};
 ghost use Rattle.law_typing.specs.Good.Requests.{RequestRead};
 ghost use Rattle.definition_format.specs.Meaning.{event_of, request_of};
+ghost use Rattle.g_values.specs.View.{kind_view};
 ghost use Rattle.native_peers.specs.Seen.{SameRelations};
+ghost use Rattle.engine_pools.specs.Asked.{IsAnswerTo};
 ghost use Rattle.engine_pools.specs.Courses.{HasCome, IfEnded, IfGoesOn, IfHasEnded, IfUnderWay, nothing_yet};
 ghost use Rattle.engine_pools.specs.PoolView.{Knows, world_at};
 ghost use Rattle.engine_pools.specs.Promises.{EventKeeps};
+ghost use Rattle.ui_engine.specs.AskedKinds.{kind_asked, kind_of_request};
 ghost use Rattle.ui_engine.specs.Phases.{phase_of};
 ghost use Rattle.ui_engine.specs.SessionView.{AnswersEvent, BeginsBy, BeginsEvent, ComesOn, HasCourse, InCourse, IsSeated, state_at, without_lines};
 
+use crate::asked_kinds::kind_of_request;
 use crate::faults::SessionFault;
 use definition_format::{Event, Request};
 use definitions::Definition;
@@ -88,6 +92,7 @@ impl Core {
         requires seated { IsSeated (P.seen pool.now) self.now }
         ensures answers { AnswersEvent (P.relations pool.old) self.old.stopped result (state_at (P.seen pool.old) self.old) (event_of event) (state_at (P.seen pool.new) self.new) }
         ensures keeps { self.old.stopped ≡ false → refusal self.old.world (event_of event) ≡ None → EventKeeps self.old.definition (world_at (P.seen pool.old) self.old.world) (event_of event) }
+        ensures kind { IfOk result (λ reply. IsAnswerTo (kind_asked self.old.definition (event_of event)) reply.result) }
         ensures seated { IsSeated (P.seen pool.new) self.new }
         ensures same { SameRelations (P.relations pool.old) (P.relations pool.new) }
         ensures grows { IsPrefix self.old.world.transcript self.new.world.transcript }
@@ -115,6 +120,7 @@ impl Core {
         ensures keeps { self.old.stopped ≡ false → refusal self.old.world (event_of event) ≡ None → EventKeeps self.old.definition (world_at (P.seen pool.now) self.old.world) (event_of event) }
         ensures seated { IsSeated (P.seen pool.now) self.new }
         ensures in_course { IfUnderWay result (λ course. HasCourse (P.relations pool.now) course (P.seen pool.now) self.new) }
+        ensures asked { IfUnderWay result (λ course. option_map kind_view course.asked ≡ kind_asked self.old.definition (event_of event)) }
         ensures none { IfUnderWay result (λ course. course.so_far.steps + self.new.counted ≡ 0) }
         ensures ended { IfEnded result (λ reply. reply ≡ nothing_yet) }
         ensures grows { IsPrefix self.old.world.transcript self.new.world.transcript }
@@ -141,6 +147,7 @@ impl Core {
         ensures begins { BeginsBy (P.relations pool.now) (refusal self.old.world (config.request (request_of request))) result (P.seen pool.now) self.old (config.request (request_of request)) self.new }
         ensures keeps { refusal self.old.world (config.request (request_of request)) ≡ None → EventKeeps self.old.definition (world_at (P.seen pool.now) self.old.world) (config.request (request_of request)) }
         ensures seated { IsSeated (P.seen pool.now) self.new }
+        ensures asked { IfUnderWay result (λ course. option_map kind_view course.asked ≡ kind_of_request self.old.definition (request_of request)) }
         ensures none { IfUnderWay result (λ course. course.so_far.steps + self.new.counted ≡ 0) }
         ensures ended { IfEnded result (λ reply. reply ≡ nothing_yet) }
         ensures grows { IsPrefix self.old.world.transcript self.new.world.transcript }
@@ -153,10 +160,15 @@ impl Core {
         let definition = self.verified.definition();
         // For the proof: some bytes denote the definition.
         let _types = definition.types();
+        let asked = kind_of_request(definition, &request);
         begin_dispatch(&mut self.engine, definition, Task::Handling(request));
         self.phase = Phase::UnderWay;
         let so_far = Reply::none();
-        Ok(Progress::UnderWay(Course { left: None, so_far }))
+        Ok(Progress::UnderWay(Course {
+            left: None,
+            so_far,
+            asked,
+        }))
     }
 
     // Begins a turn of the main loop: the sources that are ready and have the least priority number run, each in a dispatch of its own. Where
@@ -167,6 +179,7 @@ impl Core {
         ensures begins { BeginsBy (P.relations pool.now) (refusal self.old.world (config.turn moment)) result (P.seen pool.now) self.old (config.turn moment) self.new }
         ensures keeps { refusal self.old.world (config.turn moment) ≡ None → EventKeeps self.old.definition (world_at (P.seen pool.now) self.old.world) (config.turn moment) }
         ensures seated { IsSeated (P.seen pool.now) self.new }
+        ensures asked { IfUnderWay result (λ course. course.asked ≡ None) }
         ensures none { IfUnderWay result (λ course. course.so_far.steps + self.new.counted ≡ 0) }
         ensures ended { IfEnded result (λ reply. reply ≡ nothing_yet) }
         ensures grows { IsPrefix self.old.world.transcript self.new.world.transcript }
@@ -191,6 +204,7 @@ impl Core {
         ensures comes { (event : config.Event) (w : World) → HasCome self.old.definition (P.relations pool.now) event w batch nothing_yet (world_at (P.seen pool.now) self.old.world) →
             ComesOn (Ok result) (P.relations pool.now) self.old.definition event w [] (P.seen pool.now) self.new }
         ensures seated { IsSeated (P.seen pool.now) self.new }
+        ensures asked { IfGoesOn result (λ course. course.asked ≡ None) }
         ensures none { IfGoesOn result (λ course. course.so_far.steps + self.new.counted ≡ 0) }
         ensures ended { IfHasEnded result (λ reply. reply ≡ nothing_yet) }
         ensures grows { IsPrefix self.old.world.transcript self.new.world.transcript }
@@ -202,7 +216,12 @@ impl Core {
         let _types = definition.types();
         let left = Some(batch);
         let so_far = Reply::none();
-        let progress = begin_next(&mut self.engine, definition, Course { left, so_far });
+        let course = Course {
+            left,
+            so_far,
+            asked: None,
+        };
+        let progress = begin_next(&mut self.engine, definition, course);
         self.phase = phase_at(&progress);
         progress
     }
@@ -225,6 +244,8 @@ impl Core {
         ensures seated { IsSeated (P.seen pool.new) self.new }
         ensures made { IfUnderWay result (λ next. next.so_far.steps + self.new.counted ≡ course.so_far.steps + self.old.counted + most) }
         ensures most { IfEnded result (λ reply. reply.steps ≤ course.so_far.steps + self.old.counted + most) }
+        ensures asked { IfUnderWay result (λ next. next.asked ≡ course.asked) }
+        ensures kind { IfEnded result (λ reply. IsAnswerTo (option_map kind_view course.asked) reply.result) }
         ensures same { SameRelations (P.relations pool.old) (P.relations pool.new) }
         ensures grows { IsPrefix self.old.world.transcript self.new.world.transcript }
     {

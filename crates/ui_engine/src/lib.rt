@@ -4,6 +4,7 @@
 //! transcript of a dispatch is that of a run of it.
 #![tactic(auto)]
 
+mod asked_kinds;
 mod cores;
 mod endings;
 mod faults;

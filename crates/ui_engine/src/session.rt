@@ -1,6 +1,6 @@
 //! A session: a verified definition, its pool of peers, and its state while its events come.
 
-ghost use Rattle.std.specs.Prelude.{◌≡◌, ◌≤◌, ◌+◌, ℕ, List, None, map, string_bytes, IfOk, IfErr, false};
+ghost use Rattle.std.specs.Prelude.{◌≡◌, ◌≤◌, ◌+◌, ℕ, List, None, map, option_map, string_bytes, IfOk, IfErr, false};
 ghost use Rattle.ui_machine.specs.Prefix.{IsPrefix};
 ghost use Rattle.ui_machine.specs.Rules.Events.{refusal};
 ghost use Rattle.ui_machine.specs.State.Config.{World};
@@ -8,13 +8,16 @@ ghost use Rattle.ui_machine.specs.State.Tasks as config;
 ghost use Rattle.law_pools.specs.Needs.{mismatch};
 ghost use Rattle.law_sessions.specs.Sessions.{EventRead};
 ghost use Rattle.definition_format.specs.Meaning.{event_of};
+ghost use Rattle.g_values.specs.View.{kind_view};
 ghost use Rattle.native_peers.specs.Matching.{as_peers};
 ghost use Rattle.native_peers.specs.Seen.{SameRelations};
 ghost use Rattle.ui_engine.specs.Endings.{taken_closed};
+ghost use Rattle.engine_pools.specs.Asked.{IsAnswerTo};
 ghost use Rattle.engine_pools.specs.Courses.{IfEnded, IfUnderWay, nothing_yet};
 ghost use Rattle.engine_pools.specs.declared.courses.Course.{Course};
 ghost use Rattle.engine_pools.specs.PoolView.{world_at};
 ghost use Rattle.engine_pools.specs.Promises.{BuildKeeps, EventKeeps};
+ghost use Rattle.ui_engine.specs.AskedKinds.{kind_asked};
 ghost use Rattle.ui_engine.specs.BuildBegins.{IsBegun};
 ghost use Rattle.ui_engine.specs.SessionView.{AnswersEvent, BeginsEvent, Comes, ComesOn, HasCourse, InCourse, IsSeated, IsWhy, building, state_at, without_lines};
 
@@ -149,6 +152,8 @@ impl<P: Peers> Session<P> {
         ensures answers { AnswersEvent (P.relations self.old.pool) self.old.core.stopped result (state_at (P.seen self.old.pool) self.old.core) (event_of event) (state_at (P.seen self.new.pool) self.new.core) }
         ensures keeps { self.old.core.stopped ≡ false → refusal self.old.core.world (event_of event) ≡ None →
             EventKeeps self.old.core.definition (world_at (P.seen self.old.pool) self.old.core.world) (event_of event) }
+        // An object in the reply is known by the type that the property or the signal declares.
+        ensures kind { IfOk result (λ reply. IsAnswerTo (kind_asked self.old.core.definition (event_of event)) reply.result) }
         ensures same { SameRelations (P.relations self.old.pool) (P.relations self.new.pool) }
         // It only adds lines.
         ensures grows { IsPrefix self.old.core.world.transcript self.new.core.world.transcript }
@@ -171,6 +176,8 @@ impl<P: Peers> Session<P> {
         // So it is what `advance` asks for.
         ensures in_course { IfUnderWay result (λ course. HasCourse (P.relations self.new.pool) course (P.seen self.new.pool) self.new.core) }
         ensures pool { self.new.pool ≡ self.old.pool }
+        // It notes the kind of the value that the event asks for.
+        ensures asked { IfUnderWay result (λ course. option_map kind_view course.asked ≡ kind_asked self.old.core.definition (event_of event)) }
         // No step is counted yet. Where it has ended, as a turn of which no source is ready, it led to nothing.
         ensures none { IfUnderWay result (λ course. course.so_far.steps + self.new.core.counted ≡ 0) }
         ensures ended { IfEnded result (λ reply. reply ≡ nothing_yet) }
@@ -194,6 +201,9 @@ impl<P: Peers> Session<P> {
         ensures in_course { IfUnderWay result (λ course. HasCourse (P.relations self.new.pool) course (P.seen self.new.pool) self.new.core) }
         ensures made { IfUnderWay result (λ next. next.so_far.steps + self.new.core.counted ≡ course.so_far.steps + self.old.core.counted + most) }
         ensures most { IfEnded result (λ reply. reply.steps ≤ course.so_far.steps + self.old.core.counted + most) }
+        // An object in the reply is known by the type that the event asks for.
+        ensures asked { IfUnderWay result (λ next. next.asked ≡ course.asked) }
+        ensures kind { IfEnded result (λ reply. IsAnswerTo (option_map kind_view course.asked) reply.result) }
         ensures same { SameRelations (P.relations self.old.pool) (P.relations self.new.pool) }
         ensures grows { IsPrefix self.old.core.world.transcript self.new.core.world.transcript }
     {

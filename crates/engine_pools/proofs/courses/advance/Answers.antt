@@ -1,13 +1,15 @@
-use Rattle.std.proofs.Common.{◌≡◌, ◌+◌, ℕ, Option, refl, sym, ap, subst, Ok, Err, arith, ◌∙◌, vec_capacity}
+use Rattle.std.proofs.Common.{◌≡◌, ◌+◌, ℕ, Option, refl, sym, ap, subst, arith, ◌∙◌, vec_capacity}
 use Rattle.std.proofs.lemmas.Result.{err_from_is_err_and}
 use Rattle.ui_machine.proofs.Prefixes.{prefix_on, prefix_same}
 use Rattle.engine_world.specs.EngineView.{config_of}
 use Rattle.engine_world.specs.View.{world_of}
 use Rattle.engine_world.specs.declared.engine.Engine.{Engine}
 use Rattle.engine_pools.specs.declared.courses.Course.{Course}
+use Rattle.engine_pools.specs.declared.dispatches.Reply.{Reply}
 use Rattle.engine_pools.specs.Courses.{sources_left, steps_left}
 use Rattle.engine_pools.specs.PoolView.{world_at}
 use Rattle.engine_pools.specs.Promises.{Rests}
+use Rattle.engine_pools.proofs.Answers.{answers_as, asked_on, ended_with}
 use Rattle.engine_pools.proofs.Points.{breaks_before, cut_off, follows_before, same_here, same_on, safe_in}
 use Rattle.engine_pools.proofs.StepProofs.{ran_as}
 use Rattle.engine_pools.proofs.UnderWay.{ended_knows, ended_on, ended_rests, ends_longer, if_ended, if_under_way, next_fewer, next_steps, proceeds_as, under_way_breaks, under_way_on, under_way_safe}
@@ -20,6 +22,7 @@ dispatches-init g c = record {
   counts = c.requires.counted;
   room = refl;
   grows = prefix_same (world_of c.args.engine.now.world).transcript;
+  asked = refl;
   made = refl;
 }
 
@@ -102,6 +105,7 @@ dispatches-preserved g c =
       counts = if_under_way c.in-UnderWay.is c.begin_next.ensures.counted;
       grows = prefix_on c.dispatches.invariant.grows (prefix_on c.run_for.ensures.grows (prefix_on
           (ends_longer d c.in_ok-one.one (config_of d c.run_for.new.engine) (world_of c.end_dispatch.new.engine.world) c.in_ok-one.ensures.says) c.begin_next.ensures.grows));
+      asked = asked_on c.in-UnderWay.is c.begin_next.ensures.asked ∙ ap (λ (x : Course). x.asked) c.after.ensures ∙ c.dispatches.invariant.asked;
       made = omega (arith, c.dispatches.invariant.made, c.in_ok-rest.ensures.made, rest, steps.0, steps.1, sum, c.in_ok-one.ensures.says.steps);
     }
 
@@ -138,3 +142,8 @@ returns-in-Ended-clause-proceeds g c event w front u =
 
 pub returns-in-Ended-clause-same : goal.returns-in-Ended-clause-same
 returns-in-Ended-clause-same g c = same_on c.dispatches.invariant.same c.run_for.ensures.same
+
+pub returns-in-Ended-clause-kind : goal.returns-in-Ended-clause-kind
+returns-in-Ended-clause-kind g c =
+    answers_as c.dispatches.invariant.asked
+    (ap (λ (x : Reply). x.result) (ended_with c.in-Ended.is _ _ _ c.begin_next.ensures.begins) ∙ ap (λ (x : Course). x.so_far.result) c.after.ensures) c.in_ok-one.ensures.kind

@@ -22,6 +22,7 @@ invariant-dispatches g l =
       counts : Counts l.definition nothing l.engine;
       room : SameRoom l.fn.engine l.engine;
       grows : IsPrefix (world_of l.fn.engine.world).transcript (world_of l.engine.world).transcript;
+      asked : l.course.asked ≡ l.fn.course.asked;
       made : l.course.so_far.steps + l.engine.counted + l.most ≡ l.fn.course.so_far.steps + l.fn.engine.counted + l.fn.most;
     }
 

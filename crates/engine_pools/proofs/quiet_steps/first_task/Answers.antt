@@ -1,15 +1,13 @@
-use Rattle.std.proofs.Common.{◌≡◌, ◌∙◌, ◌∷◌, Ok, ap, refl, sym, subst, vec_capacity}
-use Rattle.ui_machine.specs.Prefix.{IsPrefix}
+use Rattle.std.proofs.Common.{refl, sym, subst}
 use Rattle.ui_machine.specs.State.Config.{World}
 use Rattle.ui_machine.specs.State.Tasks.{Running}
 use Rattle.engine_world.specs.EngineView.{config_of}
-use Rattle.engine_world.specs.TaskView.{agenda_of}
 use Rattle.engine_world.specs.View.{world_of}
 use Rattle.engine_world.specs.declared.engine.Engine.{Engine}
 use Rattle.engine_world.specs.declared.engine.StepKind.TheVariants as mades
 use Rattle.engine_world.proofs.Ableness.{none_stops}
 use Rattle.engine_instructions.proofs.Whole.{engine_whole}
-use Rattle.engine_pools.specs.QuietSteps.{LeavesKnown, QuietlyStepped}
+use Rattle.engine_pools.specs.QuietSteps.{QuietlyStepped}
 use Rattle.engine_pools.proofs.Closings.{SeenStays}
 use Rattle.engine_pools.proofs.LeftClosings.{still_known}
 use Rattle.engine_pools.proofs.Stepping.{first_can, first_names_so, first_stepped}

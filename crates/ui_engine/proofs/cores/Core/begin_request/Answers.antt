@@ -64,9 +64,9 @@ returns-clause-begins g c =
     let read = subst (λ (s : SessionState). RequestRead s.definition r) (sym c.self.view_is) c.requires.read in
     let none = goes_where_none w r (sym c.if-names_released.ensures) in
     let begins = request_may_begin d e same from pool w knows kept.1 r read none in
-    subst (λ (s : SessionState). BeginsBy may (refusal s.world (config.request r)) (Ok (progress.UnderWay (record { left = None; so_far = c.none-so_far.result }))) pool s (config.request r) (session_at d c.begin_dispatch.new.engine phases.UnderWay)) c.self.view_is
+    subst (λ (s : SessionState). BeginsBy may (refusal s.world (config.request r)) (Ok (progress.UnderWay (record { left = None; so_far = c.none-so_far.result; asked = c.kind_of_request-asked.result }))) pool s (config.request r) (session_at d c.begin_dispatch.new.engine phases.UnderWay)) c.self.view_is
     (begin_goes may pool (session_at d engine c.self.inside.phase) (config.request r) none _ (session_at d c.begin_dispatch.new.engine phases.UnderWay)
-    (request_so_far may d e same pool engine c.begin_dispatch.new.engine knows r begins c.begin_dispatch.ensures.ok c.none-so_far.result c.none-so_far.ensures))
+    (request_so_far may d e same pool engine c.begin_dispatch.new.engine knows c.kind_of_request-asked.result r begins c.begin_dispatch.ensures.ok c.none-so_far.result c.none-so_far.ensures))
 
 pub returns-clause-keeps : goal.returns-clause-keeps
 returns-clause-keeps g c =

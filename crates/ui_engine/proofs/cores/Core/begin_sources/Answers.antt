@@ -1,4 +1,4 @@
-use Rattle.std.proofs.Common.{[], Ok, ap, subst, sym, ◌∙◌}
+use Rattle.std.proofs.Common.{[], None, Ok, ap, subst, sym, ◌∙◌}
 use Rattle.ui_machine.specs.Definition.{Definition}
 use Rattle.engine_world.specs.View.{world_of}
 use Rattle.engine_pools.specs.Courses.{HasCome, nothing_yet}
@@ -37,5 +37,5 @@ returns-clause-comes g c event v h =
     let knows = knows_inside pool c.self.view_is c.requires.knows in
     let here = subst (λ (s : SessionState). HasCome s.definition may event v c.args.batch nothing_yet (world_at pool s.world)) (sym c.self.view_is) h in
     subst (λ (s : SessionState). ComesOn (Ok c.begin_next-progress.result) may s.definition event v [] pool (session_at d c.begin_next-progress.new.engine c.phase_at-self-inside.result)) c.self.view_is
-    (sources_begin may d e same pool engine c.begin_next-progress.new.engine knows event v c.args.batch c.none-so_far.result c.none-so_far.ensures here c.begin_next-progress.result c.begin_next-progress.ensures.still c.begin_next-progress.ensures.begins
+    (sources_begin may d e same pool engine c.begin_next-progress.new.engine knows event v c.args.batch c.none-so_far.result None c.none-so_far.ensures here c.begin_next-progress.result c.begin_next-progress.ensures.still c.begin_next-progress.ensures.begins
     c.phase_at-self-inside.result c.phase_at-self-inside.ensures)
