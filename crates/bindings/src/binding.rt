@@ -1,12 +1,12 @@
-//! What a binding is to be, and what it does.
+//! A binding to be made, and the transfers that it makes.
 
 use crate::flags::BindingFlags;
 use ui_machine::{ObjectId, Slot};
 
-/// A binding that is to be made, from a property to another one.
+/// A binding to be made from one property to another.
 #[derive(Debug, Drop)]
 pub struct Binding {
-    /// What `unbind` ends it by, if it has a name. Any text serves here.
+    /// The name by which `unbind` ends it, if it has one. Any text is allowed.
     pub name: Option<String>,
     pub source: ObjectId,
     pub source_slot: Slot,
@@ -15,10 +15,10 @@ pub struct Binding {
     pub flags: BindingFlags,
 }
 
-/// What a binding is to do after a notification: `source` is the end that was notified, and its value goes to `target`.
+/// A transfer that a binding makes after a notification. `source` is the end that was notified, and its value goes to `target`.
 #[derive(Clone, Copy, Debug, PartialEq, Eq)]
 pub struct Transfer {
-    /// The binding's number. There is a number above it.
+    /// The number of the binding, which is below the greatest `u64`.
     pub number: u64,
     pub source: ObjectId,
     pub source_slot: Slot,

@@ -10,13 +10,13 @@ use bitflags::Flags;
 use std::marker::Model;
 use ui_machine::{ObjectId, Slot};
 
-/// A binding that was made.
+/// A binding that was made and has not ended.
 #[derive(Debug, Drop)]
 pub(crate) struct Bound {
     number: u64,
     binding: Binding,
     setting: bool,
-    /// The number that its name is listed under. A contract does not see it.
+    /// The number under which its name is listed. A contract does not see it.
     name_number: Option<u64>,
 }
 
@@ -34,7 +34,7 @@ impl Bound {
     ghost use Rattle.bindings.specs.Made.{binding_of, is_next, transfer_by, transfer_of};
     ghost use Rattle.bindings.specs.Due.{due_of};
 
-    /// A binding that does not set.
+    /// Creates a binding that is not setting its target.
     pub(crate) fn new(number: u64, binding: Binding) -> Self
         ensures { result ≡ binding_of number false binding }
     {
@@ -46,12 +46,12 @@ impl Bound {
         }
     }
 
-    /// The number that its name is listed under, if it has a name and is listed.
+    /// Returns the number under which the name is listed, if the binding has a name and is listed.
     pub(crate) fn name_number(&self) -> Option<u64> {
         self.name_number
     }
 
-    /// Its name is listed under a number.
+    /// Stores the number under which the name is listed.
     pub(crate) fn list_name(&mut self, number: u64)
         ensures { self.new ≡ self.old }
     {
@@ -76,21 +76,21 @@ impl Bound {
         &self.binding.name
     }
 
-    /// The object and the slot of its source.
+    /// Returns the object and the slot of the source.
     pub(crate) fn source(&self) -> (u64, u64)
         ensures { result ≡ (self.now.source, self.now.source_slot) }
     {
         (self.binding.source.0, u64::from(self.binding.source_slot))
     }
 
-    /// The object and the slot of its target.
+    /// Returns the object and the slot of the target.
     pub(crate) fn target(&self) -> (u64, u64)
         ensures { result ≡ (self.now.target, self.now.target_slot) }
     {
         (self.binding.target.0, u64::from(self.binding.target_slot))
     }
 
-    /// Whether it goes both ways.
+    /// Returns whether the binding goes both ways.
     pub(crate) fn is_bidirectional(&self) -> bool
         ensures { result ≡ is_bidirectional self.now }
     {
@@ -115,7 +115,7 @@ impl Bound {
         self.binding.source == object && self.binding.source_slot == slot
     }
 
-    /// Whether a notification of the property is the binding's.
+    /// Returns whether the binding reacts to a notification of the property, which is its source or, if it is bidirectional, its target.
     pub(crate) fn listens(&self, object: ObjectId, slot: Slot) -> bool
         ensures { result ≡ listens object.0 slot self.now }
     {
@@ -123,7 +123,7 @@ impl Bound {
         self.is_source(object, slot) || self.is_bidirectional() && is_target
     }
 
-    /// Whether it may be the next to act on a notification of the property, among those numbered `from` or above: it does not set.
+    /// Returns whether the binding is numbered `from` or above, listens at the property, and is not setting.
     pub(crate) fn is_next(&self, object: ObjectId, slot: Slot, from: u64) -> bool
         ensures { result ≡ is_next object.0 slot from self.now }
     {
@@ -145,14 +145,14 @@ impl Bound {
         self.binding.source == object || self.binding.target == object
     }
 
-    /// What it does when the property, one of its ends, was notified.
+    /// Returns the transfer that the binding makes when the property, one of its ends, was notified.
     pub(crate) fn transfer(&self, object: ObjectId, slot: Slot) -> Transfer
         ensures { result ≡ transfer_of object.0 slot self.now }
     {
         self.transfer_by(!self.is_source(object, slot))
     }
 
-    /// The transfer from its source to its target, or back.
+    /// Returns the transfer from the source to the target, or back.
     pub(crate) fn transfer_by(&self, back: bool) -> Transfer
         ensures { result ≡ transfer_by back self.now }
     {
@@ -178,7 +178,7 @@ impl Bound {
         }
     }
 
-    /// What it is to do when the property, one of its ends, was notified, by its number and the way that it goes.
+    /// Returns the binding's number and direction for a notification of the property, which is one of its ends.
     pub(crate) fn due(&self, object: ObjectId, slot: Slot) -> DueTransfer
         ensures { result ≡ due_of object.0 slot self.now }
     {

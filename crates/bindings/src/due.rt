@@ -8,7 +8,7 @@ use std::alloc::{AllocError, Global};
 use std::marker::Model;
 use ui_machine::Slot;
 
-/// A binding that is to make a transfer, by its number, and the way that it goes.
+/// A transfer that is due, by the number of its binding and its direction.
 #[derive(Clone, Copy, Debug, PartialEq, Eq)]
 pub struct DueTransfer {
     pub number: u64,
@@ -16,7 +16,7 @@ pub struct DueTransfer {
     pub back: bool,
 }
 
-/// The transfers that a notification has still to make, in document order. They are kept the other way round: the last is made first.
+/// The transfers that a notification has still to make, in document order. They are stored in reverse: the last is made first.
 #[derive(Debug, Drop)]
 pub struct DueTransfers {
     left: Vec<DueTransfer>,
@@ -34,7 +34,7 @@ impl Model for DueTransfers {
 }
 
 impl DueTransfers {
-    /// No transfers. It takes no memory.
+    /// Creates a list without transfers. Takes no memory.
     pub fn new(alloc: Global) -> Self
         ensures { result ≡ [] }
     {
@@ -44,7 +44,7 @@ impl DueTransfers {
         }
     }
 
-    /// No transfers of a property's notification yet, in a list that is empty.
+    /// Uses an empty list for the transfers of a property's notification.
     pub(crate) fn in_list(left: Vec<DueTransfer>, slot: Slot) -> Self
         requires { left.items ≡ [] }
         ensures { result ≡ [] }
@@ -52,24 +52,24 @@ impl DueTransfers {
         DueTransfers { left, slot }
     }
 
-    /// Whether there is a list, also where no transfers are left in it.
+    /// Returns whether there is an allocated list, even if no transfers are left in it.
     pub(crate) fn has_list(&self) -> bool {
         self.left.capacity() > 0
     }
 
-    /// The list, and the slot of the property that was notified.
+    /// Returns the list and the slot of the property that was notified.
     pub(crate) fn into_list(self) -> (Vec<DueTransfer>, Slot) {
         (self.left, self.slot)
     }
 
-    /// Leaves none. The room of their list stays.
+    /// Removes all transfers. The list keeps its memory.
     pub fn clear(&mut self)
         ensures { self.new ≡ [] }
     {
         self.left.clear();
     }
 
-    // Puts one before the others.
+    // Puts a transfer before the others.
     pub(crate) fn put_first(&mut self, transfer: DueTransfer) -> Result<(), AllocError>
         ensures { OnOk result (self.new ≡ transfer ∷ self.old) }
     {
@@ -77,7 +77,7 @@ impl DueTransfers {
         Ok(())
     }
 
-    /// Takes the next one, passing over those whose binding has ended or sets.
+    /// Takes the next transfer, and passes over those whose binding has ended or is setting. Returns `None` if none is left.
     pub fn take_next(&mut self, bindings: &Bindings) -> Option<DueTransfer>
         ensures { MatchOption result
             ((from_ready bindings.now.bindings self.old ≡ []) × (self.new ≡ []))

@@ -1,4 +1,4 @@
-//! Why a binding is not made.
+//! Errors of making a binding.
 
 ghost use Rattle.std.specs.Prelude.{◌≡◌};
 ghost use Rattle.bindings.specs.declared.fault.BindError.TheVariants.{OutOfMemory};
@@ -6,7 +6,7 @@ ghost use Rattle.bindings.specs.declared.fault.BindError.TheVariants.{OutOfMemor
 use std::alloc::{AllocError, AllocFailed};
 use thiserror::Error;
 
-/// Why a binding is not made.
+/// The reason for which a binding is not made.
 #[derive(Clone, Copy, Debug, PartialEq, Eq, Error)]
 pub enum BindError {
     #[error("the numbers of bindings are used up")]

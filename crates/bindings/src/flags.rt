@@ -4,7 +4,7 @@ ghost use Rattle.std.specs.Prelude.{⊤, [], ◌∷◌, codes};
 
 use bitflags::{Flag, Flags, bitflag_items};
 
-/// How a binding goes.
+/// The flags that say how a binding transfers values.
 #[derive(Clone, Copy, Debug, PartialEq, Eq)]
 pub struct BindingFlags(pub u32);
 

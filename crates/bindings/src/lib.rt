@@ -1,9 +1,8 @@
 //! The bindings between properties, in document order.
 //!
-//! A binding copies its source property into its target property when the source is notified, and where it is bidirectional
-//! also the other way (GObject manual, GBinding). While it sets, it ignores notifications. It ends by its name or with one of
-//! its objects. Objects go by identity, properties by slot, bindings by number. A contract sees a list of bindings and the
-//! number that the next one gets.
+//! A binding copies its source property into its target property when the source is notified, and if it is bidirectional also the other way
+//! (GObject manual, GBinding). While it sets a property, it ignores notifications. It ends by its name or with one of its objects. Objects
+//! are given by identity, properties by slot, bindings by number. A contract sees a list of bindings and the number of the next one.
 #![tactic(auto)]
 
 mod binding;

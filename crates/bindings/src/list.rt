@@ -17,14 +17,14 @@ use std::alloc::{AllocError, Global};
 use std::marker::Model;
 use ui_machine::{ObjectId, Slot};
 
-/// Bindings in document order, by numbers from 0 that are never used again.
+/// Bindings in document order, with numbers from 0 that are never reused.
 ///
-/// What a call does costs the logarithm of how many bindings there are, for each binding that it concerns. Those that are made by a number below
-/// another one, and all that are made after one of them, are gone through one by one; `bind` alone never makes such a one.
+/// A call takes time logarithmic in the number of bindings, for each binding that it concerns. A binding made under a number below an
+/// earlier one, and each binding made after it, is searched one by one. With `bind` alone there is no such binding.
 #[derive(Debug, Drop)]
 pub struct Bindings {
     rising: Rising,
-    /// Those behind the rising ones that were made since a number did not rise.
+    /// The bindings made since a number did not rise. They come after the rising ones.
     others: Vec<Bound>,
     next: u64,
     lists: SpareLists,
@@ -44,7 +44,7 @@ impl Model for Bindings {
 impl Bindings {
     ghost use Rattle.bindings.specs.Made.{transfer_by, with_binding, with_binding_as};
 
-    /// No bindings. It takes no memory.
+    /// Creates a list without bindings. Takes no memory.
     pub fn new(alloc: Global) -> Self
         ensures { result ≡ record { bindings = []; next = 0 } }
     {
@@ -56,11 +56,11 @@ impl Bindings {
         }
     }
 
-    /// Makes a binding, and gives its number.
+    /// Makes a binding, and returns its number.
     ///
     /// # Errors
     ///
-    /// `BindingLimit` where 2^64 - 1 numbers are used up, then `OutOfMemory`. An error changes nothing.
+    /// Returns `BindingLimit` if 2^64 - 1 numbers are used up, otherwise `OutOfMemory` if memory is refused. Nothing has changed then.
     pub fn bind(&mut self, binding: Binding) -> Result<u64, BindError>
         ensures ok { OnOk result (self.new ≡ with_binding self.old binding) }
         ensures number { IfOk result (λ number. number ≡ self.old.next) }
@@ -72,11 +72,11 @@ impl Bindings {
         Ok(number)
     }
 
-    /// Makes a binding under its number in the document. Those below it that were not used are used up.
+    /// Makes a binding under its number in the document. Unused numbers below it are used up.
     ///
     /// # Errors
     ///
-    /// `BindingLimit` where the number is 2^64 - 1, then `OutOfMemory`. An error changes nothing.
+    /// Returns `BindingLimit` if the number is 2^64 - 1, otherwise `OutOfMemory` if memory is refused. Nothing has changed then.
     pub fn bind_as(&mut self, number: u64, binding: Binding) -> Result<(), BindError>
         ensures ok { OnOk result (self.new ≡ with_binding_as number self.old binding) }
         ensures limit { (result ≡ Err BindError.BindingLimit) ↔ (number ≡ 2 ^ 64 - 1) }
@@ -97,11 +97,11 @@ impl Bindings {
         Ok(())
     }
 
-    /// Uses up the number of a binding that is not made, so that numbers stay places in the document.
+    /// Uses up the number of a binding that is not made, so that numbers remain positions in the document.
     ///
     /// # Errors
     ///
-    /// `BindingLimit` where 2^64 - 1 numbers are used up, and then nothing changes.
+    /// Returns `BindingLimit` if 2^64 - 1 numbers are used up. Nothing has changed then.
     pub fn skip(&mut self) -> Result<(), BindError>
         ensures ok { OnOk result (self.new ≡ record self.old { next = self.old.next + 1 }) }
         ensures limit { OnErr result ((self.old.next ≡ 2 ^ 64 - 1) × (self.new ≡ self.old)) }
@@ -111,7 +111,7 @@ impl Bindings {
         Ok(())
     }
 
-    /// Ends the bindings of a name, and says whether there was one.
+    /// Ends the bindings with this name, and returns whether there was one.
     pub fn unbind(&mut self, name: &str) -> bool
         ensures found { result ≡ list_any (is_called name.now) self.old.bindings }
         ensures left { self.new
@@ -123,7 +123,7 @@ impl Bindings {
         count > 0 || found
     }
 
-    /// Ends the binding of a number, and says whether there was one.
+    /// Ends the binding with this number, and returns whether there was one.
     pub fn unbind_numbered(&mut self, number: u64) -> bool
         ensures found { result ≡ is_some (binding_of number self.old.bindings) }
         ensures left { self.new
@@ -135,7 +135,7 @@ impl Bindings {
         found
     }
 
-    /// Ends the bindings that have an object as an end, and counts them.
+    /// Ends the bindings that have the object as an end, and returns their number.
     pub fn end_of(&mut self, object: ObjectId) -> usize
         ensures count { result ≡ count_by (is_end object.0) self.old.bindings }
         ensures left { self.new
@@ -147,20 +147,20 @@ impl Bindings {
         count + others
     }
 
-    /// What is to be done next about a notification: the transfer of the first binding numbered `from` or above that listens
-    /// at the property and is not setting. A bidirectional one listens at both ends.
+    /// Returns the next transfer for a notification. It is made by the first binding numbered `from` or above that listens at the property
+    /// and is not setting. A bidirectional binding listens at both ends.
     pub fn on_notify(&self, object: ObjectId, slot: Slot, from: u64) -> Option<Transfer>
         ensures next { result
             ≡ option_map (transfer_of object.0 slot) (find (is_next object.0 slot from) self.now.bindings) }
 
-        // The look for the one after it begins at a number too.
+        // The search for the next transfer begins one above this number.
         ensures goes_on { IfSome result (λ transfer. transfer.number + 1 < 2 ^ 64) }
     {
         let bound = self.next_bound(object, slot, from)?;
         Some(bound.transfer(object, slot))
     }
 
-    // The first binding numbered `from` or above that listens at the property and is not setting.
+    // Returns the first binding numbered `from` or above that listens at the property and is not setting.
     fn next_bound(&self, object: ObjectId, slot: Slot, from: u64) -> Option<&Bound>
         ensures next { option_map (λ b. b.now) result ≡ find (is_next object.0 slot from) self.now.bindings }
         ensures few { IfSome result (λ b. b.now.number + 1 < 2 ^ 64) }
@@ -171,12 +171,12 @@ impl Bindings {
         }
     }
 
-    /// The transfers that a notification is to make: those of the bindings that listen at the property, in document order. They are in a list
-    /// that has room for all of them since the bindings were made, as long as no other notification of the property has taken it.
+    /// Collects the transfers that a notification is to make: one for each binding that listens at the property, in document order. The
+    /// list was reserved with room for all of them as the bindings were made, unless another notification of the property has taken it.
     ///
     /// # Errors
     ///
-    /// Where another notification has the list, and there is no memory for the transfers.
+    /// `AllocError` if another notification has the list and memory for the transfers is refused.
     pub fn due(
         &mut self,
         alloc: Global,
@@ -193,7 +193,7 @@ impl Bindings {
         Ok(due)
     }
 
-    /// Gives back the list of transfers that a notification of a property of the object took. Those that are left are not made.
+    /// Gives back the list of transfers that a notification of a property of the object took. Transfers that are left in it are not made.
     pub fn give_back(&mut self, object: ObjectId, due: DueTransfers)
         ensures { self.new ≡ self.old }
     {
@@ -203,7 +203,7 @@ impl Bindings {
         }
     }
 
-    // The binding of a number, until it ends.
+    // Returns the binding with this number, unless it has ended.
     fn bound(&self, number: u64) -> Option<&Bound>
         ensures { option_map (λ b. b.now) result ≡ binding_of number self.now.bindings }
     {
@@ -213,7 +213,7 @@ impl Bindings {
         }
     }
 
-    /// Whether the binding of a number makes a transfer that is due: it has not ended, and does not set.
+    /// Returns whether the binding with this number makes a transfer that is due, which is if it has not ended and is not setting.
     pub fn is_ready(&self, number: u64) -> bool
         ensures { result ≡ is_free (binding_of number self.now.bindings) }
     {
@@ -223,7 +223,8 @@ impl Bindings {
         }
     }
 
-    /// The transfer of the binding of a number, until it ends: from its source to its target, or back.
+    /// Returns the transfer of the binding with this number from its source to its target, or back. Returns `None` if the binding has
+    /// ended.
     pub fn transfer(&self, number: u64, back: bool) -> Option<Transfer>
         ensures { result ≡ option_map (transfer_by back) (binding_of number self.now.bindings) }
     {
@@ -231,7 +232,7 @@ impl Bindings {
         Some(bound.transfer_by(back))
     }
 
-    /// Marks the binding of a number as setting or not. Where it has ended, nothing happens.
+    /// Marks the binding with this number as setting or not. Does nothing if it has ended.
     pub fn setting(&mut self, number: u64, setting: bool)
         ensures { self.new
             ≡ record self.old { bindings = with_busy number setting self.old.bindings } }
@@ -241,7 +242,7 @@ impl Bindings {
     }
 }
 
-// Makes a binding among those by rising numbers, if it may be one of them. `next` is above their numbers.
+// Makes a binding. It joins the rising ones if `others` is empty and its number is not below `next`, which is above all their numbers.
 fn put(
     rising: &mut Rising,
     others: &mut Vec<Bound>,
@@ -264,28 +265,28 @@ fn put(
     Ok(())
 }
 
-// The first of the bindings that has the number.
+// Returns the first of the bindings that has the number.
 fn numbered(bound: &[Bound], number: u64) -> Option<&Bound>
     ensures { option_map (λ b. b.now) result ≡ binding_of number bound.now }
 {
     bound.iter().find(|bound| bound.has_number(number))
 }
 
-// Whether one of the bindings has the name.
+// Returns whether one of the bindings has the name.
 fn has_called(bound: &[Bound], name: &str) -> bool
     ensures { result ≡ list_any (is_called name.now) bound.now }
 {
     bound.iter().any(|bound| bound.is_called(name))
 }
 
-// The first of the bindings numbered `from` or above that listens at the property and is not setting.
+// Returns the first of the bindings numbered `from` or above that listens at the property and is not setting.
 fn next_of(bound: &[Bound], object: ObjectId, slot: Slot, from: u64) -> Option<&Bound>
     ensures { option_map (λ b. b.now) result ≡ find (is_next object.0 slot from) bound.now }
 {
     bound.iter().find(|bound| bound.is_next(object, slot, from))
 }
 
-// Puts the transfers of the bindings that listen at the property.
+// Adds the transfers of those bindings that listen at the property.
 fn put_due(
     bound: &[Bound],
     due: &mut DueTransfers,
@@ -306,7 +307,7 @@ fn put_due(
     Ok(())
 }
 
-// How many of the bindings have the object as an end.
+// Returns how many of the bindings have the object as an end.
 fn count_at(bound: &[Bound], object: ObjectId) -> usize
     ensures count { result ≡ count_by (is_end object.0) bound.now }
     ensures few { result < 2 ^ 63 }
@@ -314,28 +315,28 @@ fn count_at(bound: &[Bound], object: ObjectId) -> usize
     bound.iter().filter(|bound| bound.is_end(object)).count()
 }
 
-// The bindings of the name go.
+// Removes the bindings with this name.
 fn end_called(bound: &mut Vec<Bound>, name: &str)
     ensures { bound.new.items ≡ bindings_without name.now bound.old.items }
 {
     bound.retain(|bound| !bound.is_called(name));
 }
 
-// The bindings of the number go.
+// Removes the bindings with this number.
 fn end_numbered(bound: &mut Vec<Bound>, number: u64)
     ensures { bound.new.items ≡ without_number number bound.old.items }
 {
     bound.retain(|bound| !bound.has_number(number));
 }
 
-// The bindings that have the object as an end go.
+// Removes the bindings that have the object as an end.
 fn end_at(bound: &mut Vec<Bound>, object: ObjectId)
     ensures { bound.new.items ≡ bindings_without_end object.0 bound.old.items }
 {
     bound.retain(|bound| !bound.is_end(object));
 }
 
-// The binding of the number is setting or not.
+// Marks the binding with this number as setting or not.
 fn mark(bound: &mut [Bound], number: u64, setting: bool)
     ensures { bound.new ≡ with_busy number setting bound.old }
 {

@@ -1,4 +1,4 @@
-//! Numbers of bindings, listed under others.
+//! A set of numbers of bindings, listed under two keys.
 
 ghost use Rattle.std.specs.Prelude.{◌≡◌, OnOk, true};
 ghost use Rattle.bindings.specs.Kept.{IsNext, IsPrevious, Stays, StaysBeside, is_listed};
@@ -6,15 +6,15 @@ ghost use Rattle.bindings.specs.Kept.{IsNext, IsPrevious, Stays, StaysBeside, is
 use std::alloc::{AllocError, Global};
 use std::collections::BTreeSet;
 
-/// The numbers of bindings that are listed under two other numbers, such as those of an object and a slot. What it does costs the logarithm
-/// of what is listed.
+/// The numbers of bindings that are listed under two other numbers, such as those of an object and a slot. Each operation takes time
+/// logarithmic in the number of entries.
 #[derive(Debug, Drop)]
 pub(crate) struct Listing {
     keys: BTreeSet<(u64, u64, u64)>,
 }
 
 impl Listing {
-    /// Nothing is listed. It takes no memory.
+    /// Creates an empty listing. Takes no memory.
     pub(crate) fn new(alloc: Global) -> Self {
         Listing {
             keys: BTreeSet::new(alloc),
@@ -30,14 +30,14 @@ impl Listing {
         Ok(())
     }
 
-    /// Takes a number out that may be listed under two others.
+    /// Removes a number that may be listed under two others.
     pub(crate) fn remove(&mut self, first: u64, second: u64, number: u64)
         ensures { StaysBeside number self.old self.new }
     {
         self.keys.remove(&(first, second, number));
     }
 
-    /// The last number below `end` that is listed under two others.
+    /// Returns the last number below `end` that is listed under two others.
     pub(crate) fn before(&self, first: u64, second: u64, end: u64) -> Option<u64>
         ensures { IsPrevious self.now first second end result }
     {
@@ -46,7 +46,7 @@ impl Listing {
         let (_, _, number) = self.keys.range(range).next_back()?;
         Some(*number)
     }
-    /// The first number from `from` on that is listed under two others.
+    /// Returns the first number, from `from` on, that is listed under two others.
     pub(crate) fn from(&self, first: u64, second: u64, from: u64) -> Option<u64>
         ensures { IsNext self.now first second from result }
     {

@@ -1,4 +1,4 @@
-//! What bindings are looked up by.
+//! Indexes by which bindings are looked up.
 
 ghost use Rattle.std.specs.Prelude.{◌≡◌, OnOk};
 ghost use Rattle.ui_machine.specs.State.Bindings as config;
@@ -11,20 +11,20 @@ use crate::names::Names;
 use std::alloc::{AllocError, Global};
 use ui_machine::{ObjectId, Slot};
 
-/// The numbers of bindings by what they are looked up by.
+/// The numbers of bindings, listed by name, property and object.
 #[derive(Debug, Drop)]
 pub(crate) struct Listings {
     names: Names,
-    /// By the object and the slot of each property that a binding listens at.
+    /// Lists bindings by the object and slot of each property at which they listen.
     by_property: Listing,
-    /// By each object that a binding has as an end, with 0.
+    /// Lists bindings by each object that they have as an end. The second key is 0.
     by_end: Listing,
-    /// By the name's number, with 0.
+    /// Lists bindings by the number of their name. The second key is 0.
     by_name: Listing,
 }
 
 impl Listings {
-    /// Nothing is listed. It takes no memory.
+    /// Creates empty indexes. Takes no memory.
     pub(crate) fn new(alloc: Global) -> Self {
         Listings {
             names: Names::new(alloc),
@@ -34,28 +34,28 @@ impl Listings {
         }
     }
 
-    /// The first number from `from` on that is listed for the bindings that listen at a property.
+    /// Returns the first number, from `from` on, that is listed for bindings that listen at the property.
     pub(crate) fn next_listener(&self, object: ObjectId, slot: Slot, from: u64) -> Option<u64>
         ensures { IsNextAmong self.now (listens object.0 slot) from result }
     {
         self.by_property.from(object.0, u64::from(slot), from)
     }
 
-    /// The last number below `end` that is listed for the bindings that listen at a property.
+    /// Returns the last number below `end` that is listed for bindings that listen at the property.
     pub(crate) fn listener(&self, object: ObjectId, slot: Slot, end: u64) -> Option<u64>
         ensures { IsPreviousAmong self.now (listens object.0 slot) end result }
     {
         self.by_property.before(object.0, u64::from(slot), end)
     }
 
-    /// The last number below `end` that is listed for the bindings that have an object as an end.
+    /// Returns the last number below `end` that is listed for bindings that have the object as an end.
     pub(crate) fn end_at(&self, object: ObjectId, end: u64) -> Option<u64>
         ensures { IsPreviousAmong self.now (is_end object.0) end result }
     {
         self.by_end.before(object.0, 0, end)
     }
 
-    /// The last number below `end` that is listed for the bindings of a name.
+    /// Returns the last number below `end` that is listed for bindings with this name.
     pub(crate) fn called(&self, name: &str, end: u64) -> Option<u64>
         ensures { IsPreviousAmong self.now (is_called name.now) end result }
     {
@@ -63,7 +63,7 @@ impl Listings {
         self.by_name.before(name, 0, end)
     }
 
-    /// Lists a binding, which notes what its name is listed under. An error lists none.
+    /// Lists a binding in all indexes, and stores in it the number under which its name is listed. Lists nothing on an error.
     pub(crate) fn add(&mut self, bound: &mut Bound) -> Result<(), AllocError>
         ensures same { bound.new ≡ bound.old }
         ensures listed { OnOk result (IsListed self.new bound.old) }
@@ -76,7 +76,7 @@ impl Listings {
         added
     }
 
-    // Lists a binding, and leaves a part of it where memory runs out.
+    // Lists a binding in all indexes. If memory is refused, it remains listed in some of them.
     fn add_all(&mut self, bound: &mut Bound) -> Result<(), AllocError>
         ensures same { bound.new ≡ bound.old }
         ensures listed { OnOk result (IsListed self.new bound.old) }
@@ -99,7 +99,7 @@ impl Listings {
         Ok(())
     }
 
-    /// Takes a binding out.
+    /// Removes a binding from all indexes.
     pub(crate) fn remove(&mut self, bound: &Bound)
         ensures { (b : config.Binding) → (b.number ≡ bound.now.number → ⊥) → IsListed self.old b → IsListed self.new b }
     {

@@ -1,4 +1,4 @@
-//! The bindings that were made by rising numbers.
+//! The bindings that were made under rising numbers.
 
 ghost use Rattle.std.specs.Prelude.{◌≡◌, ◌+◌, ◌-◌, ◌^◌, ◌<◌, [], ◌∷◌, ◌++◌, All, false, map, not, nat_eq, OnOk, OnErr, option_map, count_by, length};
 ghost use Rattle.std.specs.List.{filter, find};
@@ -16,10 +16,10 @@ use std::collections::BTreeMap;
 use std::marker::Model;
 use ui_machine::{ObjectId, Slot};
 
-/// Bindings by rising numbers.
+/// Bindings with rising numbers.
 ///
-/// What is done to a binding, and looking for those that listen at a property, end at an object or are called by a name, costs the logarithm of
-/// how many there are, for each of them that is found.
+/// Changing a binding, and finding those that listen at a property, end at an object or have a name, takes time logarithmic in the number
+/// of bindings for each one found.
 #[derive(Debug, Drop)]
 pub(crate) struct Rising {
     bound: BTreeMap<u64, Bound>,
@@ -44,7 +44,7 @@ impl Rising {
     ghost use Rattle.bindings.specs.Made as made;
     ghost use Rattle.bindings.specs.Made.{is_next};
 
-    /// No bindings. It takes no memory.
+    /// Creates a collection without bindings. Takes no memory.
     pub(crate) fn new(alloc: Global) -> Self
         ensures { result ≡ [] }
     {
@@ -54,11 +54,11 @@ impl Rising {
         }
     }
 
-    /// Makes a binding, by a number above those of all others.
+    /// Makes a binding under a number above all others.
     ///
     /// # Errors
     ///
-    /// Where there is no memory for it, and then nothing changes.
+    /// `AllocError` if memory is refused. Nothing has changed then.
     pub(crate) fn push(&mut self, number: u64, binding: Binding) -> Result<(), AllocError>
         requires above { All (λ b. b.number < number) self.old }
         requires few { number < 2 ^ 64 - 1 }
@@ -75,14 +75,14 @@ impl Rising {
         Err(AllocError)
     }
 
-    /// The binding of a number, until it ends.
+    /// Returns the binding with this number, unless it has ended.
     pub(crate) fn get(&self, number: u64) -> Option<&Bound>
         ensures { option_map (λ b. b.now) result ≡ binding_of number self.now }
     {
         self.bound.get(&number)
     }
 
-    /// Marks the binding of a number as setting or not. Where it has ended, nothing happens.
+    /// Marks the binding with this number as setting or not. Does nothing if it has ended.
     pub(crate) fn mark(&mut self, number: u64, setting: bool)
         ensures { self.new ≡ with_busy number setting self.old }
     {
@@ -92,13 +92,13 @@ impl Rising {
         bound.mark(setting);
     }
 
-    /// Ends the bindings that have an object as an end, and counts them.
+    /// Ends the bindings that have the object as an end, and returns their number.
     pub(crate) fn end_of(&mut self, object: ObjectId) -> usize
         ensures count { result ≡ count_by (is_end object.0) self.old }
         ensures few { result < 2 ^ 63 }
         ensures left { self.new ≡ bindings_without_end object.0 self.old }
     {
-        // For the proof: that there are few, and that their numbers rise.
+        // For the proof: there are few bindings, and their numbers rise.
         let _ = self.len();
         let mut count = 0;
         let mut at = u64::MAX;
@@ -109,13 +109,13 @@ impl Rising {
         count
     }
 
-    /// Ends the bindings of a name, and counts them.
+    /// Ends the bindings with this name, and returns their number.
     pub(crate) fn unbind(&mut self, name: &str) -> usize
         ensures count { result ≡ count_by (is_called name.now) self.old }
         ensures few { result < 2 ^ 63 }
         ensures left { self.new ≡ bindings_without name.now self.old }
     {
-        // For the proof: that there are few, and that their numbers rise.
+        // For the proof: there are few bindings, and their numbers rise.
         let _ = self.len();
         let mut count = 0;
         let mut at = u64::MAX;
@@ -126,11 +126,12 @@ impl Rising {
         count
     }
 
-    /// Puts the transfers that a notification is to make before others: those of the bindings that listen at the property, in document order.
+    /// Puts the transfers that a notification is to make before those in `due`: the transfers of the bindings that listen at the property,
+    /// in document order.
     ///
     /// # Errors
     ///
-    /// Where there is no memory for them.
+    /// `AllocError` if memory is refused.
     pub(crate) fn put_due(
         &self,
         due: &mut DueTransfers,
@@ -139,7 +140,7 @@ impl Rising {
     ) -> Result<(), AllocError>
         ensures { OnOk result (map entry_of due.new ≡ transfers object.0 slot self.now ++ map entry_of due.old) }
     {
-        // For the proof: that the numbers rise.
+        // For the proof: the numbers rise.
         let _ = self.len();
         let mut at = u64::MAX;
         'bindings: while let Some(number) = self.listener_before(object, slot, at) {
@@ -151,11 +152,11 @@ impl Rising {
         Ok(())
     }
 
-    /// The first binding numbered `from` or above that listens at the property and is not setting.
+    /// Returns the first binding numbered `from` or above that listens at the property and is not setting.
     pub(crate) fn next_bound(&self, object: ObjectId, slot: Slot, from: u64) -> Option<&Bound>
         ensures { option_map (λ b. b.now) result ≡ find (is_next object.0 slot from) self.now }
     {
-        // For the proof: that the numbers rise.
+        // For the proof: the numbers rise.
         let _ = self.len();
         let mut at = from;
         'bindings: while let Some(number) = self.listener_from(object, slot, at) {
@@ -167,7 +168,7 @@ impl Rising {
         None
     }
 
-    // How many there are.
+    // Returns the number of bindings.
     fn len(&self) -> usize
         ensures count { result ≡ length self.now }
         ensures few { result < 2 ^ 63 }
@@ -176,39 +177,39 @@ impl Rising {
         self.bound.len()
     }
 
-    // The last number below `limit` that may be of a binding that listens at the property.
+    // Returns the last number below `limit` that may be of a binding that listens at the property.
     fn listener_before(&self, object: ObjectId, slot: Slot, limit: u64) -> Option<u64>
         ensures { IsPreviousOf (listens object.0 slot) limit self.now result }
     {
         self.listings.listener(object, slot, limit)
     }
 
-    // The first number from `from` on that may be of a binding that listens at the property.
+    // Returns the first number, from `from` on, that may be of a binding that listens at the property.
     fn listener_from(&self, object: ObjectId, slot: Slot, from: u64) -> Option<u64>
         ensures { IsNextOf (listens object.0 slot) from self.now result }
     {
         self.listings.next_listener(object, slot, from)
     }
 
-    // The last number below `limit` that may be of a binding that has the object as an end.
+    // Returns the last number below `limit` that may be of a binding that has the object as an end.
     fn end_before(&self, object: ObjectId, limit: u64) -> Option<u64>
         ensures { IsPreviousOf (is_end object.0) limit self.now result }
     {
         self.listings.end_at(object, limit)
     }
 
-    // The last number below `limit` that may be of a binding of the name.
+    // Returns the last number below `limit` that may be of a binding with this name.
     fn called_before(&self, name: &str, limit: u64) -> Option<u64>
         ensures { IsPreviousOf (is_called name.now) limit self.now result }
     {
         self.listings.called(name, limit)
     }
 
-    // What the binding of a number is to do, if it listens at the property.
+    // Returns the due transfer of the binding with this number, if it listens at the property.
     fn due_numbered(&self, number: u64, object: ObjectId, slot: Slot) -> Option<DueTransfer>
         ensures { result ≡ option_map (due_of object.0 slot) (find (is_numbered (listens object.0 slot) number) self.now) }
     {
-        // For the proof: that the numbers rise.
+        // For the proof: the numbers rise.
         let _ = self.len();
         let bound = self.get(number)?;
         if bound.listens(object, slot) {
@@ -218,12 +219,12 @@ impl Rising {
         }
     }
 
-    // The binding of a number, if it may be the next to act on a notification of the property, among those numbered `from` or above.
+    // Returns the binding with this number if it is numbered `from` or above, listens at the property and is not setting.
     fn next_numbered(&self, number: u64, object: ObjectId, slot: Slot, from: u64) -> Option<&Bound>
         ensures { option_map (λ b. b.now) result
             ≡ find (is_numbered (is_next object.0 slot from) number) self.now }
     {
-        // For the proof: that the numbers rise.
+        // For the proof: the numbers rise.
         let _ = self.len();
         let bound = self.get(number)?;
         if bound.is_next(object, slot, from) {
@@ -233,12 +234,12 @@ impl Rising {
         }
     }
 
-    // Ends the binding of a number if it has the object as an end, and counts it.
+    // Ends the binding with this number if it has the object as an end. Returns how many were ended, 0 or 1.
     fn end_numbered(&mut self, number: u64, object: ObjectId) -> usize
         ensures count { result ≡ count_by (is_numbered (is_end object.0) number) self.old }
         ensures left { self.new ≡ filter (λ b. not (is_numbered (is_end object.0) number b)) self.old }
     {
-        // For the proof: that the numbers rise.
+        // For the proof: the numbers rise.
         let _ = self.len();
         let Some(bound) = self.get(number) else {
             return 0;
@@ -250,12 +251,12 @@ impl Rising {
         1
     }
 
-    // Ends the binding of a number if it is called so, and counts it.
+    // Ends the binding with this number if it has this name. Returns how many were ended, 0 or 1.
     fn unbind_numbered(&mut self, number: u64, name: &str) -> usize
         ensures count { result ≡ count_by (is_numbered (is_called name.now) number) self.old }
         ensures left { self.new ≡ filter (λ b. not (is_numbered (is_called name.now) number b)) self.old }
     {
-        // For the proof: that the numbers rise.
+        // For the proof: the numbers rise.
         let _ = self.len();
         let Some(bound) = self.get(number) else {
             return 0;
@@ -267,7 +268,7 @@ impl Rising {
         1
     }
 
-    /// Ends the binding of a number, if there is one.
+    /// Ends the binding with this number, if there is one.
     pub(crate) fn remove(&mut self, number: u64)
         ensures { self.new ≡ without_number number self.old }
     {

@@ -1,4 +1,4 @@
-//! Lists for the transfers of notifications, which are kept for the notifications that come.
+//! Lists of transfers that are kept and reused from notification to notification.
 
 ghost use Rattle.std.specs.Prelude.{◌≡◌, [], OnOk};
 
@@ -12,7 +12,7 @@ use std::marker::Model;
 use std::mem;
 use ui_machine::{ObjectId, Slot};
 
-// The list of a property, unless a notification has it, and how many bindings were made that listen at the property.
+// The list of a property, which is empty while a notification has it, and the number of bindings made that listen at the property.
 #[derive(Debug, Drop)]
 struct SpareList {
     listeners: usize,
@@ -20,7 +20,7 @@ struct SpareList {
 }
 
 impl SpareList {
-    // Makes room for the transfer of one binding more.
+    // Reserves room for the transfer of one more binding.
     fn add_listener(&mut self) -> Result<(), AllocError> {
         self.listeners = self.listeners.saturating_add(1);
         if self.transfers.capacity() < self.listeners {
@@ -33,7 +33,8 @@ impl SpareList {
 
 /// For each property at which bindings listen, a list with room for the transfers of all of them. A contract sees nothing of the lists.
 ///
-/// A notification takes its property's list, and gives it back. While one has it another of the same property finds none.
+/// A notification takes the list of its property and gives it back. While one notification has it, another one of the same property finds
+/// none.
 #[derive(Debug, Drop)]
 pub(crate) struct SpareLists {
     by_property: BTreeMap<(u64, Slot), SpareList>,
@@ -48,14 +49,14 @@ impl Model for SpareLists {
 }
 
 impl SpareLists {
-    /// No lists. It takes no memory.
+    /// Creates a collection without lists. Takes no memory.
     pub(crate) fn new(alloc: Global) -> Self {
         SpareLists {
             by_property: BTreeMap::new(alloc),
         }
     }
 
-    /// Makes room for the transfers of a binding at each property at which it is to listen.
+    /// Reserves room for the transfers of a binding at each property at which it is to listen.
     ///
     /// # Errors
     ///
@@ -68,7 +69,7 @@ impl SpareLists {
         Ok(())
     }
 
-    // Makes room for the transfer of one binding more at a property.
+    // Reserves room for the transfer of one more binding at a property.
     fn add_listener(
         &mut self,
         alloc: Global,
@@ -87,7 +88,8 @@ impl SpareLists {
         Ok(())
     }
 
-    /// Takes the list of a property, which is empty. It has room for all that may be due, unless a notification of the property has it.
+    /// Takes the list of a property, which is empty. It has room for all transfers that may be due, unless a notification of the property
+    /// has it already.
     pub(crate) fn take(&mut self, alloc: Global, object: ObjectId, slot: Slot) -> Vec<DueTransfer>
         ensures { result.items ≡ [] }
     {
@@ -99,7 +101,7 @@ impl SpareLists {
         transfers
     }
 
-    /// Gives the list of a property back.
+    /// Gives back the list of a property.
     pub(crate) fn give_back(&mut self, object: ObjectId, slot: Slot, transfers: Vec<DueTransfer>) {
         if let Some(list) = self.by_property.get_mut(&(object.0, slot)) {
             list.transfers = transfers;

@@ -1,4 +1,4 @@
-//! The event that emits a signal, read from the words of a line.
+//! Reads the events that emit signals.
 
 ghost use Rattle.std.specs.Prelude.{◌≡◌, [], length, map, option_map, slice_get, None, Some, IfOk};
 ghost use Rattle.std.specs.Rc.{rc_str_bytes};
@@ -26,7 +26,7 @@ use std::rc::RcStr;
 use type_tree::TypeId;
 use ui_machine::{Place, SignalId};
 
-// The words of an emission: an id, a signal's name, the arguments, and a detail, if there is one.
+// The parts of an emission: an id, the name of a signal, the arguments, and a detail if there is one.
 #[derive(Clone, Copy)]
 struct Emitted<'a> {
     id: &'a str,
@@ -35,7 +35,7 @@ struct Emitted<'a> {
     detail: Option<&'a str>,
 }
 
-// A detail that is given.
+// Returns the detail in a value, or `None` if the value is no detail.
 fn detail_word(value: &Value) -> Option<&str>
     ensures { option_map (λ s. Some s.now) result ≡ detail_word (as_str (view value.now)) }
 {
@@ -43,7 +43,7 @@ fn detail_word(value: &Value) -> Option<&str>
     if is_name(text) { Some(text) } else { None }
 }
 
-// The words of an emission without a detail.
+// Returns the parts of an emission without a detail.
 fn plain_words<'a>(id: &'a Value, name: &'a Value, args: &'a Value) -> Option<Emitted<'a>>
     ensures { option_map (λ e. record { id = e.id.now; name = e.name.now; args = items_view e.args.now; detail = option_map (λ s. s.now) e.detail }) result
         ≡ emitted (as_str (view id.now)) (as_str (view name.now)) (as_array (view args.now)) (Some None) }
@@ -56,7 +56,7 @@ fn plain_words<'a>(id: &'a Value, name: &'a Value, args: &'a Value) -> Option<Em
     })
 }
 
-// The words of an emission with a detail.
+// Returns the parts of an emission with a detail.
 fn detailed_words<'a>(
     id: &'a Value,
     name: &'a Value,
@@ -74,7 +74,7 @@ fn detailed_words<'a>(
     })
 }
 
-// The words of an emission.
+// Returns the parts of an emission from its list.
 fn words_of_emit(items: &[Value]) -> Option<Emitted<'_>>
     ensures { option_map (λ e. record { id = e.id.now; name = e.name.now; args = items_view e.args.now; detail = option_map (λ s. s.now) e.detail }) result ≡ words_of_emit (items_view items.now) }
 {
@@ -88,7 +88,7 @@ fn words_of_emit(items: &[Value]) -> Option<Emitted<'_>>
     }
 }
 
-// The number of the signal of a class that a name names, unless it is `notify`.
+// Returns the number of the signal with this name in a class, or `None` if there is none or it is `notify`.
 fn emitted_number(definition: &Definition, class: TypeId, name: &str) -> Option<SignalId>
     ensures { result ≡ but_notify (signal_number definition.now class name.now) }
 {
@@ -98,7 +98,7 @@ fn emitted_number(definition: &Definition, class: TypeId, name: &str) -> Option<
     }
 }
 
-// Tests that a detail goes with a signal.
+// Refuses a detail for a signal that takes none.
 fn check_detail(
     alloc: Global,
     signal: &DeclaredSignal<'_>,
@@ -114,14 +114,14 @@ fn check_detail(
     }
 }
 
-// The kind of a parameter, if there are so many.
+// Returns the kind of a parameter, or `None` if the signal has fewer.
 fn param_at(params: &[Kind], index: usize) -> Option<Kind>
     ensures { result ≡ slice_get params.now index }
 {
     params.get(index).copied()
 }
 
-// Tests that the object that a value names, if it names one, is known.
+// Refuses a value that names an object which does not exist.
 #[tactic(auto, unfolding(definition_format::specs::EventMeaning::id_known))]
 fn check_id(
     alloc: Global,
@@ -135,7 +135,7 @@ fn check_id(
     Ok(())
 }
 
-// Tests that the objects that values of these kinds name are known.
+// Refuses the first value that names an object which does not exist. The values are read as ones of these kinds.
 fn check_ids(
     alloc: Global,
     definition: &Definition,
@@ -153,7 +153,7 @@ fn check_ids(
     Ok(())
 }
 
-// Adds an argument of a kind.
+// Reads an argument of this kind and adds it.
 #[tactic(auto, unfolding(definition_format::specs::EventMeaning::argument))]
 fn add_argument(
     alloc: Global,
@@ -171,7 +171,7 @@ fn add_argument(
     Ok(())
 }
 
-// The arguments of these kinds.
+// Reads arguments of these kinds.
 fn arguments_of(
     alloc: Global,
     definition: &Definition,
@@ -191,7 +191,7 @@ fn arguments_of(
     Ok(given)
 }
 
-// The same text, if there is one, to be shared.
+// Copies a text, if there is one, to one that can be shared.
 fn copied(alloc: Global, detail: Option<&str>) -> Result<Option<RcStr>, AllocError>
     ensures { IfOk result (λ copy. option_map (λ text. rc_str_bytes text) copy ≡ option_map (λ s. s.now) detail.entry) }
 {
@@ -201,7 +201,7 @@ fn copied(alloc: Global, detail: Option<&str>) -> Result<Option<RcStr>, AllocErr
     }
 }
 
-// A signal of an object, by its number.
+// A signal of an object, with its number.
 #[derive(Clone, Copy)]
 struct Target<'a> {
     place: Place,
@@ -209,7 +209,7 @@ struct Target<'a> {
     signal: DeclaredSignal<'a>,
 }
 
-// The signal of an object that an id and a name name, if an event may emit it.
+// Returns the signal with this name of the object with this id, if an event may emit it.
 #[tactic(auto, unfolding(definition_format::specs::EventMeaning::signal_target))]
 fn target_of<'a>(
     alloc: Global,
@@ -237,7 +237,7 @@ fn target_of<'a>(
     }
 }
 
-// How many parameters a signal has.
+// Returns the number of parameters of a signal.
 #[tactic(auto, using(crate::proofs::EachOf::params_are))]
 fn param_count(signal: &DeclaredSignal<'_>) -> usize
     ensures { result ≡ length (declared_view signal.now).params }
@@ -245,7 +245,7 @@ fn param_count(signal: &DeclaredSignal<'_>) -> usize
     signal.params.len()
 }
 
-// How many values there are.
+// Returns the number of values.
 #[tactic(auto, using(crate::proofs::EachOf::count_is))]
 fn count(args: &[Value]) -> usize
     ensures { result ≡ count (items_view args.now) }
@@ -253,7 +253,7 @@ fn count(args: &[Value]) -> usize
     args.len()
 }
 
-// Tests that a signal has as many parameters as there are values.
+// Checks that there are as many values as the signal has parameters.
 fn check_count(signal: &DeclaredSignal<'_>, args: &[Value]) -> Result<(), EventError>
     ensures { Gives (λ _. tt) result (check_count (declared_view signal.now) (items_view args.now)) }
 {
@@ -263,7 +263,7 @@ fn check_count(signal: &DeclaredSignal<'_>, args: &[Value]) -> Result<(), EventE
     Ok(())
 }
 
-// The emission of a signal of the object of an id.
+// Returns the event that emits a signal of the object with this id.
 pub(crate) fn emit_of(
     alloc: Global,
     definition: &Definition,
@@ -291,7 +291,7 @@ pub(crate) fn emit_of(
     }))
 }
 
-// The emission that a list of words asks for.
+// Reads an emission from a list of its parts.
 #[tactic(auto, unfolding(definition_format::specs::EventMeaning::emit_event))]
 pub(crate) fn emit_in(
     alloc: Global,

@@ -1,4 +1,4 @@
-//! Events, read from one line after the other.
+//! Reads events from one line after the other.
 
 ghost use Rattle.std.specs.Prelude.{◌≡◌, Ok, IfOk, IfSome};
 ghost use Rattle.definition_format.specs.EventMeaning.{Gives, event_denoted, event_meant, line_value};
@@ -13,13 +13,13 @@ use definitions::Definition;
 use plain_lines::{PlainLine, Scratch};
 use std::alloc::{AllocError, Global};
 
-/// A reader of events, which keeps what one line needs for the next.
+/// A reader of events, which keeps its scratch buffer from line to line.
 #[derive(Drop)]
 pub struct EventReader {
     scratch: Scratch,
 }
 
-// The plain line that a line is, if it is one.
+// Reads a line of a plain form, or returns `None` if it is too long, not UTF-8, or none of these.
 fn plain_line<'a>(
     alloc: Global,
     bytes: &'a [u8],
@@ -37,7 +37,7 @@ fn plain_line<'a>(
     Ok(line)
 }
 
-// The event that a plain line asks for.
+// Returns the event that a plain line denotes.
 #[tactic(auto, using(crate::proofs::PlainEvents::plain_set, crate::proofs::PlainEvents::plain_get, crate::proofs::PlainEvents::plain_release, crate::proofs::PlainEvents::plain_emit))]
 fn event_of_plain(
     alloc: Global,
@@ -56,7 +56,7 @@ fn event_of_plain(
     }
 }
 
-// The event that a line denotes.
+// Returns the event that a line denotes, in a plain form or any other.
 #[tactic(auto, unfolding(definition_format::specs::EventMeaning::event_denoted))]
 fn event_of_any(
     alloc: Global,
@@ -74,19 +74,19 @@ fn event_of_any(
 }
 
 impl EventReader {
-    /// A reader that has read nothing.
+    /// Creates a reader that has read nothing.
     pub fn new(alloc: Global) -> EventReader {
         EventReader {
             scratch: Scratch::new(alloc),
         }
     }
 
-    /// Reads an event of a definition. What it names is there and may be asked so, and its values fit: a session of the definition takes
-    /// it. What was read before makes no difference.
+    /// Reads an event of a definition from a line. Everything that the event names exists and allows it, and its values fit, so a session
+    /// of the definition takes it. The lines before make no difference.
     ///
     /// # Errors
     ///
-    /// `Refused` with the first fault in the order of `EventFault`, and `OutOfMemory`.
+    /// Returns `Refused` with the first fault in the order of `EventFault`, or `OutOfMemory` if memory is refused.
     pub fn read(
         &mut self,
         alloc: Global,

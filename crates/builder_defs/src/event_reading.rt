@@ -1,4 +1,4 @@
-//! Events, read from the lines of an event file.
+//! Reads events from the lines of an event file.
 
 ghost use Rattle.std.specs.Prelude.{◌≡◌, Some, option_map, IfOk};
 ghost use Rattle.serde_json.specs.Find.{as_str};
@@ -25,17 +25,18 @@ use std::alloc::Global;
 use type_tree::{TypeId, TypeTree};
 use ui_machine::{Place, Slot};
 
-/// The most bytes of a line.
+/// The greatest number of bytes of a line.
 pub const MAX_LINE_BYTES: usize = 65_536;
 
-/// The last moment of a turn.
+/// The last moment that a turn can have, in milliseconds.
 pub const MAX_MOMENT: u64 = 9_007_199_254_740_992;
 
-/// Reads an event of a definition. What it names is there and may be asked so, and its values fit: a session of the definition takes it.
+/// Reads an event of a definition from a line. Everything that the event names exists and allows it, and its values fit, so a session of
+/// the definition takes it.
 ///
 /// # Errors
 ///
-/// `Refused` with the first fault in the order of `EventFault`, and `OutOfMemory`.
+/// Returns `Refused` with the first fault in the order of `EventFault`, or `OutOfMemory` if memory is refused.
 pub fn read_event(alloc: Global, definition: &Definition, bytes: &[u8]) -> Result<Event, EventError>
     ensures exact { Gives event_of result (event_denoted definition.now bytes.now) }
     ensures read { IfOk result (λ event. EventRead definition.now (event_of event)) }
@@ -45,7 +46,7 @@ pub fn read_event(alloc: Global, definition: &Definition, bytes: &[u8]) -> Resul
     event_of_line(alloc, definition, bytes)
 }
 
-// The event that a line denotes.
+// Returns the event that a line denotes.
 #[tactic(auto, unfolding(definition_format::specs::EventMeaning::event_denoted))]
 pub(crate) fn event_of_line(
     alloc: Global,
@@ -59,7 +60,7 @@ pub(crate) fn event_of_line(
     Ok(event)
 }
 
-// The JSON value that a line holds.
+// Parses a line as JSON. Refuses one that is too long, not UTF-8 or not JSON.
 #[tactic(auto, unfolding(definition_format::specs::EventMeaning::line_value))]
 fn parsed_line(alloc: Global, bytes: &[u8]) -> Result<Value, EventError>
     ensures { Gives view result (line_value bytes.now) }
@@ -77,7 +78,7 @@ fn parsed_line(alloc: Global, bytes: &[u8]) -> Result<Value, EventError>
     }
 }
 
-// Whether a value is an object of exactly one member.
+// Returns whether a value is an object with exactly one member.
 #[tactic(auto, using(definition_parts::proofs::Values::one_member_is))]
 fn has_one_member(value: &Value) -> bool
     ensures { result ≡ has_one_member (view value.now) }
@@ -88,7 +89,7 @@ fn has_one_member(value: &Value) -> bool
     }
 }
 
-// The event that a value asks for.
+// Returns the event that a value denotes.
 #[tactic(auto, unfolding(definition_format::specs::EventMeaning::event_meant))]
 fn event_in(alloc: Global, definition: &Definition, value: &Value) -> Result<Event, EventError>
     ensures { Gives event_of result (event_meant definition.now (view value.now)) }
@@ -119,7 +120,7 @@ fn event_in(alloc: Global, definition: &Definition, value: &Value) -> Result<Eve
     Ok(event)
 }
 
-// The id, the name and the value of a set.
+// Returns the id, the name and the value of a set.
 fn words_of_set(items: &[Value]) -> Option<(&str, &str, &Value)>
     ensures { option_map (λ w. (w.0.now, w.1.now, view w.2.now)) result ≡ words_of_set (items_view items.now) }
 {
@@ -132,7 +133,7 @@ fn words_of_set(items: &[Value]) -> Option<(&str, &str, &Value)>
     }
 }
 
-// The id and the name of a get.
+// Returns the id and the name of a get.
 fn words_of_get(items: &[Value]) -> Option<(&str, &str)>
     ensures { option_map (λ w. (w.0.now, w.1.now)) result ≡ words_of_get (items_view items.now) }
 {
@@ -144,7 +145,7 @@ fn words_of_get(items: &[Value]) -> Option<(&str, &str)>
     }
 }
 
-// The set of a property of the object of an id.
+// Returns the event that sets a property of the object with this id.
 pub(crate) fn set_of(
     alloc: Global,
     definition: &Definition,
@@ -167,7 +168,7 @@ pub(crate) fn set_of(
     }))
 }
 
-// The set that a list of words asks for.
+// Reads a set from a list of its parts.
 #[tactic(auto, unfolding(definition_format::specs::EventMeaning::set_event))]
 fn set_in(alloc: Global, definition: &Definition, words: &Value) -> Result<Event, EventError>
     ensures { Gives event_of result (set_event definition.now (view words.now)) }
@@ -182,7 +183,7 @@ fn set_in(alloc: Global, definition: &Definition, words: &Value) -> Result<Event
     Ok(event)
 }
 
-// The get of a property of the object of an id.
+// Returns the event that reads a property of the object with this id.
 pub(crate) fn get_of(
     alloc: Global,
     definition: &Definition,
@@ -199,7 +200,7 @@ pub(crate) fn get_of(
     }))
 }
 
-// The get that a list of words asks for.
+// Reads a get from a list of its parts.
 #[tactic(auto, unfolding(definition_format::specs::EventMeaning::get_event))]
 fn get_in(alloc: Global, definition: &Definition, words: &Value) -> Result<Event, EventError>
     ensures { Gives event_of result (get_event definition.now (view words.now)) }
@@ -214,7 +215,7 @@ fn get_in(alloc: Global, definition: &Definition, words: &Value) -> Result<Event
     Ok(event)
 }
 
-// The release of the object of an id.
+// Returns the event that releases the object with this id.
 pub(crate) fn release_of(
     alloc: Global,
     definition: &Definition,
@@ -228,7 +229,7 @@ pub(crate) fn release_of(
     }
 }
 
-// The release that a word asks for.
+// Reads a release from the id of its object.
 #[tactic(auto, unfolding(definition_format::specs::EventMeaning::release_event))]
 fn release_in(alloc: Global, definition: &Definition, word: &Value) -> Result<Event, EventError>
     ensures { Gives event_of result (release_event definition.now (view word.now)) }
@@ -240,7 +241,7 @@ fn release_in(alloc: Global, definition: &Definition, word: &Value) -> Result<Ev
     Ok(event)
 }
 
-// The turn that a word asks for.
+// Reads a turn from its moment.
 #[tactic(auto, unfolding(definition_format::specs::EventMeaning::turn_event))]
 fn turn_in(word: &Value) -> Result<Event, EventError>
     ensures { Gives event_of result (turn_event (view word.now)) }
@@ -254,7 +255,7 @@ fn turn_in(word: &Value) -> Result<Event, EventError>
     }
 }
 
-// A property of an object.
+// A property of an object, with its slot.
 #[derive(Clone, Copy)]
 struct Target<'a> {
     place: Place,
@@ -262,7 +263,7 @@ struct Target<'a> {
     spec: &'a Spec,
 }
 
-// The property of an object that an id and a name name.
+// Returns the property with this name of the object with this id.
 #[tactic(auto, unfolding(definition_format::specs::EventMeaning::target))]
 fn target_of<'a>(
     alloc: Global,
@@ -286,7 +287,7 @@ fn target_of<'a>(
     }
 }
 
-// Tests that a property may be set while its object lives.
+// Checks that a property may be set after its object is constructed.
 fn check_writable(spec: &Spec) -> Result<(), EventError>
     ensures { Gives (λ _. tt) result (writable (spec_view spec.now)) }
 {
@@ -299,7 +300,7 @@ fn check_writable(spec: &Spec) -> Result<(), EventError>
     Ok(())
 }
 
-// Tests that a property may be read.
+// Checks that a property may be read.
 fn check_readable(spec: &Spec) -> Result<(), EventError>
     ensures { Gives (λ _. tt) result (readable (spec_view spec.now)) }
 {
@@ -309,7 +310,7 @@ fn check_readable(spec: &Spec) -> Result<(), EventError>
     Ok(())
 }
 
-// The object that a value refers to, if it refers to one.
+// Returns the object that a value of this kind names, or `None` if it names none. Refuses an id that no object has.
 #[tactic(auto, unfolding(definition_format::specs::EventMeaning::object_of))]
 pub(crate) fn object_named(
     alloc: Global,
@@ -328,7 +329,7 @@ pub(crate) fn object_named(
     }
 }
 
-// Whether an object of a class is one of a kind.
+// Returns whether objects of this class are of a kind.
 fn is_of_kind(types: &TypeTree, kind: Kind, class: TypeId) -> bool
     ensures { result ≡ is_of_kind types.now (kind_view kind) class }
 {
@@ -338,7 +339,7 @@ fn is_of_kind(types: &TypeTree, kind: Kind, class: TypeId) -> bool
     }
 }
 
-// The object of a place, which must be of a kind.
+// Returns the object at a place, which must be of this kind.
 fn object_for(definition: &Definition, kind: Kind, place: Place) -> Result<Given, EventError>
     ensures { Gives given_view result (object_given definition.now (kind_view kind) place.0) }
 {
@@ -348,7 +349,7 @@ fn object_for(definition: &Definition, kind: Kind, place: Place) -> Result<Given
     Ok(Given::Object(place))
 }
 
-// A value of a kind, or the object that it refers to.
+// Returns the object that a value names or, if it names none, the value of this kind.
 pub(crate) fn given_by(
     alloc: Global,
     definition: &Definition,
@@ -368,7 +369,7 @@ pub(crate) fn given_by(
     }
 }
 
-// The value of a kind that a JSON value denotes, or the fault.
+// Reads a value of this kind from a JSON value.
 fn value_for(
     alloc: Global,
     types: &TypeTree,

@@ -1,6 +1,6 @@
-//! Definitions and events, read from bytes.
+//! Reads definitions and events from bytes.
 //!
-//! A definition is what the JSON text of an interface's description says; an event is a line that is given to a running one.
+//! A definition is the JSON description of an interface. An event is one line that is given to a running interface.
 #![tactic(auto)]
 
 mod emit_reading;

@@ -1,4 +1,4 @@
-//! The limits that a definition declares for its sessions.
+//! Reads the limits that a definition sets for its sessions.
 
 ghost use Rattle.std.specs.Prelude.{◌≡◌, ◌≤◌, [], pos, codes, IfOk};
 ghost use Rattle.serde_json.specs.View.{view};
@@ -17,10 +17,10 @@ use ui_machine::{LEAST_OBJECTS, Limits, MOST_HANDLERS, MOST_OBJECTS};
 
 const MEMBERS: [&str; 2] = ["objects", "handlers"];
 
-// How many objects live at a time where a definition does not say.
+// The number of objects that may live at a time if a definition sets no limit.
 const DEFAULT_OBJECTS: u32 = 64;
 
-// The numbers that a limit may be.
+// The least and the greatest number that a limit may be.
 #[derive(Clone, Copy)]
 struct Bounds {
     which: DefinitionLimit,
@@ -28,7 +28,7 @@ struct Bounds {
     most: u32,
 }
 
-// A number within the bounds.
+// Returns a number as a limit if it is within the bounds.
 fn limit_within(bounds: Bounds, number: i128) -> Result<u32, ReadError>
     ensures limit { Gives (λ n. n) result (limit_within bounds.which (pos bounds.least) (pos bounds.most) number) }
     ensures low { IfOk result (λ n. bounds.least ≤ n) }
@@ -40,7 +40,7 @@ fn limit_within(bounds: Bounds, number: i128) -> Result<u32, ReadError>
     Ok(number as u32)
 }
 
-// The limit that a member gives.
+// Reads the limit that a member gives.
 #[tactic(auto, unfolding(definition_format::specs::Denoted::SessionLimits::given_limit))]
 fn given_limit(part: Part<'_>, key: &str, bounds: Bounds, value: &Value) -> Result<u32, ReadError>
     ensures limit { Gives (λ n. n) result (given_limit (under (path_of part.entry.path) key.now) bounds.which (pos bounds.least) (pos bounds.most) (view value.now)) }
@@ -54,7 +54,7 @@ fn given_limit(part: Part<'_>, key: &str, bounds: Bounds, value: &Value) -> Resu
     Ok(limit)
 }
 
-// The limit of a member, or this one where there is no such member.
+// Reads the limit under `key`, or returns `own` if it is absent.
 fn limit_or(part: Part<'_>, key: &str, bounds: Bounds, own: u32) -> Result<u32, ReadError>
     requires least { bounds.least ≤ own }
     requires most { own ≤ bounds.most }
@@ -68,7 +68,7 @@ fn limit_or(part: Part<'_>, key: &str, bounds: Bounds, own: u32) -> Result<u32, 
     }
 }
 
-// The limits that a value declares.
+// Reads the limits that a value gives.
 #[tactic(auto, unfolding(definition_format::specs::Denoted::SessionLimits::given_limits))]
 fn given_limits(part: Part<'_>) -> Result<Limits, ReadError>
     ensures limits { Gives (λ l. l) result (given_limits (path_of part.entry.path) (view part.entry.value.now)) }
@@ -91,7 +91,7 @@ fn given_limits(part: Part<'_>) -> Result<Limits, ReadError>
     Ok(Limits { objects, handlers })
 }
 
-// The limits of a definition.
+// Reads the `limits` of a definition, or returns the default ones if they are absent.
 pub(crate) fn limits_of(part: Part<'_>) -> Result<Limits, ReadError>
     requires { path_of part.path ≡ [] }
     ensures limits { Gives (λ l. l) result (limits_in (view part.entry.value.now)) }

@@ -1,4 +1,4 @@
-//! Definitions, read from their bytes.
+//! Reads definitions from their bytes.
 
 ghost use Rattle.std.specs.Prelude.{◌≡◌, ◌≤◌, [], None, length, map, IfOk};
 ghost use Rattle.std.specs.List.{AllByRecursion};
@@ -53,7 +53,7 @@ const MEMBERS: [&str; 10] = [
     "objects",
 ];
 
-// The format that the member `format` says, which is 1 or 2.
+// Returns the format for the number in `format`, which must be 1 or 2.
 fn format_of(alloc: Global, format: Option<u64>) -> Result<Format, ReadError>
     ensures { Gives (λ f. f) result (format_of format) }
 {
@@ -64,14 +64,14 @@ fn format_of(alloc: Global, format: Option<u64>) -> Result<Format, ReadError>
     }
 }
 
-// The number that the member `format` is.
+// Returns the number in the member `format`.
 fn format_in(value: &Value) -> Option<u64>
     ensures { result ≡ format_number (view value.now) }
 {
     value.get("format").and_then(Value::as_u64)
 }
 
-// Adds the enums of a definition to the types that are there from the beginning.
+// Reads the enums of a definition and adds them to the types that always exist.
 #[tactic(auto, unfolding(definition_format::specs::Denoted::enums_in))]
 fn enums_of(part: Part<'_>, types: &mut TypeTree) -> Result<(), ReadError>
     requires root { path_of part.path ≡ [] }
@@ -88,7 +88,7 @@ fn enums_of(part: Part<'_>, types: &mut TypeTree) -> Result<(), ReadError>
     Ok(())
 }
 
-// Adds the flags types of a definition.
+// Reads the flags types of a definition and adds them.
 #[tactic(auto, unfolding(definition_format::specs::Denoted::flags_in))]
 fn flags_of(part: Part<'_>, types: &mut TypeTree) -> Result<(), ReadError>
     requires { path_of part.path ≡ [] }
@@ -104,7 +104,7 @@ fn flags_of(part: Part<'_>, types: &mut TypeTree) -> Result<(), ReadError>
     Ok(())
 }
 
-// Adds the interfaces of a definition.
+// Reads the interfaces of a definition and adds them.
 #[tactic(auto, unfolding(definition_format::specs::Denoted::interfaces_in))]
 fn interfaces_of(part: Part<'_>, names: &TypeNames<'_>, draft: &mut Draft) -> Result<(), ReadError>
     requires root { path_of part.path ≡ [] }
@@ -123,7 +123,7 @@ fn interfaces_of(part: Part<'_>, names: &TypeNames<'_>, draft: &mut Draft) -> Re
     Ok(())
 }
 
-// The shapes of a definition.
+// Reads the shapes of a definition.
 #[tactic(auto, unfolding(definition_format::specs::Denoted::Shapes::shapes_in))]
 fn shapes_of(part: Part<'_>) -> Result<Shapes, ReadError>
     requires { path_of part.path ≡ [] }
@@ -139,7 +139,7 @@ fn shapes_of(part: Part<'_>) -> Result<Shapes, ReadError>
     Ok(shapes)
 }
 
-// Adds the classes of a definition.
+// Reads the classes of a definition and adds them.
 #[tactic(auto, unfolding(definition_format::specs::Denoted::classes_in))]
 fn classes_of(
     part: Part<'_>,
@@ -160,7 +160,7 @@ fn classes_of(
     Ok(())
 }
 
-// The types of a definition, with all that they have.
+// Reads the types of a definition with all their members.
 #[tactic(auto, unfolding(definition_format::specs::Denoted::draft_in))]
 fn read_draft(part: Part<'_>) -> Result<ClassDraft, ReadError>
     requires { path_of part.path ≡ [] }
@@ -192,7 +192,7 @@ fn read_draft(part: Part<'_>) -> Result<ClassDraft, ReadError>
     Ok(draft)
 }
 
-// The programs of a definition of this format whose types are these.
+// Reads the programs of a definition of this format and with these types.
 #[tactic(auto, unfolding(definition_format::specs::Denoted::Programs::programs_in))]
 fn programs_of(part: Part<'_>, format: Format, types: &TypeTree) -> Result<Programs, ReadError>
     requires { path_of part.path ≡ [] }
@@ -217,7 +217,7 @@ fn programs_of(part: Part<'_>, format: Format, types: &TypeTree) -> Result<Progr
     Ok(programs)
 }
 
-// The prototypes of a definition.
+// Reads the prototypes of a definition.
 #[tactic(auto, unfolding(definition_format::specs::Denoted::Prototypes::prototypes_in))]
 fn prototypes_of(part: Part<'_>, classes: Classes<'_>) -> Result<ReadPrototypes, ReadError>
     requires root { path_of part.path ≡ [] }
@@ -235,7 +235,7 @@ fn prototypes_of(part: Part<'_>, classes: Classes<'_>) -> Result<ReadPrototypes,
     Ok(prototypes)
 }
 
-// The objects of a definition beside these prototypes, where so many may live, and the bindings among them.
+// Reads the objects of a definition that has these prototypes, and the bindings between the objects. `most` objects may live at a time.
 #[tactic(auto, unfolding(definition_format::specs::Denoted::objects_in))]
 fn objects_of<'a>(
     part: Part<'a>,
@@ -262,7 +262,7 @@ fn objects_of<'a>(
     Ok(objects)
 }
 
-// The parts of the definition of a JSON value.
+// Reads the parts of a definition from a JSON value.
 #[tactic(auto, unfolding(definition_format::specs::Denoted::definition_in))]
 fn parts_in(alloc: Global, value: &Value) -> Result<Parts, ReadError>
     ensures read { Gives (λ p. meaning (parts_of p)) result (definition_in (view value.now)) }
@@ -305,11 +305,11 @@ fn parts_in(alloc: Global, value: &Value) -> Result<Parts, ReadError>
     })
 }
 
-/// Reads a definition. A fault is the first one in document order.
+/// Reads a definition from its bytes.
 ///
 /// # Errors
 ///
-/// `Refused` with the first fault in document order, and `OutOfMemory` if memory is refused.
+/// Returns `Refused` with the first fault in document order, or `OutOfMemory` if memory is refused.
 #[tactic(auto, unfolding(definition_format::specs::Denoted::denoted))]
 pub fn read_definition(alloc: Global, bytes: &[u8]) -> Result<Definition, ReadError>
     ensures exact { Gives (λ d. d) result (denoted bytes.now) }

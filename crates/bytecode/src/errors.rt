@@ -1,4 +1,4 @@
-//! Why no instruction and no program is read.
+//! Errors of reading instructions and programs.
 
 ghost use Rattle.std.specs.Prelude.{◌≡◌};
 ghost use Rattle.bytecode.specs.declared.errors.InstructionError.TheVariants as errors;
@@ -7,10 +7,10 @@ ghost use Rattle.bytecode.specs.declared.errors.ProgramError.TheVariants as prog
 use crate::faults::ProgramFault;
 use std::alloc::{AllocError, AllocFailed};
 
-/// Why no instruction is read.
+/// The reason for which no instruction is read.
 #[derive(Clone, Copy, Debug, PartialEq, Eq)]
 pub enum InstructionError {
-    /// No memory was found.
+    /// Memory was refused.
     OutOfMemory,
     /// The value is no instruction.
     BadInstruction,
@@ -32,10 +32,10 @@ impl<T: Drop> From<AllocFailed<T>> for InstructionError {
     }
 }
 
-/// Why no program is read.
+/// The reason for which no program is read.
 #[derive(Clone, Copy, Debug, PartialEq, Eq)]
 pub enum ProgramError {
-    /// No memory was found.
+    /// Memory was refused.
     OutOfMemory,
     /// The value denotes no program.
     Refused(ProgramFault),

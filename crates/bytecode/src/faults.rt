@@ -1,8 +1,8 @@
-//! Why a program is refused.
+//! The faults for which a program is refused.
 
 use crate::instructions::BlockNumber;
 
-/// What a program has too much of.
+/// A limit of programs that is exceeded.
 #[derive(Clone, Copy, Debug, PartialEq, Eq)]
 pub enum ProgramLimit {
     /// More than 32 registers.
@@ -13,16 +13,16 @@ pub enum ProgramLimit {
     Instructions,
 }
 
-/// Why a value denotes no program.
+/// The reason for which a value denotes no program.
 #[derive(Clone, Copy, Debug, PartialEq, Eq)]
 pub enum ProgramFault {
-    /// The entry of this number in this block's code is no instruction, or comes after the last.
+    /// The entry with this number in this block's code is no instruction, or follows the instruction that ends the block.
     BadInstruction(BlockNumber, usize),
     /// This block leads to itself or to an earlier one.
     BackwardJump(BlockNumber),
     /// This block does not end with a jump or a return.
     NoReturn(BlockNumber),
-    /// There is too much of something.
+    /// A limit is exceeded.
     Limit(ProgramLimit),
     /// This block is repeated other than 1 to 65,535 times, or is repeated and does not end with a jump.
     BadRepeat(BlockNumber),

@@ -1,8 +1,8 @@
-//! Programs as they are kept: their instructions and blocks, what is wrong with them, and which of them JSON denotes.
+//! Programs in bytecode: their instructions and blocks, the faults for which they are refused, and the programs that JSON denotes.
 //!
-//! A program is a handler in bytecode. It has up to 32 registers, each unset or with a value, and its instructions read and write them.
-//! A contract sees a program as the machine's. The specs of this crate also say which program a JSON value denotes, or why it denotes
-//! none; the crate that reads programs has them as its contracts.
+//! A program is a handler in bytecode. It has up to 32 registers, each unset or with a value, and its instructions read and write them. A
+//! contract sees a program as a program of the machine. The specs of this crate also say which program a JSON value denotes, or why it
+//! denotes none. The crate that reads programs has them as its contracts.
 #![tactic(auto)]
 
 mod computations;

@@ -1,4 +1,4 @@
-//! What the format refuses in a program's value.
+//! The faults for which the format refuses a program's value.
 
 ghost use Rattle.std.specs.Prelude.{◌≡◌};
 ghost use Rattle.bytecode.specs.declared.outline_faults.OutlineError.TheVariants as errors;
@@ -8,19 +8,20 @@ use std::alloc::{AllocError, AllocFailed};
 
 /// A part of a program's value: the whole, a block, a member of one of them, or an entry of a member's list.
 ///
-/// Its path is that of the program, then `/blocks/` and the block, if there is one, then `/` and the member, and then `/` and the entry.
+/// Its path is the path of the program, followed by `/blocks/` and the block, if there is one, by `/` and the member, and by `/` and the
+/// entry.
 #[derive(Clone, Copy, Debug)]
 pub struct ProgramPart<'a> {
-    /// The block that it belongs to, by its number.
+    /// The number of the block that the part belongs to. `None` if it belongs to the program as a whole.
     pub block: Option<usize>,
-    /// The key of the member, as it is: a path escapes it.
+    /// The unescaped key of the member. A path escapes it.
     pub member: Option<&'a str>,
-    /// The entry of the member's list, by its number.
+    /// The number of the entry in the member's list.
     pub index: Option<usize>,
 }
 
 impl<'a> ProgramPart<'a> {
-    /// A block, or the whole.
+    /// Makes the part that is a whole block, or the whole program.
     pub fn all_of(block: Option<usize>) -> ProgramPart<'a>
         ensures { part_view result ≡ all_of block }
     {
@@ -31,7 +32,7 @@ impl<'a> ProgramPart<'a> {
         }
     }
 
-    /// A member of it.
+    /// Makes the part that is a member of a block or of the program.
     pub fn member_of(block: Option<usize>, key: &'a str) -> ProgramPart<'a>
         ensures { part_view result ≡ member_of block key.now }
     {
@@ -42,7 +43,7 @@ impl<'a> ProgramPart<'a> {
         }
     }
 
-    /// An entry of the list that this part is.
+    /// Makes the part that is an entry of this part's list.
     pub fn entry_of(self, index: usize) -> ProgramPart<'a>
         ensures { part_view result ≡ entry_of (part_view self.entry) index }
     {
@@ -54,19 +55,19 @@ impl<'a> ProgramPart<'a> {
     }
 }
 
-/// What is at fault.
+/// The fault of a part.
 #[derive(Clone, Copy, Debug)]
 pub enum OutlineFault<'a> {
-    /// A part that is missing, is of another sort, has no meaning there, or is no part of the format.
+    /// The part is missing, is of another sort, has no meaning there, or does not belong to the format.
     Shape(ProgramPart<'a>),
-    /// A kind with a name that nothing has.
+    /// The part is a kind with a type name that no type has.
     Unknown(ProgramPart<'a>, &'a str),
 }
 
-/// Why there is no outline of a program.
+/// The reason for which a program has no outline.
 #[derive(Clone, Copy, Debug)]
 pub enum OutlineError<'a> {
-    /// No memory was found.
+    /// Memory was refused.
     OutOfMemory,
     /// The format refuses the value.
     Refused(OutlineFault<'a>),

@@ -1,4 +1,4 @@
-//! Where a program is: its blocks, and the instructions in them.
+//! Look-ups of blocks and instructions of programs.
 
 ghost use Rattle.std.specs.Prelude.{◌≡◌, length, nat_eq, option_map, slice_get, suc};
 ghost use Rattle.ui_machine.specs.Definition.Programs.{passes_in};
@@ -9,7 +9,7 @@ use crate::instructions::{BlockNumber, Instruction};
 use crate::programs::{Block, Program};
 
 impl Program {
-    /// The block of a number, if there is one.
+    /// Returns the block with this number, or `None` if there is none.
     #[tactic(auto, using(crate::proofs::ViewedLists::viewed_at))]
     pub fn block(&self, number: BlockNumber) -> Option<&Block>
         ensures { option_map (λ b. block_view b.now) result ≡ slice_get (program_view self.now).blocks number.0 }
@@ -17,7 +17,7 @@ impl Program {
         self.blocks.get(number.0)
     }
 
-    /// How often the first block's instructions before the last are carried out. Once, where there is no block.
+    /// Returns how often the first block's instructions, except for the last, are carried out. Returns 1 if there is no block.
     pub fn first_passes(&self) -> u32
         ensures { result ≡ passes_of (slice_get (program_view self.now).blocks 0) }
     {
@@ -29,7 +29,7 @@ impl Program {
 }
 
 impl Block {
-    /// How often the block's instructions before the last are carried out.
+    /// Returns how often the block's instructions, except for the last, are carried out.
     pub fn passes(&self) -> u32
         ensures { result ≡ passes_in (block_view self.now) }
     {
@@ -39,7 +39,7 @@ impl Block {
         }
     }
 
-    /// The instruction of a number, if there is one.
+    /// Returns the instruction with this number, or `None` if there is none.
     #[tactic(auto, using(crate::proofs::ViewedLists::viewed_at))]
     pub fn instruction(&self, at: usize) -> Option<&Instruction>
         ensures { option_map (λ i. instruction_view i.now) result ≡ slice_get (block_view self.now).code at }
@@ -47,7 +47,7 @@ impl Block {
         self.code.get(at)
     }
 
-    /// Whether an instruction of this number is the block's last.
+    /// Returns whether the instruction with this number is the block's last.
     #[tactic(auto, using(crate::proofs::BlockShapes::length_viewed))]
     pub fn is_last(&self, at: usize) -> bool
         ensures { result ≡ nat_eq (suc at) (length (block_view self.now).code) }

@@ -1,6 +1,6 @@
-//! Whether the blocks of a program fit together.
+//! Tests that the blocks of a program fit together.
 //!
-//! Blocks lead to later blocks alone, and each ends with a jump or a return. So a program ends, and its steps have a bound.
+//! Blocks lead only to later blocks, and each ends with a jump or a return. So a program ends, and the number of its steps is bounded.
 
 ghost use Rattle.std.specs.Prelude.{◌≡◌, not, map, length, nat_lt};
 ghost use Rattle.std.specs.List.{list_any, enumerate_from, position_from};
@@ -18,18 +18,19 @@ pub const MOST_REGISTERS: usize = 32;
 /// The most blocks of a program.
 pub const MOST_BLOCKS: usize = 64;
 
-/// The most passes of a block.
+/// The most passes over the instructions of a block.
 pub const MOST_PASSES: u32 = 65_535;
 
-/// The most instructions of a program, those of all its blocks together.
+/// The most instructions of a program, in all its blocks together.
 pub const MOST_INSTRUCTIONS: usize = 512;
 
 impl Program {
-    /// Why the blocks of the program don't fit together, if they don't.
+    /// Returns why the blocks of the program don't fit together, or `None` if they do.
     ///
-    /// `BackwardJump` with the first block that leads to itself or to an earlier one, else `NoReturn` with the first block that does not end
-    /// with a jump or a return, else `Limit` with what there is too much of: registers, then blocks, then instructions, else `BadRepeat` with
-    /// the first block that says that it is repeated, but other than 1 to 65,535 times or without a jump at its end.
+    /// The fault is `BackwardJump` with the first block that leads to itself or to an earlier one, else `NoReturn` with the first block
+    /// that does not end with a jump or a return, else `Limit` with the first limit that is exceeded, of registers, blocks and instructions
+    /// in this order, else `BadRepeat` with the first block that says that it is repeated, but other than 1 to 65,535 times or without a
+    /// jump at its end.
     pub fn shape_fault(&self) -> Option<ProgramFault>
         ensures { result ≡ shape_fault (program_view self.now) }
     {
@@ -47,7 +48,7 @@ impl Program {
     }
 }
 
-// Whether an instruction leads away from its block.
+// Returns whether an instruction leads away from its block.
 #[tactic(auto, using(crate::proofs::BlockShapes::stays, crate::proofs::BlockShapes::ends, crate::proofs::BlockShapes::property_stays, crate::proofs::BlockShapes::object_stays, crate::proofs::BlockShapes::signal_stays, crate::proofs::BlockShapes::source_stays))]
 fn ends_block(instruction: &Instruction) -> bool
     ensures { result ≡ ends_block (instruction_view instruction.now) }
@@ -55,7 +56,7 @@ fn ends_block(instruction: &Instruction) -> bool
     matches!(instruction, Instruction::Control(_))
 }
 
-// Whether an instruction that ends block `from` leads to this block or to an earlier one.
+// Returns whether a control instruction of block `from` leads to this block or to an earlier one.
 fn control_leads_back(control: &ControlInstruction, from: usize) -> bool
     ensures { result ≡ leads_back from (control_view control.now) }
 {
@@ -75,7 +76,7 @@ fn control_leads_back(control: &ControlInstruction, from: usize) -> bool
     }
 }
 
-// Whether an instruction of a block leads to this block or to an earlier one.
+// Returns whether an instruction of block `from` leads to this block or to an earlier one.
 #[tactic(auto, using(crate::proofs::BlockShapes::leads_nowhere, crate::proofs::BlockShapes::property_leads_nowhere, crate::proofs::BlockShapes::object_leads_nowhere, crate::proofs::BlockShapes::signal_leads_nowhere, crate::proofs::BlockShapes::source_leads_nowhere))]
 fn leads_back(instruction: &Instruction, from: usize) -> bool
     ensures { result ≡ leads_back from (instruction_view instruction.now) }
@@ -91,7 +92,7 @@ fn leads_back(instruction: &Instruction, from: usize) -> bool
     }
 }
 
-// Whether one of a block's instructions does.
+// Returns whether one of a block's instructions leads to this block or to an earlier one.
 fn has_backward(block: &Block, number: usize) -> bool
     ensures { result ≡ list_any (λ i. leads_back number (instruction_view i)) block.now.code.items }
 {
@@ -110,7 +111,7 @@ fn backward_in(blocks: &[Block]) -> Option<usize>
         .position(|(number, block)| has_backward(block, number))
 }
 
-// The first block that leads to itself or to an earlier one.
+// Returns the first block that leads to itself or to an earlier one.
 #[tactic(auto, using(crate::proofs::BlockShapes::backward_viewed))]
 fn first_backward(blocks: &[Block]) -> Option<usize>
     ensures { result ≡ first_backward (map block_view blocks.now) }
@@ -118,7 +119,7 @@ fn first_backward(blocks: &[Block]) -> Option<usize>
     backward_in(blocks)
 }
 
-/// Whether the last instruction leads away.
+/// Returns whether the last instruction leads away from the block. False if there are no instructions.
 pub fn is_ended(code: &[Instruction]) -> bool
     ensures { result ≡ is_ended (map instruction_view code.now) }
 {
@@ -136,7 +137,7 @@ fn open_in(blocks: &[Block]) -> Option<usize>
         .position(|block| !is_ended(block.code.as_slice()))
 }
 
-// The first block that leads nowhere.
+// Returns the first block that does not end with an instruction that leads away.
 #[tactic(auto, using(crate::proofs::BlockShapes::open_viewed))]
 fn first_open(blocks: &[Block]) -> Option<usize>
     ensures { result ≡ first_open (map block_view blocks.now) }
@@ -144,7 +145,7 @@ fn first_open(blocks: &[Block]) -> Option<usize>
     open_in(blocks)
 }
 
-// Whether an instruction is a jump.
+// Returns whether an instruction is a jump.
 #[tactic(auto, using(crate::proofs::BlockShapes::is_none, crate::proofs::BlockShapes::property_is_none, crate::proofs::BlockShapes::object_is_none, crate::proofs::BlockShapes::signal_is_none, crate::proofs::BlockShapes::source_is_none))]
 fn is_jump(instruction: &Instruction) -> bool
     ensures { result ≡ is_jump (instruction_view instruction.now) }
@@ -155,7 +156,7 @@ fn is_jump(instruction: &Instruction) -> bool
     )
 }
 
-// Whether the last instruction is a jump.
+// Returns whether the last instruction is a jump. False if there are no instructions.
 fn ends_in_jump(code: &[Instruction]) -> bool
     ensures { result ≡ ends_in_jump (map instruction_view code.now) }
 {
@@ -165,7 +166,7 @@ fn ends_in_jump(code: &[Instruction]) -> bool
     }
 }
 
-// Whether a block may be passed as often as it says.
+// Returns whether a block may be repeated as often as it says. True if it does not say so.
 fn may_repeat(block: &Block) -> bool
     ensures { result ≡ may_repeat block.now.repeat (map instruction_view block.now.code.items) }
 {
@@ -183,7 +184,7 @@ fn bad_repeat_in(blocks: &[Block]) -> Option<usize>
     blocks.iter().position(|block| !may_repeat(block))
 }
 
-// The first block that may not be passed as often as it says.
+// Returns the first block that may not be repeated as often as it says.
 #[tactic(auto, using(crate::proofs::BlockShapes::repeat_viewed))]
 fn first_bad_repeat(blocks: &[Block]) -> Option<usize>
     ensures { result ≡ first_bad_repeat (map block_view blocks.now) }
@@ -191,7 +192,7 @@ fn first_bad_repeat(blocks: &[Block]) -> Option<usize>
     bad_repeat_in(blocks)
 }
 
-// Whether blocks have more instructions than a program may have.
+// Returns whether blocks have more instructions than a program may have.
 fn has_too_many(blocks: &[Block]) -> bool
     ensures { result ≡ nat_lt 512 (total (λ b. length b.code.items) blocks.now) }
 {
@@ -206,7 +207,7 @@ fn has_too_many(blocks: &[Block]) -> bool
     false
 }
 
-// The same of the blocks that a contract sees.
+// Like `has_too_many`, but its contract speaks of the blocks as the machine sees them.
 #[tactic(auto, using(crate::proofs::BlockShapes::counted_viewed))]
 fn has_too_many_instructions(blocks: &[Block]) -> bool
     ensures { result ≡ nat_lt 512 (instructions_in (map block_view blocks.now)) }
@@ -214,7 +215,7 @@ fn has_too_many_instructions(blocks: &[Block]) -> bool
     has_too_many(blocks)
 }
 
-// What there is too much of.
+// Returns the first limit that a program exceeds, or `None` if it exceeds none.
 #[tactic(auto, using(crate::proofs::BlockShapes::length_viewed))]
 fn first_limit(program: &Program) -> Option<ProgramLimit>
     ensures { result ≡ first_limit (program_view program.now) }

@@ -1,9 +1,9 @@
-//! Text in a buffer of the caller.
+//! Text that is written to a buffer of the caller.
 
 ghost use Rattle.std.specs.Prelude.{◌≡◌, length, slice_index_or};
 ghost use Rattle.c_sessions.specs.Buffers.{padded};
 
-/// Fills a buffer with a text, as much of it as there is room for, and with zero bytes behind it.
+/// Fills a buffer with as much of a text as there is room for, and with zero bytes after it.
 pub(crate) fn write_padded(buffer: &mut [u8], text: &[u8])
     ensures { buffer.new ≡ padded (length buffer.old) text.now }
 {
@@ -12,7 +12,7 @@ pub(crate) fn write_padded(buffer: &mut [u8], text: &[u8])
     }
 }
 
-// The byte of a text at a place, or 0 behind its end.
+// Returns the byte of a text at a place, or 0 past its end.
 fn byte_at(text: &[u8], place: usize) -> u8
     ensures { result ≡ slice_index_or text.now place 0 }
 {

@@ -1,4 +1,4 @@
-//! Event lines that a session hears.
+//! The event lines that a session carries out.
 
 ghost use Rattle.std.specs.Prelude.{◌≡◌, ◌++◌};
 ghost use Rattle.event_lines.specs.Events.{event_replies};
@@ -15,7 +15,7 @@ use std::alloc::Global;
 use ui_engine::Session;
 
 impl HostedSession {
-    /// A session of which no line was taken.
+    /// Creates a hosted session of which no line was taken.
     pub(crate) fn of(alloc: Global, session: Session<Option<StandIn>>) -> HostedSession
         ensures session { result.session ≡ session }
         ensures unread { unread result ≡ lines_text session.core.world.transcript }
@@ -28,12 +28,12 @@ impl HostedSession {
         }
     }
 
-    /// Carries out an event line, without its LF. What it says comes behind the lines that were not taken yet.
+    /// Carries out an event line, which is given without its LF. What it says comes after the lines that were not taken yet.
     ///
     /// # Errors
     ///
-    /// `Refused` by the first refusal of the line or of its event, which changes nothing, and `Stopped` where memory is refused or the
-    /// session had stopped.
+    /// Returns `Refused` with the first refusal of the line or of its event, which changes nothing, and `Stopped` if memory is refused or
+    /// the session had stopped.
     pub fn dispatch_line(&mut self, alloc: Global, line: &[u8]) -> Result<(), LineFault>
         ensures replies { event_replies nobody (held self.old) line.now (outcome_of result (lines_since (held self.old) (held self.new))) (held self.new) }
         ensures unread { unread self.new ≡ unread self.old ++ lines_text (lines_since (held self.old) (held self.new)) }

@@ -6,7 +6,7 @@ use builder_defs::EventReader;
 use native_peers::StandIn;
 use ui_engine::Session;
 
-/// A session that began without peers, and how far its lines were taken.
+/// A session that began without peers and knows how far its lines were taken.
 #[derive(Drop)]
 pub struct HostedSession {
     pub(crate) session: Session<Option<StandIn>>,

@@ -1,4 +1,4 @@
-//! What a handle keeps: the place of a session, of which C knows no more than the address, or nothing.
+//! The content of a handle: the place of a session, of which C knows no more than the address, or nothing.
 
 ghost use Rattle.std.specs.Prelude.{◌≡◌, Option, None, Some};
 ghost use Rattle.c_sessions.specs.Held.{held};
@@ -22,7 +22,7 @@ impl Model for Kept {
 }
 
 impl Kept {
-    /// Nothing.
+    /// Creates the content of a handle without a session.
     pub(crate) fn nothing() -> Kept
         ensures { result.session ≡ None }
     {
@@ -31,14 +31,14 @@ impl Kept {
         }
     }
 
-    /// The place of a session.
+    /// Keeps the place of a session.
     pub(crate) fn of(session: Box<HostedSession>) -> Kept
         ensures { result.session ≡ Some session.value }
     {
         Kept::seal(Loose::of(session))
     }
 
-    /// The session again.
+    /// Returns the session in its box.
     pub(crate) fn into_box(self, alloc: Global) -> Box<HostedSession>
         requires { (session : HostedSession) × (self.session ≡ Some session) }
         ensures { Some result.value ≡ self.session }
@@ -46,14 +46,14 @@ impl Kept {
         self.unseal(alloc).into_box()
     }
 
-    /// Forgets the place of nothing.
+    /// Takes the content apart, which has to be nothing.
     pub(crate) fn discard(self)
         requires { self.session ≡ None }
     {
         let Kept { at: _ } = self;
     }
 
-    // A session whose type C does not know.
+    // Keeps a session under a type that hides its own from C.
     fn seal(session: Loose<HostedSession, Global>) -> Kept
         ensures { result.session ≡ Some session.value }
     {
@@ -61,7 +61,7 @@ impl Kept {
         Kept { at: at as *mut u8 }
     }
 
-    // The session again, freed by this allocator: each frees what another one has given.
+    // Returns the session, which this allocator will free. Each allocator frees what another one has given.
     fn unseal(self, alloc: Global) -> Loose<HostedSession, Global>
         requires { (session : HostedSession) × (self.session ≡ Some session) }
         ensures { Some result.value ≡ self.session }

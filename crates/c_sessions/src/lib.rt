@@ -1,7 +1,7 @@
 //! Sessions for a host that is written in C: without peers, each held by a handle, with its lines as a stream of bytes.
 //!
-//! A [`HostedSession`] is a session, and how far its lines were taken. A [`SessionHandle`] is what C has of one: it holds the session, or
-//! none. The crate `ui_c` exports what can be done with a handle.
+//! A [`HostedSession`] is a session that knows how far its lines were taken. A [`SessionHandle`] is what C has of one: it holds a session,
+//! or none. The crate `ui_c` exports what can be done with a handle.
 #![tactic(auto)]
 
 mod buffers;

@@ -1,4 +1,4 @@
-//! What C has of a session.
+//! The handle by which C holds a session.
 
 ghost use Rattle.std.specs.Prelude.{◌≡◌, [], IfSome, None, Some, length, option_map};
 ghost use Rattle.c_sessions.specs.Held.{is_kept};
@@ -14,8 +14,8 @@ use event_lines::LineFault;
 use std::alloc::Global;
 use std::mem;
 
-/// A session that C holds, or none. For C it is a struct of a truth value and an address, which it neither reads nor writes, but for the
-/// zero bytes with which one without a session begins.
+/// A handle that holds a session, or none. For C it is a struct of a truth value and an address. C neither reads nor writes them, except
+/// for the zero bytes with which a handle without a session begins.
 #[repr(C)]
 pub struct SessionHandle {
     is_open: bool,
@@ -24,7 +24,7 @@ pub struct SessionHandle {
 }
 
 impl SessionHandle {
-    /// A handle without a session.
+    /// Creates a handle without a session.
     pub fn closed() -> SessionHandle
         ensures { result.kept.session ≡ None }
     {
@@ -34,9 +34,9 @@ impl SessionHandle {
         }
     }
 
-    /// Starts a session from the bytes of a definition. A session that it had is given up. The handle has one then, also where the build
-    /// stopped, but not where the definition is refused, or no memory is found before the build. The refusal of a definition is written
-    /// as `write_padded` does; else the buffer is filled with zero bytes.
+    /// Starts a session from the bytes of a definition. A session that the handle had is given up. The handle has the new session then,
+    /// even if its build stopped. It has none if the definition is refused, or if memory is refused before the build or for the session's
+    /// box. The refusal of a definition is written as `write_padded` does. Otherwise the buffer is filled with zero bytes.
     pub fn start(&mut self, alloc: Global, definition: &[u8], refusal: &mut [u8]) -> Status
         ensures { Starts definition.now (length refusal.old) result self.new.kept.session refusal.new }
     {
@@ -61,8 +61,8 @@ impl SessionHandle {
         }
     }
 
-    /// Has the session carry out an event line. The name of a refusal is written as `write_padded` does; else the buffer is filled with
-    /// zero bytes.
+    /// Makes the session carry out an event line. The name of a refusal is written as `write_padded` does. Otherwise the buffer is filled
+    /// with zero bytes.
     pub fn dispatch(&mut self, alloc: Global, line: &[u8], refusal: &mut [u8]) -> Status
         ensures { Dispatches line.now (length refusal.old) self.old.kept.session result self.new.kept.session refusal.new }
     {
@@ -81,7 +81,7 @@ impl SessionHandle {
         }
     }
 
-    /// Takes bytes of the session's lines, as `HostedSession::take_lines`, and answers how many. A handle without a session has none.
+    /// Takes bytes of the session's lines as `HostedSession::take_lines` does, and returns how many. A handle without a session has none.
     pub fn take_lines(&mut self, alloc: Global, out: &mut [u8]) -> usize
         ensures { Takes out.old self.old.kept.session result self.new.kept.session out.new }
     {
@@ -100,7 +100,7 @@ impl SessionHandle {
         drop(self.take(alloc));
     }
 
-    // Keeps a session that has started with this status, if there is memory for it.
+    // Keeps a session that has started with this status, if there is memory for it, and returns the status of the call.
     fn keep(&mut self, alloc: Global, session: HostedSession, status: Status) -> Status
         requires { self.now.kept.session ≡ None }
         ensures { KeepsAs session status result self.new.kept.session }
@@ -121,7 +121,7 @@ impl SessionHandle {
         taken.into_session(alloc)
     }
 
-    // Puts a session in. One that it had is given up.
+    // Puts a session in. A session that the handle had is given up.
     fn put(&mut self, alloc: Global, session: Box<HostedSession>)
         ensures { self.new.kept.session ≡ Some session.value }
     {
@@ -133,7 +133,7 @@ impl SessionHandle {
         drop(before.into_session(alloc));
     }
 
-    /// The session, if there is one. A handle of which a program in Rattle lets go is taken apart by this.
+    /// Returns the session, if there is one. A program in Rattle takes a handle apart by this call before it lets the handle go.
     pub fn into_session(self, alloc: Global) -> Option<Box<HostedSession>>
         ensures { option_map (λ session. session.value) result ≡ self.kept.session }
     {
@@ -146,7 +146,7 @@ impl SessionHandle {
     }
 }
 
-// A value in a box, if there is memory for it.
+// Puts a value in a box, if there is memory for it.
 fn boxed<T: Drop>(alloc: Global, value: T) -> Option<Box<T>>
     ensures { IfSome result (λ boxed. boxed.value ≡ value) }
 {
@@ -156,7 +156,7 @@ fn boxed<T: Drop>(alloc: Global, value: T) -> Option<Box<T>>
     }
 }
 
-// Writes the name of the refusal of a line, if that is why it was not carried out.
+// Returns the status for a fault. The name of the refusal of a line is written, and otherwise zero bytes.
 fn report(fault: LineFault, refusal: &mut [u8]) -> Status
     ensures { FailsAs fault (length refusal.old) result refusal.new }
 {

@@ -1,4 +1,4 @@
-//! How sessions without peers start.
+//! The start of a session without peers.
 
 ghost use Rattle.c_sessions.specs.Starting.{StartsAs};
 
@@ -7,16 +7,17 @@ use event_lines::{Opening, judge, open};
 use native_peers::StandIn;
 use std::alloc::Global;
 
-/// What the bytes of a definition came to.
+/// The outcome of a start from the bytes of a definition.
 #[derive(Drop)]
 pub enum Started {
     /// The definition is built.
     Built(HostedSession),
-    /// No memory was found in the build, and the session has stopped. Its lines can be taken.
+    /// Memory was refused in the build, and the session has stopped. Its lines can be taken.
     Stopped(HostedSession),
-    /// Reading or the verdict refuses the definition, or it needs a peer: the name of the fault and its fields, as `ui run` prints them.
+    /// Reading or the verdict refuses the definition, or it needs a peer. The text has the name of the fault and its fields, as `ui run`
+    /// prints them.
     Refused(String),
-    /// No memory was found before the build.
+    /// Memory was refused before the build.
     Unbegun,
 }
 

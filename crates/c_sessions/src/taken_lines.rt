@@ -1,4 +1,4 @@
-//! Lines that are taken of a session as a stream of bytes.
+//! The lines of a session, taken as a stream of bytes.
 
 ghost use Rattle.std.specs.Prelude.{◌≡◌, ◌++◌, [], ◌∷◌, IfNone, IfSome, drop, length, min, take};
 ghost use Rattle.ui_engine.specs.SessionView.{without_lines};
@@ -8,8 +8,8 @@ ghost use Rattle.c_sessions.specs.Unread.{unread};
 use crate::hosted_session::HostedSession;
 
 impl HostedSession {
-    /// Takes bytes of the lines that were said, each line with its LF, from where the last call ended, and answers how many: as many as
-    /// there is room for, or all that are left. The rest of the buffer stays as it is. Lines of which all was taken are given up.
+    /// Takes bytes of the lines that were said, each line with its LF, from where the last call ended. Returns how many: as many as there
+    /// is room for, or all that are left. The rest of the buffer is unchanged. The lines are cleared once a call finds no more bytes.
     pub fn take_lines(&mut self, out: &mut [u8]) -> usize
         ensures count { result ≡ min (length out.old) (length (unread self.old)) }
         ensures bytes { out.new ≡ take result (unread self.old) ++ drop result out.old }
@@ -26,7 +26,7 @@ impl HostedSession {
         out.len()
     }
 
-    // The next byte of the lines, if one is left.
+    // Takes the next byte of the lines, if one is left.
     fn next_byte(&mut self) -> Option<u8>
         ensures byte { IfSome result (λ byte. unread self.old ≡ byte ∷ unread self.new) }
         ensures none { IfNone result ((unread self.old ≡ []) × (self.new ≡ self.old)) }
@@ -47,7 +47,7 @@ impl HostedSession {
         }
     }
 
-    // Gives up the lines, of which all was taken.
+    // Clears the lines, all of which have to be taken.
     fn forget(&mut self)
         requires { unread self.now ≡ [] }
         ensures unread { unread self.new ≡ [] }

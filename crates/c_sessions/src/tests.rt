@@ -1,4 +1,4 @@
-//! A session is started, hears lines, and gives out its own through buffers of any size.
+//! Tests that start a session, give it event lines, and take its own lines through buffers of any size.
 
 use crate::{SessionHandle, Status, verify};
 

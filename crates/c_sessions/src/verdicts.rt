@@ -9,8 +9,8 @@ use event_lines::{Counted, check};
 use std::alloc::Global;
 use ui_machine::Device;
 
-/// Judges a definition, and writes its report, or the one line of its refusal, as `write_padded` does: what `ui verify` prints. Nothing is
-/// run. Where no memory is found, a front of the text is written.
+/// Judges a definition, and writes its report or the one line of its refusal, as `write_padded` does. That is what `ui verify` prints.
+/// Nothing is run. If memory is refused, a front of the text is written.
 pub fn verify(alloc: Global, definition: &[u8], report: &mut [u8]) -> Status
     ensures { Verifies definition.now (length report.old) result report.new }
 {
@@ -20,7 +20,7 @@ pub fn verify(alloc: Global, definition: &[u8], report: &mut [u8]) -> Status
     status_of(code)
 }
 
-// The status of a check that ended with this number.
+// Returns the status of a check that ended with this number.
 fn status_of(code: u8) -> Status
     ensures { result ≡ status_of_check code }
 {

@@ -1,4 +1,4 @@
-//! Emissions that a host asks for.
+//! Tests of the emissions that a host asks for.
 
 ghost use Rattle.std.specs.Prelude.{◌≡◌, ◌↔◌, ◌||◌, IsTrue, is_none, map, option_map};
 ghost use Rattle.std.specs.Rc.{rc_str_bytes};
@@ -19,15 +19,15 @@ use ui_machine::{Place, SignalId};
 // The first signal of each class, `notify`, which no event emits.
 const NOTIFY: SignalId = 0;
 
-// Whether a signal takes a detail, if there is one.
+// Returns whether a signal takes a detail, or no detail is given.
 fn takes_detail(signal: &DeclaredSignal<'_>, detail: &Option<RcStr>) -> bool
     ensures { result ≡ (is_none detail.now || has_flags 16 signal.now.flags.0) }
 {
     detail.is_none() || signal.flags.contains(SignalFlags::DETAILED)
 }
 
-/// Whether an object is at a place and its class has a signal of the number, other than `notify`, that takes these arguments and this
-/// detail.
+/// Returns whether an object is at a place and its class has a signal with this number, other than `notify`, that takes these arguments and
+/// this detail.
 pub(crate) fn is_emission(
     definition: &Definition,
     place: Place,
@@ -37,7 +37,7 @@ pub(crate) fn is_emission(
 ) -> bool
     ensures { IsTrue result ↔ RequestRead definition.now (emit place.0 number (map given_view args.now) (option_map (λ text. rc_str_bytes text) detail.now)) }
 {
-    // For the proof: what is known of a definition's signals.
+    // For the proof: facts about a definition's signals.
     let _types = definition.types();
     let Some(class) = object_class(definition, place) else {
         return false;

@@ -1,4 +1,4 @@
-//! Whether an event is such as reading gives for a definition.
+//! The test of events against a definition.
 
 ghost use Rattle.std.specs.Prelude.{◌≡◌, ◌↔◌, ◌&&◌, IfNone, IfSome, IsTrue, None, Some, not};
 ghost use Rattle.ui_machine.specs.Definition.Properties.{is_construct_only, is_writable};
@@ -19,27 +19,27 @@ use definitions::Definition;
 use param_specs::Spec;
 use ui_machine::{Place, Slot};
 
-// The property of the object at a place, by its slot.
+// Returns the property of the object at a place, by its slot. Returns `None` if no object is there or it has no such property.
 fn property(definition: &Definition, place: Place, slot: Slot) -> Option<&Spec>
     ensures object { IfSome result (λ _. IsObject definition.now place.0) }
     ensures spec { IfSome result (λ spec. spec_at definition.now place.0 slot ≡ Some (spec_view spec.now)) }
     ensures known { IfSome result (λ spec. IsKnownKind definition.now.types (kind_view spec.now.kind)) }
     ensures none { IfNone result (IsObject definition.now place.0 → spec_at definition.now place.0 slot ≡ None) }
 {
-    // For the proof: what is known of a definition's properties.
+    // For the proof: facts about a definition's properties.
     let _types = definition.types();
     let class = object_class(definition, place)?;
     definition.spec(class, slot)
 }
 
-// Whether a property may be set while its object lives.
+// Returns whether a property may be set while its object lives.
 fn may_be_set(spec: &Spec) -> bool
     ensures { result ≡ (is_writable (spec_view spec.now) && not (is_construct_only (spec_view spec.now))) }
 {
     spec.is_writable() && !spec.is_construct_only()
 }
 
-// Whether the object at a place has a property that may be set to what is given.
+// Returns whether the object at a place has a property that may be set to what is given.
 fn is_set(definition: &Definition, place: Place, slot: Slot, given: &Given) -> bool
     ensures { IsTrue result ↔ RequestRead definition.now (set place.0 slot (given_view given.now)) }
 {
@@ -52,7 +52,7 @@ fn is_set(definition: &Definition, place: Place, slot: Slot, given: &Given) -> b
     is_given_of_kind(definition, given, spec.kind)
 }
 
-// Whether the object at a place has a property that may be read.
+// Returns whether the object at a place has a property that may be read.
 fn is_get(definition: &Definition, place: Place, slot: Slot) -> bool
     ensures { IsTrue result ↔ RequestRead definition.now (get place.0 slot) }
 {
@@ -62,7 +62,7 @@ fn is_get(definition: &Definition, place: Place, slot: Slot) -> bool
     }
 }
 
-// Whether a request is such as reading gives.
+// Returns whether a request meets all that reading an event line makes sure of.
 fn is_request_of(definition: &Definition, request: &Request) -> bool
     ensures { IsTrue result ↔ RequestRead definition.now (request_of request.now) }
 {
@@ -79,11 +79,11 @@ fn is_request_of(definition: &Definition, request: &Request) -> bool
     }
 }
 
-/// Whether an event is such as reading gives for a definition, so that a session of the definition may be asked to carry it out. What it names
-/// is there: an object and no prototype, a property of the object's class, a signal of it other than `notify`. The property may be read, or
-/// set while the object lives. Each value is of the kind that is wanted, and each object that is given as a value is one of the type. An
-/// emission gives as many arguments as the signal has parameters, and a detail only where the signal takes details. A turn may be of any
-/// moment, and a detail any text.
+/// Returns whether an event meets all that reading an event line makes sure of for a definition, so that a session of the definition may be
+/// asked to carry it out. Whatever the event names has to exist: an object that is no prototype, a property of the object's class, a signal
+/// of it other than `notify`. The property has to be readable, or settable while the object lives. Each value has to be of the kind that is
+/// wanted, and each object that is given as a value of its type. An emission has to give as many arguments as the signal has parameters,
+/// and a detail only if the signal takes details. A turn may be of any moment, and a detail any text.
 pub fn is_event_of(definition: &Definition, event: &Event) -> bool
     ensures { IsTrue result ↔ EventRead definition.now (event_of event.now) }
 {

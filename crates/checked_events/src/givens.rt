@@ -1,4 +1,4 @@
-//! What an event gives, and whether a property or a parameter of a kind takes it.
+//! Tests that what an event gives is of the kind of a property or parameter.
 
 ghost use Rattle.std.specs.Prelude.{◌≡◌, ◌↔◌, IsTrue, map, ℕ, true};
 ghost use Rattle.std.specs.List.{AllByRecursion, AllZip};
@@ -17,7 +17,7 @@ use g_values::{Kind, Value};
 use type_tree::{TypeId, TypeTree};
 use ui_machine::Place;
 
-// Whether a value is one of a kind. An event names an object by its place, so the only value of an object's kind is null.
+// Returns whether a value is of a kind. An event names an object by its place, so the only value of an object kind is null.
 fn is_of_kind(types: &TypeTree, value: &Value, kind: Kind) -> bool
     requires known { IsKnownKind types.now (kind_view kind) }
     ensures { result ≡ kind_fits no_class_of types.now (value_view value.now) (kind_view kind) }
@@ -53,7 +53,7 @@ fn is_of_kind(types: &TypeTree, value: &Value, kind: Kind) -> bool
     }
 }
 
-// Whether objects of a class are of a kind.
+// Returns whether objects of a class are of a kind.
 fn is_class_of_kind(types: &TypeTree, class: TypeId, kind: Kind) -> bool
     ensures { IsTrue result ↔ (type : ℕ) × (kind_view kind ≡ kinds.object type) × (is_a types.now class type ≡ true) }
 {
@@ -63,7 +63,7 @@ fn is_class_of_kind(types: &TypeTree, class: TypeId, kind: Kind) -> bool
     }
 }
 
-// Whether an object is at a place and is of a kind.
+// Returns whether an object is at a place and is of a kind.
 fn is_object_of_kind(definition: &Definition, place: Place, kind: Kind) -> bool
     ensures { IsTrue result ↔ GivenFits definition.now (kind_view kind) (named place.0) }
 {
@@ -73,7 +73,7 @@ fn is_object_of_kind(definition: &Definition, place: Place, kind: Kind) -> bool
     }
 }
 
-/// Whether what is given is a value of a kind, or an object of it.
+/// Returns whether what is given is a value of a kind, or an object of it.
 pub(crate) fn is_given_of_kind(definition: &Definition, given: &Given, kind: Kind) -> bool
     requires known { IsKnownKind definition.now.types (kind_view kind) }
     ensures { IsTrue result ↔ GivenFits definition.now (kind_view kind) (given_view given.now) }
@@ -84,7 +84,7 @@ pub(crate) fn is_given_of_kind(definition: &Definition, given: &Given, kind: Kin
     }
 }
 
-/// Whether as much is given as there are kinds, each of the kind in its place.
+/// Returns whether there are as many givens as kinds, each of the kind at its index.
 pub(crate) fn are_given_of_kinds(definition: &Definition, givens: &[Given], kinds: &[Kind]) -> bool
     requires known { AllByRecursion (IsKnownKind definition.now.types) (map kind_view kinds.now) }
     ensures { IsTrue result ↔ AllZip (λ given kind. GivenFits definition.now kind given) (map given_view givens.now) (map kind_view kinds.now) }

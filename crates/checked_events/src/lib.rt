@@ -1,7 +1,7 @@
-//! Events that a host makes itself, tested against the definition that is to take them.
+//! Tests of events that a host makes itself against the definition that is to take them.
 //!
-//! A session asks of each event that it is such as reading gives for the session's definition. [`is_event_of`] tests that of an event that was
-//! made without a line.
+//! A session requires that each event meets all that reading an event line makes sure of for the session's definition. [`is_event_of`]
+//! tests this for an event that was made without a line.
 #![tactic(auto)]
 
 mod emissions;

@@ -1,4 +1,4 @@
-//! The objects of a definition, as events name them.
+//! The objects of a definition that events name.
 
 ghost use Rattle.std.specs.Prelude.{◌≡◌, ◌↔◌, IsTrue, MatchOption, Some};
 ghost use Rattle.law_typing.specs.Laws.WellRead.{IsObject};
@@ -8,7 +8,7 @@ use definitions::Definition;
 use type_tree::TypeId;
 use ui_machine::Place;
 
-/// The class of the object at a place, if an object is there: a prototype is none.
+/// Returns the class of the object at a place, or `None` if no object is there. A prototype is not an object.
 pub(crate) fn object_class(definition: &Definition, place: Place) -> Option<TypeId>
     ensures { MatchOption result (¬ IsObject definition.now place.0) (λ class. IsObject definition.now place.0 × (class_at definition.now place.0 ≡ Some class)) }
 {
@@ -21,7 +21,7 @@ pub(crate) fn object_class(definition: &Definition, place: Place) -> Option<Type
     Some(entry.class)
 }
 
-/// Whether an object is at a place.
+/// Returns whether an object is at a place.
 pub(crate) fn is_object(definition: &Definition, place: Place) -> bool
     ensures { IsTrue result ↔ IsObject definition.now place.0 }
 {

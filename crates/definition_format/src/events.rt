@@ -1,40 +1,40 @@
-//! What an event line asks for.
+//! Events, and the requests that they make of objects.
 
 use crate::objects::Given;
 use std::rc::RcStr;
 use ui_machine::{Place, SignalId, Slot};
 
-/// What an event asks of an object of the builder.
+/// A request to an object of the builder.
 #[derive(Debug, Drop)]
 pub enum Request {
-    /// A property of an object is set.
+    /// Sets a property of an object.
     Set {
         place: Place,
         slot: Slot,
         given: Given,
     },
-    /// A property of an object is read.
+    /// Reads a property of an object.
     Get {
         place: Place,
         slot: Slot,
     },
-    /// The builder lets go of an object.
+    /// Makes the builder let go of an object.
     Release {
         place: Place,
     },
-    /// A signal of an object is emitted.
+    /// Makes an object emit a signal.
     Emit {
         place: Place,
-        /// Its number in the list of the object's class, where 0 is `notify`.
+        /// The number of the signal in the list of the object's class, where 0 is `notify`.
         signal: SignalId,
-        /// As many as the signal has parameters, in their order.
+        /// The arguments, one for each parameter of the signal, in order.
         args: Vec<Given>,
-        /// As it is written. Only a signal that takes details has one. The emission shares it.
+        /// The detail as it is written, only for a signal that takes details. The emission shares the text.
         detail: Option<RcStr>,
     },
 }
 
-/// What a line of the event file asks for.
+/// An event, which is one line of the event file.
 #[derive(Debug, Drop)]
 pub enum Event {
     Request(Request),

@@ -1,4 +1,4 @@
-//! How the refusal of a definition is printed.
+//! The texts of refusals of definitions.
 
 ghost use Rattle.std.specs.Prelude.{◌≡◌, ◌<◌, ◌++◌, IfOk, OnOk, string_bytes};
 ghost use Rattle.definition_format.specs.Causes.{cause_view, property_cause};
@@ -14,8 +14,8 @@ use std::alloc::{AllocError, Global};
 use type_tree::TypeLimit;
 
 impl DefinitionFault {
-    /// The fault's name and fields, with one blank between them: what the program writes behind `refused: `. In paths and names each byte
-    /// outside 33 to 126 is written as `%` and two upper case hexadecimal digits.
+    /// Returns the fault's name and fields, separated by single blanks, as the program prints them after `refused: `. In paths and names
+    /// each byte outside of 33 to 126 is written as `%` and two upper case hexadecimal digits.
     ///
     /// # Errors
     ///
@@ -72,7 +72,7 @@ impl DefinitionFault {
     }
 }
 
-// What there is too much of.
+// Returns the name of a limit of definitions.
 fn limit_name(limit: DefinitionLimit) -> &'static str
     ensures { result.now ≡ limit_name limit }
 {
@@ -88,7 +88,7 @@ fn limit_name(limit: DefinitionLimit) -> &'static str
     }
 }
 
-// What a tree has too much of.
+// Returns the name of a limit of the type tree.
 fn type_limit_name(limit: TypeLimit) -> &'static str
     ensures { result.now ≡ type_limit_name limit }
 {
@@ -98,7 +98,7 @@ fn type_limit_name(limit: TypeLimit) -> &'static str
     }
 }
 
-// Why a type is not added or has no objects: the name of the cause and its own fields.
+// Returns the text of the cause for which a type is not added or has no objects: its name and its own fields.
 fn type_cause_text(alloc: Global, cause: &TypeCause) -> Result<String, AllocError>
     ensures { IfOk result (λ text. string_bytes text ≡ type_cause_text (cause_view cause.now)) }
 {
@@ -119,7 +119,7 @@ fn type_cause_text(alloc: Global, cause: &TypeCause) -> Result<String, AllocErro
     }
 }
 
-// Why a property is not installed.
+// Returns the name of the fault for which a property is not installed.
 fn spec_fault_text(fault: SpecFault) -> &'static str
     ensures { result.now ≡ spec_fault_text fault }
 {
@@ -133,7 +133,7 @@ fn spec_fault_text(fault: SpecFault) -> &'static str
     }
 }
 
-// Why a signal is not declared.
+// Returns the name of the fault for which a signal is not declared.
 fn signal_fault_text(fault: SignalFault) -> &'static str
     ensures { result.now ≡ signal_fault_text fault }
 {
@@ -145,7 +145,7 @@ fn signal_fault_text(fault: SignalFault) -> &'static str
     }
 }
 
-// Why one of them is not there, or a property is given no value or not overridden: the name of the cause and its own fields.
+// Returns the text of a `SpecCause`: its name and its own fields.
 fn spec_cause_text(alloc: Global, cause: &SpecCause) -> Result<String, AllocError>
     ensures { IfOk result (λ text. string_bytes text ≡ spec_cause_text (property_cause cause.now)) }
 {
@@ -164,7 +164,7 @@ fn spec_cause_text(alloc: Global, cause: &SpecCause) -> Result<String, AllocErro
     }
 }
 
-// What a program has too much of.
+// Returns the name of a limit of programs.
 fn program_limit_name(limit: ProgramLimit) -> &'static str
     ensures { result.now ≡ program_limit_name limit }
 {
@@ -175,7 +175,7 @@ fn program_limit_name(limit: ProgramLimit) -> &'static str
     }
 }
 
-// Why JSON denotes no program: the name of the cause, and the numbers of the block and of the instruction.
+// Returns the text of the cause for which JSON denotes no program: its name and the numbers of the block and of the instruction.
 fn program_cause_text(alloc: Global, cause: ProgramFault) -> Result<String, AllocError>
     ensures { IfOk result (λ text. string_bytes text ≡ program_cause_text cause) }
 {
@@ -203,7 +203,7 @@ fn program_cause_text(alloc: Global, cause: ProgramFault) -> Result<String, Allo
     }
 }
 
-// Why JSON denotes no value.
+// Returns the name of the fault for which JSON denotes no value.
 fn value_cause_text(cause: JsonFault) -> &'static str
     ensures { result.now ≡ value_cause_text cause }
 {
@@ -215,7 +215,7 @@ fn value_cause_text(cause: JsonFault) -> &'static str
     }
 }
 
-// A path or a name as it is printed.
+// Returns a path or a name in its printed form.
 fn printed(alloc: Global, text: &str) -> Result<String, AllocError>
     ensures { IfOk result (λ out. string_bytes out ≡ printed text.now) }
 {
@@ -226,7 +226,7 @@ fn printed(alloc: Global, text: &str) -> Result<String, AllocError>
     Ok(out)
 }
 
-// Adds a byte as it is printed.
+// Appends the printed form of a byte.
 fn push_printed(out: &mut String, byte: u8) -> Result<(), AllocError>
     ensures { OnOk result (string_bytes out.new ≡ string_bytes out.old ++ printed_byte byte) }
 {
@@ -240,7 +240,7 @@ fn push_printed(out: &mut String, byte: u8) -> Result<(), AllocError>
     Ok(())
 }
 
-// The upper case digit of a number below 16.
+// Returns the upper case hexadecimal digit for a number below 16.
 fn hex_digit(digit: u8) -> char
     requires { digit < 16 }
     ensures { result ≡ hex_digit digit }

@@ -1,4 +1,4 @@
-//! Why bytes are no definition.
+//! The reasons why bytes denote no definition.
 
 ghost use Rattle.std.specs.Prelude.{◌≡◌};
 ghost use Rattle.definition_format.specs.declared.faults.ReadError.TheVariants.{OutOfMemory};
@@ -10,66 +10,68 @@ use signal_core::SignalFault;
 use std::alloc::{AllocError, AllocFailed};
 use type_tree::TypeLimit;
 
-/// What a definition has too much of.
+/// A limit that a definition exceeds.
 #[derive(Clone, Copy, Debug, PartialEq, Eq)]
 pub enum DefinitionLimit {
-    /// More than 256 types, with the two that are there from the beginning.
+    /// More than 256 types, counting the two that always exist.
     Types,
     /// A class that would be more than 16 deep under `GObject`, which is 1 deep.
     Depth,
-    /// More than 64 properties of one class, the inherited ones among them.
+    /// More than 64 properties of one class, counting the inherited ones.
     Properties,
-    /// More than 64 signals of one class and its ancestors, `notify` and those of interfaces not counted, or of one interface.
+    /// More than 64 signals of one class with its ancestors, not counting `notify` and those of interfaces, or more than 64 of one
+    /// interface.
     Signals,
     /// More than 256 programs.
     Programs,
-    /// More than 512 places: objects and prototypes.
+    /// More than 512 objects and prototypes, which together are the places.
     Places,
-    /// More objects than the definition allows to live at a time, or a limit of them that is not 1 to 4,096.
+    /// More objects than the definition allows to live at a time, or a limit of objects that is not from 1 to 4,096.
     Objects,
     /// A limit of handlers above 16.
     Handlers,
 }
 
-/// Why a type is not added, in the order in which the tests are made, with the names of types.
+/// The cause for which a type is not added, in the order in which the tests are made.
 #[derive(Debug, Drop)]
 pub enum TypeCause {
-    /// The name is not one of three characters or more: an ASCII letter or `_`, then letters, digits, `-`, `_` and `+`.
+    /// The name is not valid: it must have three characters or more, first an ASCII letter or `_`, then letters, digits, `-`, `_` and `+`.
     BadName,
-    /// A type of that name is there.
+    /// There is already a type of this name.
     Duplicate,
-    /// A parent, interface or required type is not there, or is of another sort.
+    /// A parent, interface or required type does not exist, or is of another sort.
     UnknownParent,
     /// The parent is final.
     FinalParent,
-    /// An interface requires the type of this name, and the class would not be one.
+    /// An interface requires the type of this name, which the class would not be.
     Prerequisite(String),
     /// The tree is full, or the class would be too deep.
     Limit(TypeLimit),
-    /// An object is of a class that has none.
+    /// An object is of an abstract class.
     Abstract,
 }
 
-/// Why a property is not installed or given no value, why a class does not have it as its interface has it, or why a signal is not declared.
+/// The cause for which a property is not installed, cannot be given a value or differs from that of an interface, or for which a signal is
+/// not declared.
 #[derive(Debug, Drop)]
 pub enum SpecCause {
-    /// A test of the installation refuses it.
+    /// The property fails a test of its installation.
     Install(SpecFault),
-    /// A test of the declaration refuses a signal.
+    /// The signal fails a test of its declaration.
     Declare(SignalFault),
     /// A value is given to a property that cannot be written.
     NotWritable,
-    /// The class does not have its interface's property of this name.
+    /// The class lacks the property of this name, which an interface of it has.
     OverrideMissing(String),
-    /// The class has the property of this name with another kind, range, default, weakness or flags than its interface.
+    /// The class has the property of this name with another kind, range, default, weakness or flags than its interface has.
     OverrideDiffers(String),
 }
 
-/// Why bytes denote no definition. A path is a JSON pointer (RFC 6901). The fault is the first one in document order, and at one path the first
-/// one in this order.
+/// The reason why bytes denote no definition. A path is a JSON pointer (RFC 6901). Of several faults the first in document order is
+/// reported, and of several at one path the first in this order.
 #[derive(Debug, Drop)]
 pub enum DefinitionFault {
-    /// More than 4 MiB.
+    /// There are more than 4 MiB.
     TooLong,
     /// The bytes are not UTF-8.
     NotUtf8,
@@ -77,29 +79,29 @@ pub enum DefinitionFault {
     NotJson,
     /// A member is missing, unknown or of the wrong sort.
     Shape(String),
-    /// At the path there is a name that nothing has.
+    /// The name at the path names nothing.
     Unknown(String, String),
-    /// An earlier entry of the section has the name, an ancestor has the property, the object's property is named already, or a signal's name is
-    /// declared more than once among a class, its ancestors and the interfaces that it is.
+    /// The name is taken. An earlier entry of the section has it, an ancestor has the property, the object names the property twice, or a
+    /// signal's name is declared more than once among a class, its ancestors and its interfaces.
     Duplicate(String),
-    /// A type is not added, or has no objects.
+    /// A type is not added, or can have no objects.
     BadType(String, TypeCause),
-    /// A property is not installed or given no value, the class does not have it as its interface has it, or a signal is not declared.
+    /// A property is not installed, cannot be given a value or differs from that of an interface, or a signal is not declared.
     BadSpec(String, SpecCause),
-    /// At the path there is no program.
+    /// The value at the path is no program.
     BadProgram(String, ProgramFault),
-    /// At the path there is no value of the kind.
+    /// The value at the path is not one of the kind.
     ValueFault(String, JsonFault),
-    /// An object is given to a property that constructions alone set, before it is built.
+    /// A property that only constructions set is given an object that is not built yet.
     ForwardConstructOnly(String),
-    /// There is too much of something.
+    /// A limit is exceeded.
     Limit(DefinitionLimit),
 }
 
-/// Why a read gave no definition.
+/// The reason why reading bytes gave no definition.
 #[derive(Debug, Drop)]
 pub enum ReadError {
-    /// No memory was found.
+    /// Memory was refused.
     OutOfMemory,
     /// The bytes denote no definition.
     Refused(DefinitionFault),

@@ -1,6 +1,7 @@
-//! What the bytes of a definition and of an event line denote: definitions, events, and why some bytes denote none.
+//! Definitions, events and refusals as data, with specs that say what the bytes of a definition or of an event line denote.
 //!
-//! The specs say it, as functions of the bytes. The crates that read have them as their contracts, and laws are proved of them alone.
+//! The specs are functions of the bytes. The crates that read have them as their contracts, and the laws about reading are proved of them
+//! alone.
 #![tactic(auto)]
 
 mod event_faults;

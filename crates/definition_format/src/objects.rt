@@ -1,74 +1,74 @@
-//! An object of a definition, what is given to it, and the programs that it runs for signals.
+//! Objects of a definition, their given values, bindings and handlers.
 
 use bindings::BindingFlags;
 use g_values::Value;
 use type_tree::TypeId;
 use ui_machine::{Place, ProgramId, Slot};
 
-/// What a definition or an event gives: a value itself, or an object of the definition.
+/// A value that a definition or an event gives, which is a plain value or an object of the definition.
 #[derive(Debug, Drop)]
 pub enum Given {
     Value(Value),
-    /// The object of this place.
+    /// The object at this place.
     Object(Place),
 }
 
-/// What is given to a property.
+/// A value that is given to a property.
 #[derive(Debug, Drop)]
 pub struct GivenValue {
-    /// The property, by its slot in the object's class.
+    /// The slot of the property in the object's class.
     pub slot: Slot,
     pub given: Given,
 }
 
-/// A signal of an object, with the program that it runs.
+/// A handler that an object has for a signal: the program that it runs.
 #[derive(Debug, Drop)]
 pub struct Attached {
-    /// The signal, by its name.
+    /// The name of the signal.
     pub signal: String,
-    /// The detail for which it runs. Without one it runs for all.
+    /// The detail for which the program runs. Without one it runs for all details.
     pub detail: Option<String>,
-    /// The program, by its number.
+    /// The number of the program.
     pub program: ProgramId,
-    /// Whether it runs behind the class handler.
+    /// Whether the program runs after the class handler.
     pub after: bool,
-    /// Whether the data comes first among what the program is given, and the object last.
+    /// Whether the program is given the data first and the object last.
     pub swapped: bool,
-    /// The object that is the data, by its place.
+    /// The place of the object that is the data.
     pub with: Option<Place>,
 }
 
 /// A binding between a property of one object and one of another.
 #[derive(Debug, Drop)]
 pub struct Bind {
-    /// What programs end it by, if it has a name.
+    /// The name by which programs end the binding, if it has one.
     pub name: Option<String>,
-    /// The object of the source, by its place.
+    /// The place of the source object.
     pub source: Place,
-    /// The property that is bound, by its slot in the source's class.
+    /// The slot of the bound property in the source's class.
     pub source_slot: Slot,
-    /// The object that has the binding among its properties, by its place.
+    /// The place of the target object, which has the binding among its properties.
     pub target: Place,
-    /// The property that is bound to the source's, by its slot in the target's class.
+    /// The slot of the bound property in the target's class.
     pub target_slot: Slot,
     pub flags: BindingFlags,
-    /// The number of its entry among those of the target's properties.
+    /// The number of the binding's entry among the properties of the target.
     pub at: usize,
 }
 
-/// What an object has under its id: its class, its parent, if it is a child, its peer, if its class has a shape, the given values in the given
-/// order, and its signals.
+/// An object of the definition without its id: its class, its parent if it is a child, its peer if its class has a shape, the given values
+/// in the given order, and its signals.
 #[derive(Drop)]
 pub struct ObjectBody {
     pub class: TypeId,
     pub parent: Option<Place>,
-    /// The name of its peer; no more than one.
+    /// The name of its peer. There is at most one.
     pub peers: Vec<String>,
     pub given: Vec<GivenValue>,
     pub signals: Vec<Attached>,
 }
 
-/// What a prototype has under its id: its class, the given values in the given order, and the peers that its objects get.
+/// A prototype without its id: its class, the given values in the given order, and the peers that its objects get.
 #[derive(Drop)]
 pub struct PrototypeBody {
     pub class: TypeId,

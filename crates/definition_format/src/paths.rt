@@ -1,6 +1,6 @@
-//! Where the values of a document are.
+//! Paths of the values in a document.
 
-/// Where a value is: at a path, or as an entry of the list that is there. Its text is made for a refusal alone.
+/// The path of a value: `base` itself, or entry `index` of the list at `base`. Its text is only made for a refusal.
 #[derive(Clone, Copy)]
 pub struct Path<'a> {
     pub base: &'a str,

@@ -1,4 +1,4 @@
-//! The channels that bindings lead to as the build makes them, and those that are bound both ways.
+//! The channels that bindings lead to when the build makes them, and the pairs of channels that are bound both ways.
 
 ghost use Rattle.std.specs.Prelude.{◌≡◌, ◌++◌, ◌∷◌, [], map, IfOk, OnOk};
 ghost use Rattle.definition_format.specs.Meaning.{bind_view};
@@ -14,14 +14,14 @@ use definitions::Definition;
 use std::alloc::{AllocError, Global};
 use ui_machine::{Channel, Member};
 
-/// Two properties that are bound both ways, the first in the report first.
+/// Two properties that are bound both ways, in the order of the report.
 #[derive(Clone, Copy, Debug, PartialEq, Eq)]
 pub struct Pair {
     pub first: Channel,
     pub second: Channel,
 }
 
-// The property that a binding leads from.
+// Returns the property that a binding leads from.
 fn source_of(binding: &Bind) -> Channel
     ensures { channel_of result ≡ source_of (bind_view binding.now) }
 {
@@ -31,7 +31,7 @@ fn source_of(binding: &Bind) -> Channel
     }
 }
 
-// The property that a binding leads to.
+// Returns the property that a binding leads to.
 fn target_of(binding: &Bind) -> Channel
     ensures { channel_of result ≡ target_of (bind_view binding.now) }
 {
@@ -41,7 +41,7 @@ fn target_of(binding: &Bind) -> Channel
     }
 }
 
-// Whether the target of a binding comes before its source in the report.
+// Returns whether the target of a binding comes before its source in the report.
 fn is_turned(binding: &Bind) -> bool
     ensures { result ≡ is_before (target_of (bind_view binding.now)) (source_of (bind_view binding.now)) }
 {
@@ -49,7 +49,7 @@ fn is_turned(binding: &Bind) -> bool
         || binding.target.0 == binding.source.0 && binding.target_slot < binding.source_slot
 }
 
-// The two ends of a binding, the first in the report first.
+// Returns the two ends of a binding, in the order of the report.
 fn pair_of(binding: &Bind) -> Pair
     ensures { pair_view result ≡ in_order (source_of (bind_view binding.now)) (target_of (bind_view binding.now)) }
 {
@@ -67,7 +67,7 @@ fn pair_of(binding: &Bind) -> Pair
     }
 }
 
-// The target of a binding that is carried out as it is made.
+// Adds the target of a binding that makes a transfer when it is made.
 fn add_created(channels: &mut Vec<Channel>, binding: &Bind) -> Result<(), AllocError>
     ensures { OnOk result (channels_of channels.new.items ≡ channels_of channels.old.items ++ created_by (bind_view binding.now ∷ [])) }
 {
@@ -78,7 +78,7 @@ fn add_created(channels: &mut Vec<Channel>, binding: &Bind) -> Result<(), AllocE
     Ok(())
 }
 
-// The ends of a binding that goes both ways.
+// Adds the ends of a binding that goes both ways.
 fn add_pair(pairs: &mut Vec<Pair>, binding: &Bind) -> Result<(), AllocError>
     ensures { OnOk result (pairs_view pairs.new.items ≡ pairs_view pairs.old.items ++ pairs_of (bind_view binding.now ∷ [])) }
 {
@@ -89,11 +89,11 @@ fn add_pair(pairs: &mut Vec<Pair>, binding: &Bind) -> Result<(), AllocError>
     Ok(())
 }
 
-/// The targets of the bindings that are carried out as the build makes them, in document order.
+/// Returns the targets of the bindings that make a transfer when the build makes them, in document order.
 ///
 /// # Errors
 ///
-/// `AllocError` where no memory is found.
+/// `AllocError` if memory is refused.
 pub fn created(alloc: Global, definition: &Definition) -> Result<Vec<Channel>, AllocError>
     ensures { IfOk result (λ channels. channels_of channels.items ≡ created_by definition.now.bindings) }
 {
@@ -107,11 +107,11 @@ pub fn created(alloc: Global, definition: &Definition) -> Result<Vec<Channel>, A
     Ok(channels)
 }
 
-/// The properties that are bound both ways, in document order.
+/// Returns the pairs of properties that are bound both ways, in document order.
 ///
 /// # Errors
 ///
-/// `AllocError` where no memory is found.
+/// `AllocError` if memory is refused.
 pub fn pairs(alloc: Global, definition: &Definition) -> Result<Vec<Pair>, AllocError>
     ensures { IfOk result (λ pairs. pairs_view pairs.items ≡ pairs_of definition.now.bindings) }
 {

@@ -13,11 +13,11 @@ use std::collections::BTreeMap;
 use std::marker::Model;
 use ui_machine::{Channel, Member};
 
-/// The channels of a definition, numbered in the order of the report. A contract sees the list of them.
+/// The channels of a definition, numbered in the order of the report. The contracts see a list of them.
 #[derive(Drop)]
 pub struct ChannelNumbers {
     channels: Vec<Channel>,
-    // The number of each, by its place, what sort of channel it is, and its slot or number there.
+    // The number of each channel, by its place, its sort, and its slot or number there.
     numbers: BTreeMap<(u16, u16, u16), u32>,
 }
 
@@ -35,7 +35,7 @@ impl Model for ChannelNumbers {
     ghost invariant = { λ n. AreNumbered (channels_of n.channels.items) n.numbers (length n.channels.items) × AreCountable (channels_of n.channels.items) };
 }
 
-// What no two channels share.
+// Returns a key that no two channels share.
 fn key_of(channel: &Channel) -> (u16, u16, u16)
     ensures { result ≡ key_of (channel_of channel.now) }
 {
@@ -47,7 +47,7 @@ fn key_of(channel: &Channel) -> (u16, u16, u16)
     }
 }
 
-// One of some channels.
+// Returns the channel at an index of a slice.
 fn channel_at(channels: &[Channel], number: usize) -> Channel
     requires { number < length channels.now }
     ensures { slice_get (channels_of channels.now) number ≡ Some (channel_of result) }
@@ -55,7 +55,7 @@ fn channel_at(channels: &[Channel], number: usize) -> Channel
     channels[number]
 }
 
-// The numbers of some channels.
+// Maps the key of each channel to its number.
 fn numbers_of(
     alloc: Global,
     channels: &[Channel],
@@ -72,11 +72,11 @@ fn numbers_of(
 }
 
 impl ChannelNumbers {
-    /// The channels of a definition.
+    /// Numbers the channels of a definition.
     ///
     /// # Errors
     ///
-    /// `AllocError` where no memory is found.
+    /// `AllocError` if memory is refused.
     pub fn new(alloc: Global, lookups: &Lookups<'_>) -> Result<ChannelNumbers, AllocError>
         ensures { IfOk result (λ numbers. numbers ≡ channels lookups.now) }
     {
@@ -85,7 +85,7 @@ impl ChannelNumbers {
         Ok(ChannelNumbers { channels, numbers })
     }
 
-    /// How many there are.
+    /// Returns the number of channels.
     pub fn count(&self) -> usize
         ensures count { result ≡ length self.now }
         ensures few { result ≤ 33554432 }
@@ -94,7 +94,7 @@ impl ChannelNumbers {
         self.channels.len()
     }
 
-    /// The channel of a number.
+    /// Returns the channel with this number.
     pub fn channel(&self, number: usize) -> Channel
         requires { number < length self.now }
         ensures { slice_get self.now number ≡ Some (channel_of result) }
@@ -102,7 +102,7 @@ impl ChannelNumbers {
         channel_at(self.channels.as_slice(), number)
     }
 
-    /// The number of a channel, if it is one of the definition's.
+    /// Returns the number of a channel, or `None` if the definition has no such channel.
     pub fn number(&self, channel: &Channel) -> Option<u32>
         ensures number { result ≡ number_of self.now (channel_of channel.now) }
         ensures found { IfSome result (λ number. slice_get self.now number ≡ Some (channel_of channel.now)) }

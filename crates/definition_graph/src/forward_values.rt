@@ -1,4 +1,4 @@
-//! What the forward values of objects raise: those that are set once all objects are built.
+//! The channels that forward values raise. A forward value is an object that is given to a property and set once all objects are built.
 
 ghost use Rattle.std.specs.Prelude.{◌≡◌, ◌++◌, ◌∷◌, [], Some, map, IfOk, OnOk};
 ghost use Rattle.ui_machine.specs.Definition.Lookups.{place_at};
@@ -17,7 +17,7 @@ use std::alloc::{AllocError, Global};
 use type_tree::TypeId;
 use ui_machine::{Channel, Member, Place};
 
-// A given value that is a forward one, where its property is readable.
+// Adds the property of a given value, if the value is a forward one and the property is readable.
 fn add_forward(
     channels: &mut Vec<Channel>,
     lookups: &Lookups<'_>,
@@ -42,7 +42,7 @@ fn add_forward(
     Ok(())
 }
 
-// Those of some given values.
+// Adds the readable properties of the forward values among some given values.
 fn add_forwards(
     channels: &mut Vec<Channel>,
     lookups: &Lookups<'_>,
@@ -59,7 +59,7 @@ fn add_forwards(
     Ok(())
 }
 
-// Those of a place. Nothing is built of a prototype.
+// Adds the readable properties of the forward values of a place. A prototype has none, because nothing is built of it.
 fn add_forwards_at(
     channels: &mut Vec<Channel>,
     lookups: &Lookups<'_>,
@@ -75,11 +75,11 @@ fn add_forwards_at(
     add_forwards(channels, lookups, place, entry.class, entry.given)
 }
 
-/// What the forward values of objects raise, in document order.
+/// Returns the channels that the forward values of objects raise, in document order.
 ///
 /// # Errors
 ///
-/// `AllocError` where no memory is found.
+/// `AllocError` if memory is refused.
 pub fn forwards(alloc: Global, lookups: &Lookups<'_>) -> Result<Vec<Channel>, AllocError>
     ensures { IfOk result (λ channels. channels_of channels.items ≡ forwards_from lookups.now 0 lookups.now.places) }
 {

@@ -1,4 +1,4 @@
-//! The channels' graph of a definition: what may be raised at the places of its objects.
+//! The channels of a definition's graph: what may be raised at the places of its objects.
 //!
 //! A channel is the notification of a readable property of a place, a signal of a place, or the end of a construction there. Channels are
 //! numbered in the order of the report.

@@ -1,4 +1,5 @@
-//! What the making of an object raises: the end of its construction, and the notifications of the properties that are set with it.
+//! The channels that the making of an object raises: the end of its construction, and the notifications of the properties that are set with
+//! it.
 
 ghost use Rattle.std.specs.Prelude.{◌≡◌, ◌++◌, ◌∷◌, Some, map, IfOk, OnOk};
 ghost use Rattle.std.specs.List.{list_any};
@@ -18,7 +19,7 @@ use std::alloc::{AllocError, Global};
 use type_tree::TypeId;
 use ui_machine::{Channel, Member, Place, Slot};
 
-/// Whether a given value is an object that is built later, or the place's own.
+/// Returns whether a given value is an object that is built later, or the one at this place itself.
 pub(crate) fn is_forward(place: Place, given: &Given) -> bool
     ensures { result ≡ is_forward place.0 (given_view given.now) }
 {
@@ -28,14 +29,14 @@ pub(crate) fn is_forward(place: Place, given: &Given) -> bool
     }
 }
 
-// Whether something is given to a property with the construction.
+// Returns whether a property is given a value that is set with the construction.
 fn is_given(place: Place, slot: Slot, given: &[GivenValue]) -> bool
     ensures { result ≡ list_any (gives place.0 slot) given.now }
 {
     given.iter().any(|value| value.slot == slot && !is_forward(place, &value.given))
 }
 
-// A property, where it is set with the construction, and readable.
+// Adds a property if it is readable and set with the construction.
 fn add_built(
     channels: &mut Vec<Channel>,
     lookups: &Lookups<'_>,
@@ -61,7 +62,7 @@ fn add_built(
     Ok(())
 }
 
-// The readable properties that are set with the construction.
+// Adds the readable properties that are set with the construction.
 fn add_all_built(
     channels: &mut Vec<Channel>,
     lookups: &Lookups<'_>,
@@ -79,12 +80,12 @@ fn add_all_built(
     Ok(())
 }
 
-/// What the making of a place's object raises: the end of its construction, where that runs a program, and the notifications of the readable
-/// properties that are construct, construct-only, or given by a value that is there already.
+/// Returns the channels that the making of an object at a place raises: the end of its construction, if that runs a program, and the
+/// notifications of the readable properties that are construct, construct-only, or given a value that already exists then.
 ///
 /// # Errors
 ///
-/// `AllocError` where no memory is found.
+/// `AllocError` if memory is refused.
 pub fn making(
     alloc: Global,
     lookups: &Lookups<'_>,

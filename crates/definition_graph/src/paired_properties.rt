@@ -1,4 +1,4 @@
-//! The paired properties of places by number.
+//! The numbers of the paired properties of each place.
 
 ghost use Rattle.std.specs.Prelude.{◌≡◌, ◌++◌, ◌≤◌, None, map, length, IfOk, OnOk};
 ghost use Rattle.ui_machine.specs.Seq.{listed, read};
@@ -11,7 +11,7 @@ use operand_types::Lookups;
 use std::alloc::{AllocError, Global};
 use ui_machine::{Channel, Member, Place, Slot};
 
-// The other end of the pair of a channel.
+// Returns the other end of the pair of a channel, or `None` if it is in no pair.
 fn other_of(others: &[Option<u32>], number: u32) -> Option<u32>
     ensures { result ≡ read None others.now number }
 {
@@ -19,7 +19,7 @@ fn other_of(others: &[Option<u32>], number: u32) -> Option<u32>
     if at < others.len() { others[at] } else { None }
 }
 
-// A property of a place, where it is in a pair.
+// Adds a property of a place if it is in a pair.
 fn add_paired(
     paired: &mut Vec<u32>,
     numbers: &ChannelNumbers,
@@ -40,7 +40,7 @@ fn add_paired(
     Ok(())
 }
 
-// How many properties a place has.
+// Returns the number of properties of a place.
 fn slots_at(lookups: &Lookups<'_>, place: Place) -> usize
     ensures slots { result ≡ slots_at lookups.now place.0 }
     ensures few { result ≤ 16448 }
@@ -51,7 +51,7 @@ fn slots_at(lookups: &Lookups<'_>, place: Place) -> usize
     }
 }
 
-// The paired properties of a place.
+// Returns the numbers of the paired properties of a place.
 fn paired_at(
     alloc: Global,
     lookups: &Lookups<'_>,
@@ -68,11 +68,11 @@ fn paired_at(
     Ok(paired)
 }
 
-/// Of each place the numbers of its paired properties, where these are the numbers of the other ends of pairs.
+/// Returns the numbers of the paired properties of each place, where `others` has the other end of each channel's pair.
 ///
 /// # Errors
 ///
-/// `AllocError` where no memory is found.
+/// `AllocError` if memory is refused.
 pub fn paired_places(
     alloc: Global,
     lookups: &Lookups<'_>,

@@ -1,4 +1,4 @@
-//! The ends of pairs by number.
+//! The pairs of channels, by the numbers of their ends.
 
 ghost use Rattle.std.specs.Prelude.{◌≡◌, ◌+◌, ◌<◌, [], drop, length, slice_get, Some, IfOk};
 ghost use Rattle.law_typing.specs.Graph.{pairs_of};
@@ -10,14 +10,14 @@ use crate::channel_numbers::ChannelNumbers;
 use operand_types::Lookups;
 use std::alloc::{AllocError, Global};
 
-/// The pairs of a definition's channels by number: of each channel the first end of its pair, or itself, and the other end.
+/// The pairs of a definition's channels by number: for each channel the first end of its pair, or the channel itself, and the other end.
 #[derive(Debug, Drop)]
 pub struct PairedNumbers {
     pub firsts: Vec<u32>,
     pub others: Vec<Option<u32>>,
 }
 
-// One of some pairs.
+// Returns the pair at an index of a slice.
 fn pair_at(pairs: &[Pair], at: usize) -> Pair
     requires { at < length pairs.now }
     ensures { slice_get (pairs_view pairs.now) at ≡ Some (pair_view result) }
@@ -26,7 +26,7 @@ fn pair_at(pairs: &[Pair], at: usize) -> Pair
 }
 
 impl PairedNumbers {
-    // Channels that are in no pair.
+    // Creates numbers for channels of which none is in a pair.
     fn alone(alloc: Global, numbers: &ChannelNumbers) -> Result<PairedNumbers, AllocError>
         ensures { IfOk result (λ p. ArePaired numbers.now [] p.firsts.items p.others.items) }
     {
@@ -39,7 +39,7 @@ impl PairedNumbers {
         Ok(PairedNumbers { firsts, others })
     }
 
-    // A pair in front of those that are there already. What a later one says of its ends is forgotten.
+    // Adds pair `at`, which comes before those that are there already, and overrides what these say of its ends.
     fn add(&mut self, numbers: &ChannelNumbers, pairs: &[Pair], at: usize)
         requires within { at < length pairs.now }
         requires later { ArePaired numbers.now (drop (at + 1) (pairs_view pairs.now)) self.old.firsts.items self.old.others.items }
@@ -60,11 +60,11 @@ impl PairedNumbers {
     }
 }
 
-/// The pairs of a definition by number.
+/// Returns the pairs of a definition by number.
 ///
 /// # Errors
 ///
-/// `AllocError` where no memory is found.
+/// `AllocError` if memory is refused.
 pub fn paired_numbers(
     alloc: Global,
     lookups: &Lookups<'_>,

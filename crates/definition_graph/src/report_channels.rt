@@ -12,7 +12,7 @@ use std::alloc::{AllocError, Global};
 use type_tree::TypeId;
 use ui_machine::{Channel, Member, Place, Slot};
 
-// Whether a class or an ancestor of it names a program for its objects once they are constructed.
+// Returns whether a class or one of its ancestors names a program for its objects once they are constructed.
 fn runs_constructed(definition: &Definition, class: TypeId) -> bool
     ensures { result ≡ is_filled (programs_of (constructed_runs definition.now class)) }
 {
@@ -25,7 +25,7 @@ fn runs_constructed(definition: &Definition, class: TypeId) -> bool
     }
 }
 
-/// The end of a construction, where it runs a program.
+/// Adds the end of a construction if it runs a program.
 pub(crate) fn add_constructed(
     channels: &mut Vec<Channel>,
     lookups: &Lookups<'_>,
@@ -43,7 +43,7 @@ pub(crate) fn add_constructed(
     Ok(())
 }
 
-// A property, where it is there and readable.
+// Adds a property if it exists and is readable.
 fn add_property(
     channels: &mut Vec<Channel>,
     lookups: &Lookups<'_>,
@@ -65,7 +65,7 @@ fn add_property(
     Ok(())
 }
 
-// The readable properties of a place of a class.
+// Adds the readable properties of a place with this class.
 fn add_properties(
     channels: &mut Vec<Channel>,
     lookups: &Lookups<'_>,
@@ -81,7 +81,7 @@ fn add_properties(
     Ok(())
 }
 
-// The signals of a place of a class, but for `notify`.
+// Adds the signals of a place with this class, all but `notify`.
 fn add_signals(
     channels: &mut Vec<Channel>,
     lookups: &Lookups<'_>,
@@ -98,7 +98,7 @@ fn add_signals(
     Ok(())
 }
 
-// The channels of a place.
+// Adds the channels of a place.
 fn add_channels_at(
     channels: &mut Vec<Channel>,
     lookups: &Lookups<'_>,
@@ -116,12 +116,12 @@ fn add_channels_at(
     Ok(())
 }
 
-/// The channels of a definition, in the order of the report: place by place, and at each the end of a construction that runs a program, the
-/// readable properties, and the signals but `notify`.
+/// Returns the channels of a definition in the order of the report. They go place by place, and at each come the end of a construction that
+/// runs a program, the readable properties, and the signals except `notify`.
 ///
 /// # Errors
 ///
-/// `AllocError` where no memory is found.
+/// `AllocError` if memory is refused.
 pub fn channels(alloc: Global, lookups: &Lookups<'_>) -> Result<Vec<Channel>, AllocError>
     ensures channels { IfOk result (λ found. channels_of found.items ≡ channels lookups.now) }
     ensures few { IfOk result (λ found. length found.items ≤ 33554432) }

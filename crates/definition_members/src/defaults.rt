@@ -1,4 +1,4 @@
-//! The default of a property.
+//! Reads the defaults of properties.
 
 ghost use Rattle.std.specs.Prelude.{◌≡◌, codes};
 ghost use Rattle.serde_json.specs.View.{view};
@@ -17,11 +17,11 @@ use param_specs::{Spec, SpecFault, is_valid_default};
 use serde_json::Value;
 use type_tree::TypeTree;
 
-/// The value of a kind that is at a member.
+/// Reads `value`, the member `key` of `part`, as a value of this kind.
 ///
 /// # Errors
 ///
-/// `Refused` with the first fault in document order, and `OutOfMemory` if memory is refused.
+/// Returns `ValueFault` at the member if it is no value of the kind, or `OutOfMemory` if memory is refused.
 pub fn value_of(
     part: Part<'_>,
     key: &str,
@@ -39,11 +39,11 @@ pub fn value_of(
     }
 }
 
-/// The default of a property of this kind: the kind's zero value where none is given.
+/// Reads the `default` of a property of this kind, which is the kind's zero value if it is absent.
 ///
 /// # Errors
 ///
-/// `Refused` with the first fault in document order, and `OutOfMemory` if memory is refused.
+/// Returns `ValueFault` at the member if it is no value of the kind, or `OutOfMemory` if memory is refused.
 pub fn default_of(
     part: Part<'_>,
     types: &TypeTree,
@@ -58,11 +58,11 @@ pub fn default_of(
     }
 }
 
-/// Tests that the default of a property may be in it.
+/// Checks that a property may have its default value.
 ///
 /// # Errors
 ///
-/// `Refused` with the first fault in document order, and `OutOfMemory` if memory is refused.
+/// Returns `BadSpec` with `DefaultInvalid` at `default` if it may not, or `OutOfMemory` if memory is refused.
 pub fn check_default(part: Part<'_>, types: &TypeTree, spec: &Spec) -> Result<(), ReadError>
     requires { IsKnown types.now spec.now.kind }
     ensures { Gives (λ _. tt) result (check_default (under (path_of part.entry.path) (codes "default")) types.now (spec_view spec.now)) }
@@ -77,11 +77,11 @@ pub fn check_default(part: Part<'_>, types: &TypeTree, spec: &Spec) -> Result<()
     Ok(())
 }
 
-/// The same of a property whose kind has no range.
+/// Checks that a property may have its default if its kind is not one of whole numbers. These have a range, which is read later.
 ///
 /// # Errors
 ///
-/// `Refused` with the first fault in document order, and `OutOfMemory` if memory is refused.
+/// Returns `BadSpec` with `DefaultInvalid` at `default` if it may not, or `OutOfMemory` if memory is refused.
 pub fn check_unranged(part: Part<'_>, types: &TypeTree, spec: &Spec) -> Result<(), ReadError>
     requires { IsKnown types.now spec.now.kind }
     ensures { Gives (λ _. tt) result (check_unranged (under (path_of part.entry.path) (codes "default")) types.now (spec_view spec.now)) }

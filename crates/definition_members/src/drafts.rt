@@ -1,4 +1,4 @@
-//! Types with their properties and signals, while they are read.
+//! The types of a definition with their properties and signals while they are read.
 
 ghost use Rattle.std.specs.Prelude.{◌≡◌, ◌<◌, codes, length};
 ghost use Rattle.serde_json.specs.View.{view};
@@ -18,7 +18,7 @@ use param_specs::SpecTable;
 use signal_core::SignalTable;
 use type_tree::{TypeId, TypeTree};
 
-/// Types with their properties and signals, while they are read.
+/// The types with their properties and signals that are read so far.
 #[derive(Drop)]
 pub struct Draft {
     pub types: TypeTree,
@@ -26,7 +26,7 @@ pub struct Draft {
     pub signals: SignalTable,
 }
 
-// Gives a type the properties of its entry.
+// Reads the properties of a type from its entry.
 #[tactic(auto, unfolding(definition_format::specs::Denoted::Drafts::properties_at))]
 fn give_properties(
     part: Part<'_>,
@@ -48,7 +48,7 @@ fn give_properties(
     Ok(())
 }
 
-// Gives a type the signals of its entry.
+// Reads the signals of a type from its entry.
 #[tactic(auto, unfolding(definition_format::specs::Denoted::Signals::signals_at))]
 fn give_signals(
     part: Part<'_>,
@@ -72,11 +72,11 @@ fn give_signals(
     Ok(())
 }
 
-/// Gives a type the properties and signals of its entry.
+/// Reads the properties and signals of a type from its entry.
 ///
 /// # Errors
 ///
-/// `Refused` with the first fault in document order, and `OutOfMemory` if memory is refused.
+/// Returns `Refused` with the first fault in document order, or `OutOfMemory` if memory is refused.
 #[tactic(auto, unfolding(definition_format::specs::Denoted::Drafts::given_at))]
 pub fn give_members(
     part: Part<'_>,

@@ -1,4 +1,4 @@
-//! The members of types, read from a definition's document: properties with their flags, ranges and defaults, and signals.
+//! Reads the members of types from a definition's document: properties with their flags, ranges and defaults, and signals.
 #![tactic(auto)]
 
 pub mod defaults;

@@ -1,4 +1,4 @@
-//! The properties of a class, read from a definition.
+//! Reads the properties of classes and interfaces.
 
 ghost use Rattle.std.specs.Prelude.{◌≡◌, codes, is_some, IfOk};
 ghost use Rattle.std.specs.Rc.{rc_str_bytes};
@@ -26,7 +26,7 @@ use type_tree::{TypeId, TypeTree, is_property_name};
 
 const MEMBERS: [&str; 7] = ["name", "kind", "flags", "default", "min", "max", "weak"];
 
-// The spec of a property with this default and range.
+// Returns the spec of a property with this default and range, which is not weak.
 fn property_spec(
     name: RcStr,
     kind: Kind,
@@ -47,7 +47,7 @@ fn property_spec(
     }
 }
 
-// The spec with another range.
+// Returns the spec with another range.
 fn with_range(spec: Spec, range: NumberRange) -> Spec
     ensures range { spec_view result ≡ record (spec_view spec) { low = range.min; high = range.max } }
     ensures kind { result.kind ≡ spec.kind }
@@ -59,7 +59,7 @@ fn with_range(spec: Spec, range: NumberRange) -> Spec
     }
 }
 
-// Tests that a class has room for a further property.
+// Checks that a class has room for another property.
 fn check_room(types: &TypeTree, specs: &SpecTable, class: TypeId) -> Result<(), ReadError>
     ensures { Gives (λ _. tt) result (room_for_property (specs_of types.now specs.now class)) }
 {
@@ -69,7 +69,7 @@ fn check_room(types: &TypeTree, specs: &SpecTable, class: TypeId) -> Result<(), 
     Ok(())
 }
 
-// Whether an ancestor of a class has a property of this name.
+// Returns whether an ancestor of a class has a property of this name.
 fn is_inherited(types: &TypeTree, specs: &SpecTable, class: TypeId, name: &str) -> bool
     ensures { result ≡ is_some (slot_named (inherited_of (specs_of types.now specs.now) (parent_of types.now class)) name.now) }
 {
@@ -79,7 +79,7 @@ fn is_inherited(types: &TypeTree, specs: &SpecTable, class: TypeId, name: &str) 
     }
 }
 
-// Tests that a class has no property of this name.
+// Checks that a class has no property of this name, first among the inherited ones.
 fn check_new_name(
     part: Part<'_>,
     types: &TypeTree,
@@ -103,7 +103,7 @@ fn check_new_name(
     Ok(())
 }
 
-// Tests the name of a property beside those of its class.
+// Checks that a name may be that of a property, and that its class has no property of this name.
 fn check_name(
     part: Part<'_>,
     types: &TypeTree,
@@ -123,7 +123,7 @@ fn check_name(
     check_new_name(part, types, specs, class, name)
 }
 
-// The spec of a property of this name and kind, with these flags.
+// Reads the default and the range of a property of this name, kind and flags, and returns its spec.
 #[tactic(auto, unfolding(definition_format::specs::Denoted::Properties::valued_at))]
 fn valued(
     part: Part<'_>,
@@ -146,7 +146,7 @@ fn valued(
     Ok(spec)
 }
 
-// Whether a property is weak, which is said of kinds of objects alone.
+// Reads `weak`, which may only be given for kinds of objects.
 fn weak_of(part: Part<'_>, kind: &Kind) -> Result<bool, ReadError>
     ensures { Gives (λ b. b) result (weak_at (path_of part.entry.path) (kind_view kind.now) (view part.entry.value.now)) }
 {
@@ -156,11 +156,11 @@ fn weak_of(part: Part<'_>, kind: &Kind) -> Result<bool, ReadError>
     part.truth("weak")
 }
 
-/// The spec of a property that a class has not yet.
+/// Reads the spec of a property that a class does not have yet.
 ///
 /// # Errors
 ///
-/// `Refused` with the first fault in document order, and `OutOfMemory` if memory is refused.
+/// Returns `Refused` with the first fault in document order, or `OutOfMemory` if memory is refused.
 #[tactic(auto, unfolding(definition_format::specs::Denoted::Properties::spec_at))]
 pub fn spec_in(
     part: Part<'_>,
@@ -184,7 +184,7 @@ pub fn spec_in(
     Ok(Spec { weak, ..spec })
 }
 
-// Gives a class a property.
+// Installs a property in a class.
 fn install(
     part: Part<'_>,
     types: &TypeTree,
@@ -205,7 +205,7 @@ fn install(
     }
 }
 
-// Gives a class the property of an entry.
+// Reads the property of an entry and installs it in a class.
 #[tactic(auto, using(definition_format::proofs::Installing::property_at_is))]
 fn read_property(
     part: Part<'_>,
@@ -221,7 +221,7 @@ fn read_property(
     Ok(())
 }
 
-// How the entries of a class's properties are read.
+// The reader for the entries of a class's properties.
 #[derive(Clone, Copy)]
 struct PropertyEntries<'a> {
     types: &'a TypeTree,
@@ -252,11 +252,11 @@ impl<'a> Reads<SpecTable> for PropertyEntries<'a> {
     }
 }
 
-/// Gives a class the properties of a list.
+/// Reads the properties of a list and installs them in a class.
 ///
 /// # Errors
 ///
-/// `Refused` with the first fault in document order, and `OutOfMemory` if memory is refused.
+/// Returns `Refused` with the first fault in document order, or `OutOfMemory` if memory is refused.
 pub fn read_properties(
     list: Entries<'_>,
     types: &TypeTree,

@@ -1,4 +1,4 @@
-//! The flags of a property.
+//! Reads the flags of properties.
 
 ghost use Rattle.std.specs.Prelude.{◌≡◌, codes, option_map};
 ghost use Rattle.serde_json.specs.View.{view, items_view};
@@ -13,7 +13,7 @@ use definition_parts::reads::{Reads, read_each};
 use param_specs::{PropertyFlags, SpecFault};
 use serde_json::Value;
 
-// The flag of a word.
+// Returns the flag that a word names.
 fn flag_named(word: &str) -> Option<PropertyFlags>
     ensures { option_map (λ p. p.0) result ≡ flag_named word.now }
 {
@@ -34,7 +34,7 @@ fn flag_named(word: &str) -> Option<PropertyFlags>
     }
 }
 
-// The flag that a value names.
+// Returns the flag that a value names.
 fn flag_in(value: &Value) -> Option<PropertyFlags>
     ensures { option_map (λ p. p.0) result ≡ flag_if (as_str (view value.now)) }
 {
@@ -42,7 +42,7 @@ fn flag_in(value: &Value) -> Option<PropertyFlags>
     flag_named(word)
 }
 
-// How the words of a list of flags are read.
+// The reader for the words in a list of flags.
 #[derive(Clone, Copy)]
 struct FlagWords;
 
@@ -77,7 +77,7 @@ impl Reads<PropertyFlags> for FlagWords {
     }
 }
 
-// Tests that the flags go together.
+// Checks that the flags are compatible.
 fn check_flags(part: Part<'_>, flags: PropertyFlags) -> Result<(), ReadError>
     ensures { Gives (λ _. tt) result (check_flags (under (path_of part.entry.path) (codes "flags")) flags.0) }
 {
@@ -91,7 +91,7 @@ fn check_flags(part: Part<'_>, flags: PropertyFlags) -> Result<(), ReadError>
     Ok(())
 }
 
-// The flags of the words of a list.
+// Reads the flags from the words of a list.
 fn words_of(list: Entries<'_>) -> Result<PropertyFlags, ReadError>
     ensures { Gives (λ p. p.0) result (each (at_entry flag_at list.entry.path.now) 0 0 (items_view list.entry.items.now)) }
 {
@@ -100,7 +100,7 @@ fn words_of(list: Entries<'_>) -> Result<PropertyFlags, ReadError>
     Ok(flags)
 }
 
-// The flags of a list of words.
+// Reads the flags from a list of words and checks that they are compatible.
 #[tactic(auto, unfolding(definition_format::specs::Denoted::PropertyFlags::listed_flags))]
 fn listed_flags(part: Part<'_>, value: &Value) -> Result<PropertyFlags, ReadError>
     ensures { Gives (λ p. p.0) result (listed_flags (under (path_of part.entry.path) (codes "flags")) (view value.now)) }
@@ -119,11 +119,11 @@ fn listed_flags(part: Part<'_>, value: &Value) -> Result<PropertyFlags, ReadErro
     Ok(flags)
 }
 
-/// The flags of a property: readable and writable where nothing is said.
+/// Reads the `flags` of a property, which are readable and writable if they are absent.
 ///
 /// # Errors
 ///
-/// `Refused` with the first fault in document order, and `OutOfMemory` if memory is refused.
+/// Returns `Refused` with the first fault in document order, or `OutOfMemory` if memory is refused.
 pub fn flags_of(part: Part<'_>) -> Result<PropertyFlags, ReadError>
     ensures { Gives (λ p. p.0) result (flags_at (path_of part.entry.path) (view part.entry.value.now)) }
 {

@@ -1,4 +1,4 @@
-//! The range of a property: its least and greatest number.
+//! Reads the ranges of properties, which are their least and greatest numbers.
 
 ghost use Rattle.std.specs.Prelude.{◌≡◌, codes};
 ghost use Rattle.serde_json.specs.View.{view};
@@ -25,7 +25,7 @@ pub struct NumberRange {
     pub max: i128,
 }
 
-/// The range of a kind: all of its numbers.
+/// Returns the range of all numbers of a kind.
 pub fn whole_range(kind: &Kind) -> NumberRange
     ensures { record { low = result.min; high = result.max } ≡ whole_range (kind_view kind.now) }
 {
@@ -35,7 +35,7 @@ pub fn whole_range(kind: &Kind) -> NumberRange
     }
 }
 
-// A whole number between two others, both included.
+// Returns the whole number in a value if it is from `low` to `high`, both included.
 fn number_between(value: &Value, low: i128, high: i128) -> Result<i128, JsonFault>
     ensures { result ≡ number_between low high (whole_number (view value.now)) }
 {
@@ -48,7 +48,7 @@ fn number_between(value: &Value, low: i128, high: i128) -> Result<i128, JsonFaul
     Ok(number)
 }
 
-// The number of a kind that is at a member.
+// Reads a number of this kind from `value`, the member `key` of `part`.
 fn number_of(part: Part<'_>, key: &str, kind: &Kind, value: &Value) -> Result<i128, ReadError>
     ensures { Gives (λ n. n) result (or_value_fault (under (path_of part.entry.path) key.now) (number_between (lowest (kind_view kind.now)) (highest (kind_view kind.now)) (whole_number (view value.now)))) }
 {
@@ -58,7 +58,7 @@ fn number_of(part: Part<'_>, key: &str, kind: &Kind, value: &Value) -> Result<i1
     }
 }
 
-// The number that an end is given as, at a kind of whole numbers.
+// Reads an end of a range, which only kinds of whole numbers have.
 fn given_end(part: Part<'_>, key: &str, kind: &Kind, value: &Value) -> Result<i128, ReadError>
     ensures { Gives (λ n. n) result (end_given (under (path_of part.entry.path) key.now) (kind_view kind.now) (view value.now)) }
 {
@@ -68,7 +68,7 @@ fn given_end(part: Part<'_>, key: &str, kind: &Kind, value: &Value) -> Result<i1
     number_of(part, key, kind, value)
 }
 
-// An end of a range, or the kind's own.
+// Reads the end of a range under `key`, or returns `own`, the end of the kind, if it is absent.
 fn end_or(part: Part<'_>, key: &str, kind: &Kind, own: i128) -> Result<i128, ReadError>
     ensures { Gives (λ n. n) result (end_or (under (path_of part.entry.path) key.now) (kind_view kind.now) own (get key.now (view part.entry.value.now))) }
 {
@@ -78,7 +78,7 @@ fn end_or(part: Part<'_>, key: &str, kind: &Kind, own: i128) -> Result<i128, Rea
     }
 }
 
-// Tests that some number lies between the ends.
+// Checks that a range has a number. The fault is reported at `min`.
 fn check_filled(part: Part<'_>, min: i128, max: i128) -> Result<(), ReadError>
     ensures { Gives (λ _. tt) result (check_filled (under (path_of part.entry.path) (codes "min")) min max) }
 {
@@ -92,11 +92,11 @@ fn check_filled(part: Part<'_>, min: i128, max: i128) -> Result<(), ReadError>
     Ok(())
 }
 
-/// The range of a property of this kind.
+/// Reads the range of a property of this kind. An end that is absent is that of the kind.
 ///
 /// # Errors
 ///
-/// `Refused` with the first fault in document order, and `OutOfMemory` if memory is refused.
+/// Returns `Refused` with the first fault in document order, or `OutOfMemory` if memory is refused.
 #[tactic(auto, unfolding(definition_format::specs::Denoted::Ranges::range_at))]
 pub fn range_of(part: Part<'_>, kind: &Kind) -> Result<NumberRange, ReadError>
     ensures { Gives (λ r. record { low = r.min; high = r.max }) result (range_at (path_of part.entry.path) (kind_view kind.now) (view part.entry.value.now)) }

@@ -1,4 +1,4 @@
-//! The flags of a signal.
+//! Reads the flags of signals.
 
 ghost use Rattle.std.specs.Prelude.{◌≡◌, codes, option_map};
 ghost use Rattle.serde_json.specs.View.{view};
@@ -13,7 +13,7 @@ use definition_parts::reads::{Reads, read_each};
 use serde_json::Value;
 use signal_core::SignalFlags;
 
-// The flag of a word.
+// Returns the flag that a word names.
 fn flag_named(word: &str) -> Option<SignalFlags>
     ensures { option_map (λ p. p.0) result ≡ flag_named word.now }
 {
@@ -30,7 +30,7 @@ fn flag_named(word: &str) -> Option<SignalFlags>
     }
 }
 
-// The flag that a value names.
+// Returns the flag that a value names.
 fn flag_in(value: &Value) -> Option<SignalFlags>
     ensures { option_map (λ p. p.0) result ≡ flag_if (as_str (view value.now)) }
 {
@@ -38,7 +38,7 @@ fn flag_in(value: &Value) -> Option<SignalFlags>
     flag_named(word)
 }
 
-// How the words of a list of flags are read.
+// The reader for the words in a list of flags.
 #[derive(Clone, Copy)]
 struct FlagWords;
 
@@ -73,7 +73,7 @@ impl Reads<SignalFlags> for FlagWords {
     }
 }
 
-// The flags of a list of words.
+// Reads the flags from a list of words.
 #[tactic(auto, unfolding(definition_format::specs::Denoted::Signals::listed_flags))]
 fn listed_flags(part: Part<'_>, value: &Value) -> Result<SignalFlags, ReadError>
     ensures { Gives (λ p. p.0) result (listed_flags (under (path_of part.entry.path) (codes "flags")) (view value.now)) }
@@ -92,11 +92,11 @@ fn listed_flags(part: Part<'_>, value: &Value) -> Result<SignalFlags, ReadError>
     Ok(flags)
 }
 
-/// The flags of a signal: its class handler runs last where nothing is said.
+/// Reads the `flags` of a signal. If they are absent, its class handler runs last.
 ///
 /// # Errors
 ///
-/// `Refused` with the first fault in document order, and `OutOfMemory` if memory is refused.
+/// Returns `Refused` with the first fault in document order, or `OutOfMemory` if memory is refused.
 pub fn signal_flags_of(part: Part<'_>) -> Result<SignalFlags, ReadError>
     ensures { Gives (λ p. p.0) result (flags_at (path_of part.entry.path) (view part.entry.value.now)) }
 {

@@ -1,4 +1,4 @@
-//! The signals of a class or an interface, read from a definition.
+//! Reads the signals of classes and interfaces.
 
 ghost use Rattle.std.specs.Prelude.{◌≡◌, ◌<◌, [], codes, length, is_some, false, true, map, option_map, string_bytes, nat_le, None, Some, Ok, IfOk};
 ghost use Rattle.serde_json.specs.View.{view, items_view};
@@ -30,7 +30,7 @@ use type_tree::{TypeId, TypeSort, TypeTree, is_property_name};
 
 const MEMBERS: [&str; 5] = ["name", "params", "result", "flags", "accumulator"];
 
-// How the kinds of a signal's arguments are read.
+// The reader for the kinds of a signal's arguments.
 #[derive(Clone, Copy)]
 struct ParamEntries<'a> {
     types: &'a TypeTree,
@@ -64,7 +64,7 @@ impl<'a> Reads<Vec<Kind>> for ParamEntries<'a> {
     }
 }
 
-// The kinds of a list.
+// Reads the kinds of a list.
 fn read_params(
     list: Entries<'_>,
     types: &TypeTree,
@@ -78,7 +78,7 @@ fn read_params(
     Ok(params)
 }
 
-// The kinds of a signal's arguments.
+// Reads `params`, the kinds of a signal's arguments.
 #[tactic(auto, unfolding(definition_format::specs::Denoted::Signals::params_at))]
 fn params_of(
     part: Part<'_>,
@@ -98,7 +98,7 @@ fn params_of(
     Ok(params)
 }
 
-// The result that a value names: a kind, or `none`.
+// Reads the result that a value names, which is a kind or `none`.
 #[tactic(auto, unfolding(definition_format::specs::Denoted::Signals::result_called, definition_format::specs::Denoted::Signals::some_kind))]
 fn result_called(
     part: Part<'_>,
@@ -118,7 +118,7 @@ fn result_called(
     Ok(Some(kind))
 }
 
-// The kind of a signal's result, if it has one.
+// Reads the kind of a signal's `result`. There is no result if the member is absent.
 fn result_of(
     part: Part<'_>,
     types: &TypeTree,
@@ -132,7 +132,7 @@ fn result_of(
     }
 }
 
-// The accumulator of a word.
+// Returns the accumulator that a word names.
 fn accumulator_named(word: &str) -> Option<Accumulator>
     ensures { option_map accumulator_of result ≡ accumulator_named word.now }
 {
@@ -145,7 +145,7 @@ fn accumulator_named(word: &str) -> Option<Accumulator>
     }
 }
 
-// Whether an accumulator puts results of a kind together.
+// Returns whether an accumulator can combine results of this kind.
 fn takes_result(accumulator: &Accumulator, result_kind: &Option<Kind>) -> bool
     ensures { result ≡ takes_result (Some (accumulator_of accumulator.now)) (option_map kind_view result_kind.now) }
 {
@@ -155,7 +155,7 @@ fn takes_result(accumulator: &Accumulator, result_kind: &Option<Kind>) -> bool
     }
 }
 
-// The accumulator that a value names, which must fit the result.
+// Reads the accumulator that a value names, which must fit the result.
 #[tactic(auto, unfolding(definition_format::specs::Denoted::Signals::accumulator_called))]
 fn accumulator_called(
     part: Part<'_>,
@@ -178,7 +178,7 @@ fn accumulator_called(
     Ok(Some(accumulator))
 }
 
-// A signal's accumulator, if it has one. It must fit the result.
+// Reads the `accumulator` of a signal, which may be absent and must fit the result.
 fn accumulator_in(
     part: Part<'_>,
     result_kind: &Option<Kind>,
@@ -192,14 +192,14 @@ fn accumulator_in(
     }
 }
 
-// The fault of a signal that is not declared.
+// Returns the refusal at `path` for a signal that is not declared.
 fn not_declared(path: String, cause: SignalFault) -> ReadError
     ensures { result ≡ errors.Refused (faults.BadSpec path (causes.Declare cause)) }
 {
     ReadError::Refused(DefinitionFault::BadSpec(path, SpecCause::Declare(cause)))
 }
 
-// Tests that a type has room for a further signal.
+// Checks that a type has room for another signal.
 fn check_room(types: &TypeTree, signals: &SignalTable, t: TypeId) -> Result<(), ReadError>
     ensures room { Gives (λ _. tt) result (room_for_signal (line_count types.now signals.now.signals t)) }
     ensures fine { IfOk result (λ _. nat_le 64 (line_count types.now signals.now.signals t) ≡ false) }
@@ -210,7 +210,8 @@ fn check_room(types: &TypeTree, signals: &SignalTable, t: TypeId) -> Result<(), 
     Ok(())
 }
 
-// A name that a type has already: a class may not declare it again.
+// Makes the refusal for a signal's name that the type has already: `Duplicate` for a class, and a fault of the declaration for an
+// interface.
 fn name_again(part: Part<'_>, sort: TypeSort) -> Result<ReadError, ReadError>
     ensures { IsRefusal (told_twice (under (path_of part.entry.path) (codes "name")) (view_of_sort sort)) result }
 {
@@ -223,7 +224,7 @@ fn name_again(part: Part<'_>, sort: TypeSort) -> Result<ReadError, ReadError>
     }
 }
 
-// Tests the name of a signal beside those of its type.
+// Checks that a name may be that of a signal, and that the type has no signal of this name.
 fn check_name(
     part: Part<'_>,
     types: &TypeTree,
@@ -246,7 +247,7 @@ fn check_name(
     Ok(())
 }
 
-// The signal of an entry, which a type has not yet.
+// Reads a signal that a type does not have yet from an entry.
 #[tactic(auto, unfolding(definition_format::specs::Denoted::Signals::signal_of_entry))]
 fn signal_in(
     part: Part<'_>,
@@ -278,7 +279,7 @@ fn signal_in(
     })
 }
 
-// Declares a signal that nothing forbids.
+// Declares a signal that has passed all tests.
 fn declare(
     types: &TypeTree,
     signals: &mut SignalTable,
@@ -297,7 +298,7 @@ fn declare(
     }
 }
 
-// Gives a type the signal of an entry.
+// Reads the signal of an entry and declares it for a type.
 fn read_signal(
     part: Part<'_>,
     types: &TypeTree,
@@ -314,7 +315,7 @@ fn read_signal(
     Ok(())
 }
 
-// How the entries of a type's signals are read.
+// The reader for the entries of a type's signals.
 #[derive(Clone, Copy)]
 struct SignalEntries<'a> {
     types: &'a TypeTree,
@@ -345,11 +346,11 @@ impl<'a> Reads<SignalTable> for SignalEntries<'a> {
     }
 }
 
-/// Gives a type the signals of a list.
+/// Reads the signals of a list and declares them for a type.
 ///
 /// # Errors
 ///
-/// `Refused` with the first fault in document order, and `OutOfMemory` if memory is refused.
+/// Returns `Refused` with the first fault in document order, or `OutOfMemory` if memory is refused.
 pub fn read_signals(
     list: Entries<'_>,
     types: &TypeTree,

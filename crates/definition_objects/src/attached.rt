@@ -1,4 +1,4 @@
-//! The signals of objects, with the programs that they run.
+//! Reads the handlers that objects have for signals.
 
 ghost use Rattle.std.specs.Prelude.{◌≡◌, ◌≤◌, codes, length, map, option_map, string_bytes};
 ghost use Rattle.std.specs.List.{AllByRecursion};
@@ -20,7 +20,7 @@ use ui_machine::{Place, ProgramId};
 
 const MEMBERS: [&str; 6] = ["name", "handler", "detail", "after", "swapped", "object"];
 
-// A name at a member: of a program, a detail, an object or a binding.
+// Returns the name under `key`, which is that of a program, a detail, an object or a binding. `text` is the member's text, if it has one.
 pub(crate) fn name_of<'a>(
     part: Part<'_>,
     key: &str,
@@ -37,7 +37,7 @@ pub(crate) fn name_of<'a>(
     Ok(name)
 }
 
-// The program that a member names.
+// Returns the number of the program that the member `key` names.
 #[tactic(auto, unfolding(definition_format::specs::Denoted::Attached::program_under))]
 fn program_under(part: Part<'_>, key: &str, programs: &Programs) -> Result<ProgramId, ReadError>
     requires named { AllByRecursion HasOwnName programs.now.entries }
@@ -51,7 +51,7 @@ fn program_under(part: Part<'_>, key: &str, programs: &Programs) -> Result<Progr
     }
 }
 
-// A detail, if there is one.
+// Reads the `detail` of a handler, if there is one.
 #[tactic(auto, unfolding(definition_format::specs::Denoted::Attached::some_detail))]
 fn detail_of(part: Part<'_>) -> Result<Option<String>, ReadError>
     ensures { Gives (option_map (λ s. string_bytes s)) result (detail_or (under (path_of part.entry.path) (codes "detail")) (get (codes "detail") (view part.entry.value.now))) }
@@ -64,7 +64,7 @@ fn detail_of(part: Part<'_>) -> Result<Option<String>, ReadError>
     Ok(Some(detail))
 }
 
-// The object that is the data, if there is one.
+// Reads the `object` of a handler, which is its data, if there is one.
 #[tactic(auto, unfolding(definition_format::specs::Denoted::Attached::some_data))]
 fn data_of(part: Part<'_>, objects: &ObjectNames<'_>) -> Result<Option<Place>, ReadError>
     ensures { Gives place_number result (data_or (under (path_of part.entry.path) (codes "object")) objects.now (get (codes "object") (view part.entry.value.now))) }
@@ -79,7 +79,7 @@ fn data_of(part: Part<'_>, objects: &ObjectNames<'_>) -> Result<Option<Place>, R
     }
 }
 
-// A truth value, if there is one.
+// Returns the truth value under `key`, if there is one.
 #[tactic(auto, unfolding(definition_format::specs::Denoted::Attached::some_truth))]
 fn truth_if(part: Part<'_>, key: &str) -> Result<Option<bool>, ReadError>
     ensures { Gives (λ t. t) result (truth_if (under (path_of part.entry.path) key.now) (get key.now (view part.entry.value.now))) }
@@ -93,7 +93,7 @@ fn truth_if(part: Part<'_>, key: &str) -> Result<Option<bool>, ReadError>
     }
 }
 
-// Whether the data comes first: where nothing is said, it does.
+// Returns whether the data comes first. If `swapped` is absent, it does if there is data.
 fn is_swapped(with: Option<Place>, swapped: Option<bool>) -> bool
     ensures { result ≡ is_swapped (place_number with) swapped }
 {
@@ -103,7 +103,7 @@ fn is_swapped(with: Option<Place>, swapped: Option<bool>) -> bool
     }
 }
 
-// The signal of an entry.
+// Reads a handler from an entry.
 #[tactic(auto, unfolding(definition_format::specs::Denoted::Attached::attached_in))]
 fn attached_in(
     part: Part<'_>,
@@ -133,7 +133,7 @@ fn attached_in(
     })
 }
 
-// How the signals of an object are read, where these are all programs and all objects.
+// The reader for the handlers of an object, among all programs and all objects.
 #[derive(Clone, Copy)]
 struct AttachedEntries<'a> {
     programs: &'a Programs,
@@ -167,7 +167,7 @@ impl<'a> Reads<Vec<Attached>> for AttachedEntries<'a> {
     }
 }
 
-// The signals of the object of an entry.
+// Reads the handlers of an object from its entry.
 #[tactic(auto, unfolding(definition_format::specs::Denoted::Attached::all_attached))]
 pub(crate) fn read_attached(
     part: Part<'_>,

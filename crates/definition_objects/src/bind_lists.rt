@@ -1,4 +1,4 @@
-//! The bindings that were read so far.
+//! The bindings that are read so far.
 
 ghost use Rattle.std.specs.Prelude.{◌≡◌, ◌∷◌, ◌++◌, ◌||◌, [], ℕ, List, map, OnErr, OnOk};
 ghost use Rattle.std.specs.BTreeSet.{contains_text};
@@ -11,7 +11,7 @@ use std::alloc::{AllocError, Global};
 use std::collections::BTreeSet;
 use std::marker::Model;
 
-// Bindings in document order, and their names.
+// The bindings in document order, with their names in a set.
 #[derive(Drop)]
 pub(crate) struct BindList {
     binds: Vec<Bind>,
@@ -41,25 +41,25 @@ impl BindList {
         }
     }
 
-    // Whether one of them has a name.
+    // Returns whether one of the bindings has this name.
     pub(crate) fn has(&self, name: &str) -> bool
         ensures { result ≡ has_bound self.now name.now }
     {
         self.names.contains(name)
     }
 
-    // Adds a binding.
+    // Appends a binding.
     pub(crate) fn push(&mut self, bind: Bind) -> Result<(), AllocError>
         ensures { OnOk result (self.new ≡ self.old ++ bind_view bind ∷ []) }
     {
-        // With room for the binding its name is not there alone.
+        // Room for the binding is reserved first, so that its name is never there without it.
         self.binds.reserve(1)?;
         add_name(&mut self.names, &bind)?;
         self.binds.push(bind)?;
         Ok(())
     }
 
-    // The bindings in document order.
+    // Returns the bindings in document order.
     pub(crate) fn into_binds(self) -> Vec<Bind>
         ensures { map bind_view result.items ≡ self }
     {
@@ -67,7 +67,7 @@ impl BindList {
     }
 }
 
-// Adds the name of a binding, if it has one. Where no memory is found the names stay.
+// Adds the name of a binding, if it has one. The names are unchanged if memory is refused.
 fn add_name(names: &mut BTreeSet<String>, bind: &Bind) -> Result<(), AllocError>
     ensures added { (name : List ℕ) → OnOk result (contains_text names.new name ≡ (is_called (bind_view bind.now).name name || contains_text names.old name)) }
     ensures err { OnErr result (names.new.keys ≡ names.old.keys) }

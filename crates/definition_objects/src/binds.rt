@@ -1,4 +1,4 @@
-//! Bindings between properties of objects, read from a definition.
+//! Reads the bindings between properties of objects.
 
 ghost use Rattle.std.specs.Prelude.{◌≡◌, codes, option_map, string_bytes};
 ghost use Rattle.serde_json.specs.View.{view};
@@ -28,7 +28,7 @@ use ui_machine::{Place, Slot};
 
 const MEMBERS: [&str; 4] = ["source", "property", "flags", "name"];
 
-// The flag of a word.
+// Returns the flag that a word names.
 fn flag_named(word: &str) -> Option<BindingFlags>
     ensures { option_map (λ p. p.0) result ≡ bind_flag_named word.now }
 {
@@ -43,7 +43,7 @@ fn flag_named(word: &str) -> Option<BindingFlags>
     }
 }
 
-// The flag that a value names.
+// Returns the flag that a value names.
 fn flag_in(value: &Value) -> Option<BindingFlags>
     ensures { option_map (λ p. p.0) result ≡ bind_flag_if (as_str (view value.now)) }
 {
@@ -51,7 +51,7 @@ fn flag_in(value: &Value) -> Option<BindingFlags>
     flag_named(word)
 }
 
-// How the words of a list of flags are read.
+// The reader for the words in a list of flags.
 #[derive(Clone, Copy)]
 struct FlagWords;
 
@@ -86,7 +86,7 @@ impl Reads<BindingFlags> for FlagWords {
     }
 }
 
-// The flags of a binding: none where nothing is said.
+// Reads the `flags` of a binding. There are none if they are absent.
 #[tactic(auto, unfolding(definition_format::specs::Denoted::Binds::bind_flags_at))]
 fn flags_of(part: Part<'_>) -> Result<BindingFlags, ReadError>
     ensures { Gives (λ p. p.0) result (bind_flags_at (path_of part.entry.path) (view part.entry.value.now)) }
@@ -103,7 +103,7 @@ fn flags_of(part: Part<'_>) -> Result<BindingFlags, ReadError>
     Ok(flags)
 }
 
-// The place of the object that is the source, which may come later.
+// Returns the place of the source object, which may come later in the document.
 #[tactic(auto, unfolding(definition_format::specs::Denoted::Binds::source_at))]
 fn source_of(part: Part<'_>, objects: &ObjectNames<'_>) -> Result<usize, ReadError>
     ensures { Gives (λ n. n) result (source_at (path_of part.entry.path) objects.now (view part.entry.value.now)) }
@@ -119,7 +119,7 @@ fn source_of(part: Part<'_>, objects: &ObjectNames<'_>) -> Result<usize, ReadErr
     }
 }
 
-// What the source's property is called: as the target's, where nothing is said.
+// Returns the name of the source's property, which is that of the target's if `property` is absent.
 fn source_name<'a>(part: Part<'a>, same: &'a str) -> Result<&'a str, ReadError>
     ensures { Gives (λ s. s.now) result (source_name_or (under (path_of part.entry.path) (codes "property")) same.now (get (codes "property") (view part.entry.value.now))) }
 {
@@ -132,7 +132,7 @@ fn source_name<'a>(part: Part<'a>, same: &'a str) -> Result<&'a str, ReadError>
     }
 }
 
-// The slot of the property of a class that a name names.
+// Returns the slot of the property with this name in a class.
 #[tactic(auto, unfolding(definition_format::specs::Denoted::Binds::slot_called, param_specs::specs::Table::specs_of))]
 fn slot_called(
     part: Part<'_>,
@@ -146,7 +146,8 @@ fn slot_called(
     Ok(property.slot)
 }
 
-// The same of the object at a place. Where its class is not known, that is reported of the object itself.
+// Returns the slot of the property with this name in the class of the object at place `source`, or 0 if this class is not known. That is
+// reported at the object itself.
 fn source_slot(
     part: Part<'_>,
     target: &Target<'_>,
@@ -161,7 +162,7 @@ fn source_slot(
     }
 }
 
-// The name of a binding, if it has one, which none of these has.
+// Reads the `name` of a binding, if there is one. No binding so far may have it.
 #[tactic(auto, unfolding(definition_format::specs::Denoted::Binds::some_bind_name))]
 fn name_in(part: Part<'_>, bindings: &BindList) -> Result<Option<String>, ReadError>
     ensures { Gives (option_map (λ s. string_bytes s)) result (bind_name_or (under (path_of part.entry.path) (codes "name")) bindings.now (get (codes "name") (view part.entry.value.now))) }
@@ -178,7 +179,7 @@ fn name_in(part: Part<'_>, bindings: &BindList) -> Result<Option<String>, ReadEr
     Ok(Some(name))
 }
 
-// The binding of a property, beside these, where the property's entry has the number `at`.
+// Reads the binding of a property. `at` is the number of the property's entry, and `bindings` has the bindings so far.
 #[tactic(auto, unfolding(definition_format::specs::Denoted::Binds::bind_at))]
 pub(crate) fn read_bind(
     part: Part<'_>,

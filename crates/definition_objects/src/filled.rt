@@ -1,4 +1,4 @@
-//! What the entries of an object's properties give it: values and bindings.
+//! Reads what the entries of an object's properties give it, which are values and bindings.
 
 ghost use Rattle.std.specs.Prelude.{◌≡◌, codes, nat_eq, slice_get, Some, option_map};
 ghost use Rattle.serde_json.specs.View.{view, items_view};
@@ -23,21 +23,22 @@ use ui_machine::Slot;
 
 const MEMBERS: [&str; 3] = ["name", "value", "bind"];
 
-// What entries gave so far: the slots of the properties that they name, and values. Bindings are kept with those of the objects before.
+// What the entries gave so far: the slots of the properties that they name, and the values. Bindings are kept in a list with those of the
+// objects before.
 #[derive(Drop)]
 pub(crate) struct Filled {
     pub(crate) slots: Vec<Slot>,
     pub(crate) given: Vec<GivenValue>,
 }
 
-// Whether one of these slots is the property's.
+// Returns whether the slot of a property is one of these.
 fn is_named(slots: &[Slot], slot: Slot) -> bool
     ensures { result ≡ is_named slots.now slot }
 {
     slots.iter().any(|other| *other == slot)
 }
 
-// Tests that the entries before do not name a property.
+// Refuses a property that an entry before names.
 fn check_unnamed(part: Part<'_>, slots: &[Slot], slot: Slot) -> Result<(), ReadError>
     ensures { Gives (λ _. tt) result (unless_named (under (path_of part.entry.path) (codes "name")) slots.now slot) }
 {
@@ -48,7 +49,7 @@ fn check_unnamed(part: Part<'_>, slots: &[Slot], slot: Slot) -> Result<(), ReadE
     Ok(())
 }
 
-// Tests that there is no binding beside a value.
+// Refuses a binding in an entry that also has a value.
 fn check_unbound(part: Part<'_>, bind: Option<&Value>) -> Result<(), ReadError>
     ensures { Gives (λ _. tt) result (unbound (under (path_of part.entry.path) (codes "bind")) (option_map (λ v. view v.now) bind.entry)) }
 {
@@ -87,7 +88,7 @@ fn give_value(
     Ok(())
 }
 
-// A value of a document, at a path.
+// Returns the part for a value at a path.
 fn part_at<'a>(alloc: Global, base: &'a str, value: &'a Value) -> Part<'a>
     ensures path { path_of result.path ≡ base.now }
     ensures value { result.value.now ≡ value.now }
@@ -116,7 +117,7 @@ fn bind(
     Ok(())
 }
 
-// Gives a property the value of an entry, or binds it: an entry says exactly one of both.
+// Gives a property the value of an entry, or binds it. An entry has exactly one of `value` and `bind`.
 fn fill(
     part: Part<'_>,
     target: &Target<'_>,
@@ -134,7 +135,7 @@ fn fill(
     }
 }
 
-// Fills the property that an entry names.
+// Gives a value to the property that an entry names, or binds it.
 #[tactic(auto, unfolding(definition_format::specs::Denoted::Filled::filled_at, param_specs::specs::Table::specs_of))]
 fn read_entry(
     part: Part<'_>,
@@ -157,7 +158,7 @@ fn read_entry(
     Ok(())
 }
 
-// Fills the properties that the entries of a list name, one after the other.
+// Reads the entries of a list in order.
 fn read_entries(
     list: Entries<'_>,
     target: &Target<'_>,
@@ -182,7 +183,7 @@ fn read_entries(
     Ok(())
 }
 
-// Fills the properties of an object. Its bindings come behind those of the objects before.
+// Reads the properties of an object. Its bindings are appended to those of the objects before.
 #[tactic(auto, unfolding(definition_format::specs::Denoted::Filled::all_filled))]
 pub(crate) fn read_properties(
     part: Part<'_>,

@@ -1,4 +1,4 @@
-//! The values that are given to an object's properties, read from a definition.
+//! Reads the values that are given to an object's properties.
 
 ghost use Rattle.std.specs.Prelude.{◌≡◌, codes, map, nat_eq, slice_get, Some, option_map, IfOk};
 ghost use Rattle.std.specs.List.{list_any};
@@ -23,14 +23,14 @@ use param_specs::{Spec, SpecTable};
 use type_tree::{TypeId, TypeTree};
 use ui_machine::{Place, Slot};
 
-// A property of a class, by its slot.
+// A property of a class, with its slot.
 #[derive(Clone, Copy)]
 pub(crate) struct Property<'a> {
     pub(crate) slot: Slot,
     pub(crate) spec: &'a Spec,
 }
 
-// The property of a class that a name at a member names.
+// Returns the property of a class with this name. A name that none has is `Unknown` at the member `key`.
 #[tactic(auto, unfolding(definition_format::specs::Denoted::Given::property_named))]
 pub(crate) fn property_named<'a>(
     part: Part<'_>,
@@ -53,21 +53,21 @@ pub(crate) fn property_named<'a>(
     Ok(Property { slot, spec })
 }
 
-// Whether one of these values is for a slot.
+// Returns whether one of these values is for a slot.
 fn has_value(given: &[GivenValue], slot: Slot) -> bool
     ensures { result ≡ list_any (λ g. nat_eq g.slot slot) given.now }
 {
     given.iter().any(|other| other.slot == slot)
 }
 
-// Whether a property is among the given ones.
+// Returns whether one of these values is for the property in a slot.
 fn is_given(given: &[GivenValue], slot: Slot) -> bool
     ensures { result ≡ is_given (map given_property given.now) slot }
 {
     has_value(given, slot)
 }
 
-// Tests that a property is named once.
+// Refuses a property that has been given a value.
 pub(crate) fn check_once(part: Part<'_>, given: &[GivenValue], slot: Slot) -> Result<(), ReadError>
     ensures { Gives (λ _. tt) result (named_once (under (path_of part.entry.path) (codes "name")) (map given_property given.now) slot) }
 {
@@ -79,7 +79,7 @@ pub(crate) fn check_once(part: Part<'_>, given: &[GivenValue], slot: Slot) -> Re
     Ok(())
 }
 
-// Tests that a property can be written, where a value is given.
+// Refuses a `value` for a property that cannot be written.
 pub(crate) fn check_writable(part: Part<'_>, spec: &Spec) -> Result<(), ReadError>
     ensures { Gives (λ _. tt) result (takes_value (under (path_of part.entry.path) (codes "name")) (get (codes "value") (view part.entry.value.now)) (spec_view spec.now)) }
 {
@@ -90,7 +90,7 @@ pub(crate) fn check_writable(part: Part<'_>, spec: &Spec) -> Result<(), ReadErro
     Ok(())
 }
 
-// The class that the entry of an object names, if there is one of the name.
+// Returns the class that the entry of an object names, or `None` if there is no class of this name.
 pub(crate) fn class_ahead(
     types: &TypeTree,
     objects: &ObjectNames<'_>,
@@ -101,7 +101,7 @@ pub(crate) fn class_ahead(
     types.find_class(objects.class(place)?)
 }
 
-// Whether an object of a class, if that is known, is one of a type.
+// Returns whether an object of this class, if it is known, is one of a type. An object of an unknown class may be.
 fn may_be(types: &TypeTree, t: TypeId, class: Option<TypeId>) -> bool
     ensures { result ≡ may_be types.now t class }
 {
@@ -111,7 +111,7 @@ fn may_be(types: &TypeTree, t: TypeId, class: Option<TypeId>) -> bool
     }
 }
 
-// The place of the object of an id, which may come later.
+// Returns the place of the object with this id, which may come later in the document.
 fn place_called(part: Part<'_>, objects: &ObjectNames<'_>, id: &str) -> Result<usize, ReadError>
     ensures { Gives (λ n. n) result (place_called (under (path_of part.entry.path) (codes "value")) objects.now id.now) }
 {
@@ -124,7 +124,7 @@ fn place_called(part: Part<'_>, objects: &ObjectNames<'_>, id: &str) -> Result<u
     }
 }
 
-// The object of a place, which must be of a type.
+// Returns the object at a place, which must be of a type.
 fn object_of_type(
     part: Part<'_>,
     types: &TypeTree,
@@ -140,7 +140,7 @@ fn object_of_type(
     Ok(Given::Object(Place(at_most(512, place))))
 }
 
-/// The type of the object and the id, where a text denotes an object.
+/// Returns the type and the id if a kind is one of objects and the value is a text.
 pub fn reference<'a>(kind: &Kind, value: &'a serde_json::Value) -> Option<(TypeId, &'a str)>
     ensures { option_map (λ r. (r.0, r.1.now)) result ≡ reference (kind_view kind.now) (as_str (view value.now)) }
 {
@@ -150,7 +150,7 @@ pub fn reference<'a>(kind: &Kind, value: &'a serde_json::Value) -> Option<(TypeI
     }
 }
 
-// The object that is referred to.
+// Returns the object that an id refers to, which must be of a type.
 #[tactic(auto, unfolding(definition_format::specs::Denoted::Given::referred))]
 fn referred(
     part: Part<'_>,
@@ -166,7 +166,7 @@ fn referred(
     Ok(given)
 }
 
-// A value of a kind, or the object that it refers to.
+// Reads a value of this kind, or the object that it refers to.
 pub(crate) fn given_by(
     part: Part<'_>,
     types: &TypeTree,
@@ -184,7 +184,7 @@ pub(crate) fn given_by(
     Ok(Given::Value(value))
 }
 
-// The property that an entry names, if there is one.
+// Returns the property that an entry names, or `None` if it names none of the class.
 pub(crate) fn spec_ahead<'a>(
     value: &serde_json::Value,
     types: &TypeTree,
@@ -200,7 +200,7 @@ pub(crate) fn spec_ahead<'a>(
     Some(specs.spec(types, class, slot))
 }
 
-// The reference that an entry gives, if it gives one.
+// Returns the reference to an object that an entry gives, if it gives one.
 fn reference_under<'a>(entry: &'a serde_json::Value, kind: &Kind) -> Option<(TypeId, &'a str)>
     ensures { option_map (λ r. (r.0, r.1.now)) result ≡ reference (kind_view kind.now) (name_under (codes "value") (view entry.now)) }
 {
@@ -210,7 +210,7 @@ fn reference_under<'a>(entry: &'a serde_json::Value, kind: &Kind) -> Option<(Typ
     }
 }
 
-// The place of the object that an entry gives, if it gives one.
+// Returns the place of the object that an entry gives, if it gives one.
 fn place_ahead(value: &serde_json::Value, objects: &ObjectNames<'_>, kind: &Kind) -> Option<usize>
     ensures { result ≡ place_ahead objects.now (reference (kind_view kind.now) (name_under (codes "value") (view value.now))) }
 {
@@ -220,7 +220,7 @@ fn place_ahead(value: &serde_json::Value, objects: &ObjectNames<'_>, kind: &Kind
     }
 }
 
-// Whether an entry gives an object that is not there yet to a property that constructions alone set.
+// Returns whether an entry gives an object that is not built yet to a property that only constructions set.
 fn is_too_late(
     value: &serde_json::Value,
     objects: &ObjectNames<'_>,
@@ -238,7 +238,7 @@ fn is_too_late(
     }
 }
 
-// Tests that an entry gives no object too late.
+// Checks that the object that an entry gives, if any, is not too late for its property.
 pub(crate) fn check_in_time(
     part: Part<'_>,
     objects: &ObjectNames<'_>,

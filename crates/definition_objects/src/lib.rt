@@ -1,4 +1,4 @@
-//! The programs, prototypes and objects of a definition, and the bindings among them, read from its document.
+//! Reads the programs, prototypes and objects of a definition from its document, and the bindings between the objects.
 #![tactic(auto)]
 
 mod attached;

@@ -1,4 +1,4 @@
-//! The objects of a definition, and the bindings among them.
+//! Reads the objects of a definition and the bindings between them.
 
 ghost use Rattle.std.specs.Prelude.{◌≡◌, ◌+◌, ◌<◌, ◌≤◌, ◌++◌, false, [], codes, map, length, is_some, string_bytes, None, IfOk};
 ghost use Rattle.serde_json.specs.Find.{get};
@@ -43,7 +43,7 @@ use ui_machine::Place;
 
 const MEMBERS: [&str; 6] = ["id", "class", "peer", "properties", "signals", "children"];
 
-// Tests that there is room for a further object beside the prototypes, where so many may live.
+// Checks that there is room for another object, first among the 512 places and then among the `most` objects that may live at a time.
 fn check_room(objects: &Objects, prototypes: &Prototypes, most: usize) -> Result<(), ReadError>
     requires { length prototypes.now.entries ≤ 512 }
     ensures room { Gives (λ _. tt) result (room_for_object most (map plain_prototype prototypes.now.entries) (map plain_object objects.now.entries)) }
@@ -58,7 +58,7 @@ fn check_room(objects: &Objects, prototypes: &Prototypes, most: usize) -> Result
     Ok(())
 }
 
-// Whether an object or a prototype has this id.
+// Returns whether an object or a prototype has this id.
 fn has_place(objects: &Objects, prototypes: &Prototypes, id: &str) -> bool
     requires { length objects.now.entries + length prototypes.now.entries ≤ 512 }
     ensures { result ≡ is_some (place_named (λ p. p.id) (places_of objects.now.entries prototypes.now.entries) id.now) }
@@ -66,7 +66,7 @@ fn has_place(objects: &Objects, prototypes: &Prototypes, id: &str) -> bool
     place_in(objects, prototypes, id).is_some()
 }
 
-// Tests that an id is a name, and is not taken.
+// Checks that an id is a valid name and not taken.
 pub(crate) fn check_id(part: Part<'_>, id: &str, taken: bool) -> Result<(), ReadError>
     ensures id { Gives (λ _. tt) result (unless_taken (under (path_of part.entry.path) (codes "id")) id.now taken) }
     ensures new { IfOk result (λ _. taken ≡ false) }
@@ -82,7 +82,7 @@ pub(crate) fn check_id(part: Part<'_>, id: &str, taken: bool) -> Result<(), Read
     Ok(())
 }
 
-// Tests that a class has objects.
+// Checks that a class can have objects, which is to say that it is not abstract.
 fn check_concrete(part: Part<'_>, types: &TypeTree, class: TypeId) -> Result<TypeId, ReadError>
     ensures { Gives (λ t. t) result (unless_abstract (under (path_of part.entry.path) (codes "class")) types.now class) }
 {
@@ -93,7 +93,7 @@ fn check_concrete(part: Part<'_>, types: &TypeTree, class: TypeId) -> Result<Typ
     Ok(class)
 }
 
-// The class of an object or a prototype.
+// Reads the class of an object or a prototype.
 pub(crate) fn class_of(part: Part<'_>, types: &TypeTree) -> Result<TypeId, ReadError>
     ensures { Gives (λ t. t) result (class_at_key (path_of part.entry.path) types.now (view part.entry.value.now)) }
 {
@@ -107,14 +107,14 @@ pub(crate) fn class_of(part: Part<'_>, types: &TypeTree) -> Result<TypeId, ReadE
     }
 }
 
-// Whether one of these peers has a name.
+// Returns whether one of these peers has this name.
 fn is_named(peers: &[String], name: &str) -> bool
     ensures { result ≡ list_any (λ peer. bytes_eq (string_bytes peer) name.now) peers.now }
 {
     peers.iter().any(|peer| peer.as_str() == name)
 }
 
-// Whether the peer of an object has a name.
+// Returns whether a peer of one of the objects has this name.
 fn has_peer(objects: &Objects, name: &str) -> bool
     ensures { result ≡ is_among (peers_of (map plain_object objects.now.entries)) name.now }
 {
@@ -128,7 +128,7 @@ fn has_peer(objects: &Objects, name: &str) -> bool
     false
 }
 
-// Refuses a peer whose name is taken.
+// Refuses a peer as `Duplicate` if its name is taken.
 fn check_unnamed(part: Part<'_>, is_taken: bool) -> Result<(), ReadError>
     ensures { Gives (λ _. tt) result (unless_there (under (path_of part.entry.path) (codes "peer")) is_taken) }
 {
@@ -139,14 +139,14 @@ fn check_unnamed(part: Part<'_>, is_taken: bool) -> Result<(), ReadError>
     Ok(())
 }
 
-// An object that is not yet among the others.
+// An object that is not added yet, and its id.
 #[derive(Drop)]
 struct NewObject {
     id: String,
     body: ObjectBody,
 }
 
-// The objects that were read so far, and the bindings among them.
+// The objects that are read so far, and the bindings between them.
 #[derive(Drop)]
 struct Built {
     objects: Objects,
@@ -160,8 +160,8 @@ pub struct ReadObjects {
     pub bindings: Vec<Bind>,
 }
 
-// What is known where objects are read: the types with their properties and shapes, the programs, the prototypes with the names of their peers,
-// how many objects may live, and the names of all objects.
+// The context in which objects are read: the types with their properties and shapes, the programs, the prototypes with the names of their
+// peers, the number of objects that may live at a time, and the names of all objects.
 #[derive(Clone, Copy)]
 struct Scope<'a, 'b> {
     classes: Classes<'a>,
@@ -173,7 +173,7 @@ struct Scope<'a, 'b> {
 }
 
 impl<'a, 'b> Scope<'a, 'b> {
-    // Whether a peer of this name is one of a prototype or of an object before.
+    // Returns whether a prototype or an object so far has a peer of this name.
     fn has_peer(&self, objects: &Objects, name: &str) -> bool
         requires { IsReady self.now }
         ensures { result ≡ is_among (peers_of (scope_of self.now).prototypes ++ peers_of (map plain_object objects.now.entries)) name.now }
@@ -181,7 +181,7 @@ impl<'a, 'b> Scope<'a, 'b> {
         self.named.has(name) || has_peer(objects, name)
     }
 
-    // The peer that a value names.
+    // Reads the peer that a value names.
     #[tactic(auto, unfolding(definition_format::specs::Denoted::Peers::one_peer, definition_format::specs::Denoted::Peers::peer_at))]
     fn read_peer(
         &self,
@@ -200,7 +200,7 @@ impl<'a, 'b> Scope<'a, 'b> {
         Ok(peers)
     }
 
-    // The peer of the entry of an object of a class: it has one just where the class has a shape.
+    // Reads the peer of an object of this class. There must be one exactly if the class has a shape.
     fn read_peers(
         &self,
         part: Part<'_>,
@@ -218,7 +218,7 @@ impl<'a, 'b> Scope<'a, 'b> {
         }
     }
 
-    // The object of an entry, the child of the object at a place, if it is a child. Its bindings come behind these.
+    // Reads the object of an entry. `parent` is the place of its parent if it is a child. Its bindings are appended to `bindings`.
     #[tactic(auto, unfolding(definition_format::specs::Denoted::Objects::place_at))]
     fn read_object(
         &self,
@@ -257,7 +257,7 @@ impl<'a, 'b> Scope<'a, 'b> {
         Ok(NewObject { id, body })
     }
 
-    // Adds the object of an entry to those before, and answers its place.
+    // Reads the object of an entry, adds it to those before, and returns its place.
     fn add_object(
         &self,
         part: Part<'_>,
@@ -274,7 +274,7 @@ impl<'a, 'b> Scope<'a, 'b> {
         Ok(place)
     }
 
-    // Adds the object of an entry to those before, and behind it its children. Lists nest so many levels deep.
+    // Reads the object of an entry and adds it, then its children. Lists of objects nest at most `levels` deep.
     #[cycle(objects)]
     #[tactic(auto, unfolding(definition_format::specs::Denoted::Objects::object_at))]
     fn read_entry(
@@ -306,7 +306,7 @@ impl<'a, 'b> Scope<'a, 'b> {
         Ok(())
     }
 
-    // Adds the objects of a list to those before, each with its children behind it.
+    // Reads the objects of a list and adds them, each followed by its children.
     #[cycle(objects)]
     fn read_list(
         &self,
@@ -334,7 +334,7 @@ impl<'a, 'b> Scope<'a, 'b> {
     }
 }
 
-// The objects of a list in a scope.
+// Reads the objects of a list in a scope.
 fn read_within(list: Entries<'_>, scope: &Scope<'_, '_>) -> Result<ReadObjects, ReadError>
     requires { IsReady scope.now }
     ensures { Gives (λ v. built_view v.objects.entries v.bindings.items) result (each (at_entry (object_at most_levels (scope_of scope.now) None) list.entry.path.now) 0 no_objects (items_view list.entry.items.now)) }
@@ -350,7 +350,7 @@ fn read_within(list: Entries<'_>, scope: &Scope<'_, '_>) -> Result<ReadObjects, 
     })
 }
 
-// The same, beside these prototypes, where so many may live and the names of all objects are known.
+// Reads the objects of a list with a scope made of these parts. `most` objects may live at a time.
 fn read_named<'a, 'b>(
     list: Entries<'_>,
     classes: Classes<'a>,
@@ -378,11 +378,12 @@ fn read_named<'a, 'b>(
     read_within(list, &scope)
 }
 
-/// The objects of a list beside these prototypes, where so many may live, and the bindings among them.
+/// Reads the objects of a list and the bindings between them. No object may have the id of a prototype, and all of them share the 512
+/// places. `most` objects may live at a time.
 ///
 /// # Errors
 ///
-/// `Refused` with the first fault in document order, and `OutOfMemory` if memory is refused.
+/// Returns `Refused` with the first fault in document order, or `OutOfMemory` if memory is refused.
 pub fn read_objects<'a>(
     list: Entries<'a>,
     classes: Classes<'a>,

@@ -1,4 +1,4 @@
-//! The names of peers. Each peer is named once in a definition.
+//! Reads the names of peers. Each peer is named once in a definition.
 
 ghost use Rattle.std.specs.Prelude.{◌≡◌, ℕ, List, codes, false, string_bytes, OnOk};
 ghost use Rattle.serde_json.specs.Find.{get, as_array};
@@ -19,14 +19,14 @@ use std::collections::BTreeSet;
 
 const MEMBER: &str = "peers";
 
-/// The names of the peers of some places.
+/// The names of the peers of some objects and prototypes.
 #[derive(Drop)]
 pub struct PeerNames {
     pub(crate) names: BTreeSet<String>,
 }
 
 impl PeerNames {
-    /// No names. It takes no memory.
+    /// Creates an empty set of names. It takes no memory.
     pub fn new(alloc: Global) -> Self
         ensures { (name : List ℕ) → is_named_in result name ≡ false }
     {
@@ -35,7 +35,7 @@ impl PeerNames {
         }
     }
 
-    /// Whether a peer has this name.
+    /// Returns whether a peer has this name.
     pub fn has(&self, name: &str) -> bool
         ensures { result ≡ is_named_in self.now name.now }
     {
@@ -51,14 +51,14 @@ impl PeerNames {
     }
 }
 
-/// The peers of a prototype, while they are read, and all names so far.
+/// The peers of a prototype that are read so far, and the names of all peers so far.
 #[derive(Drop)]
 pub(crate) struct OwnPeers {
     pub(crate) peers: Vec<String>,
     pub(crate) named: PeerNames,
 }
 
-// Refuses an entry whose name is taken.
+// Refuses an entry as `Duplicate` if its name is taken.
 fn check_untaken(part: Part<'_>, is_taken: bool) -> Result<(), ReadError>
     ensures { Gives (λ _. tt) result (unless_there (path_of part.entry.path) is_taken) }
 {
@@ -69,7 +69,7 @@ fn check_untaken(part: Part<'_>, is_taken: bool) -> Result<(), ReadError>
     Ok(())
 }
 
-// Adds the peer of an entry.
+// Reads the peer of an entry and adds it.
 #[tactic(auto, unfolding(crate::specs::PeerDrafts::own_peer_at))]
 fn read_own_peer(part: Part<'_>, own: &mut OwnPeers) -> Result<(), ReadError>
     ensures { Leads result (own_peer_at (path_of part.entry.path) (own_seen own.old) (view part.entry.value.now)) (own_seen own.new) }
@@ -83,7 +83,7 @@ fn read_own_peer(part: Part<'_>, own: &mut OwnPeers) -> Result<(), ReadError>
     Ok(())
 }
 
-// How the peers of a prototype are read.
+// The reader for the peers of a prototype.
 #[derive(Clone, Copy)]
 struct PeerEntries;
 
@@ -108,7 +108,7 @@ impl Reads<OwnPeers> for PeerEntries {
     }
 }
 
-// The peers of a list, where these names are taken.
+// Reads the peers of a list. None may have a name in `named`.
 fn read_list(list: Entries<'_>, named: PeerNames) -> Result<OwnPeers, ReadError>
     ensures { Gives own_seen result (each (at_entry own_peer_at list.entry.path.now) 0 (no_peers (is_named_in named)) (items_view list.entry.items.now)) }
 {
@@ -120,7 +120,7 @@ fn read_list(list: Entries<'_>, named: PeerNames) -> Result<OwnPeers, ReadError>
     Ok(own)
 }
 
-// The entries of a list.
+// Returns the entries of the list `peers`.
 fn entries_of<'a>(part: Part<'_>, value: &'a Value) -> Result<&'a [Value], ReadError>
     ensures { Gives (λ s. items_view s.now) result (or_refused (shape (under (path_of part.entry.path) (codes "peers"))) (as_array (view value.now))) }
 {
@@ -130,7 +130,7 @@ fn entries_of<'a>(part: Part<'_>, value: &'a Value) -> Result<&'a [Value], ReadE
     }
 }
 
-// The peers that a value lists, where these names are taken.
+// Reads the peers that a value lists. None may have a name in `named`.
 #[tactic(auto, unfolding(crate::specs::PeerDrafts::own_peers_at))]
 fn listed_peers(part: Part<'_>, value: &Value, named: PeerNames) -> Result<OwnPeers, ReadError>
     ensures { Gives own_seen result (own_peers_at (under (path_of part.entry.path) (codes "peers")) (is_named_in named) (view value.now)) }
@@ -146,7 +146,7 @@ fn listed_peers(part: Part<'_>, value: &Value, named: PeerNames) -> Result<OwnPe
     Ok(own)
 }
 
-/// The peers of the entry of a prototype, whose class may have a shape, where these names are taken.
+/// Reads the peers of a prototype from its entry. Only a prototype whose class has a shape may have some, and none with a name in `named`.
 pub(crate) fn read_own_peers(
     part: Part<'_>,
     has_shape: bool,

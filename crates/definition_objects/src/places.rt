@@ -1,4 +1,4 @@
-//! The places of a document by their ids. Those that come later are known too.
+//! The places of a document by their ids. Those that come later in the document are known too.
 
 ghost use Rattle.std.specs.Prelude.{◌≡◌, List, ℕ, None, Some, codes, map, option_map, if◌then◌else◌, IfOk, OnOk};
 ghost use Rattle.std.specs.BTreeMap.{get_by_text};
@@ -13,7 +13,7 @@ use std::alloc::{AllocError, Global};
 use std::collections::BTreeMap;
 use ui_machine::Place;
 
-// Gives the id of an entry its place, in place of that of an entry behind it.
+// Maps the id of an entry to its place, in place of that of a later entry with the same id. Does nothing without an id.
 fn add_place(
     places: &mut BTreeMap<String, Place>,
     alloc: Global,
@@ -30,7 +30,7 @@ fn add_place(
     Ok(())
 }
 
-// The place of the first entry of each id.
+// Maps each id to the place of the first entry that has it.
 fn places_of(alloc: Global, entries: &[&Value]) -> Result<BTreeMap<String, Place>, AllocError>
     ensures { (id : List ℕ) → IfOk result (λ places. number_of_place (get_by_text places id)
         ≡ option_map (at_most 512) (number_from 0 (map (name_under (codes "id")) (views entries.now)) id)) }
@@ -44,7 +44,7 @@ fn places_of(alloc: Global, entries: &[&Value]) -> Result<BTreeMap<String, Place
     Ok(places)
 }
 
-/// The places of a document: its objects in document order, behind each its children, and then its prototypes.
+/// Maps each id of a document to its place. Objects come first in document order, each followed by its children, and then the prototypes.
 ///
 /// # Errors
 ///

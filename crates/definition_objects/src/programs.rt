@@ -1,4 +1,4 @@
-//! The programs of a definition.
+//! Reads the programs of a definition.
 
 ghost use Rattle.std.specs.Prelude.{◌≡◌, ◌<◌, ◌≤◌, [], None, Ok, codes, is_some, length, map, option_map, string_bytes, IfOk, OnOk};
 ghost use Rattle.std.specs.List.{AllByRecursion};
@@ -30,10 +30,10 @@ use indexmap::IndexMap;
 use std::alloc::AllocError;
 use ui_machine::ProgramId;
 
-/// The most programs of a definition.
+/// The greatest number of programs of a definition.
 pub(crate) const MOST_PROGRAMS: usize = 256;
 
-// The path of a block of a program, or of the program itself.
+// Returns the path of a block of a program, or of the program itself.
 fn path_of_block(part: Part<'_>, block: Option<usize>) -> Result<String, AllocError>
     ensures { IfOk result (λ s. string_bytes s ≡ block_path (path_of part.entry.path) block) }
 {
@@ -48,7 +48,7 @@ fn path_of_block(part: Part<'_>, block: Option<usize>) -> Result<String, AllocEr
     path_within(part.alloc, path, block)
 }
 
-// The path of a member, or of the whole.
+// Returns the path of a member of a program or block, or of all of it.
 fn path_of_member(
     part: Part<'_>,
     block: Option<usize>,
@@ -68,7 +68,7 @@ fn path_of_member(
     path_under(part.alloc, path, key.as_str())
 }
 
-// The path of a part of a program.
+// Returns the path of a part of a program.
 fn path_of_part(part: Part<'_>, place: ProgramPart<'_>) -> Result<String, AllocError>
     ensures { IfOk result (λ s. string_bytes s ≡ part_path (path_of part.entry.path) (part_view place.entry)) }
 {
@@ -83,7 +83,7 @@ fn path_of_part(part: Part<'_>, place: ProgramPart<'_>) -> Result<String, AllocE
     path_within(part.alloc, path, index)
 }
 
-// What the format refuses in a program beside its instructions.
+// Makes the refusal for a fault in the outline of a program.
 fn refused_outline(part: Part<'_>, fault: OutlineFault<'_>) -> Result<ReadError, ReadError>
     ensures { IsRefusal (outline_refusal (path_of part.entry.path) (fault_view fault.entry)) result }
 {
@@ -100,7 +100,7 @@ fn refused_outline(part: Part<'_>, fault: OutlineFault<'_>) -> Result<ReadError,
     }
 }
 
-// A fault of a program as a whole.
+// Makes the refusal for a fault of a program as a whole.
 fn refused_program(part: Part<'_>, fault: ProgramFault) -> Result<ReadError, ReadError>
     ensures { IsRefusal (bad_program (path_of part.entry.path) fault) result }
 {
@@ -108,7 +108,7 @@ fn refused_program(part: Part<'_>, fault: ProgramFault) -> Result<ReadError, Rea
     Ok(ReadError::Refused(DefinitionFault::BadProgram(path, fault)))
 }
 
-// The program of a value of which the format refuses nothing beside the instructions.
+// Reads the program of an entry whose outline has no fault.
 fn well_formed(part: Part<'_>, names: &Names<'_>) -> Result<Program, ReadError>
     requires { IsWellFormed (names_view names.now) (view part.value.now) }
     ensures read { (o : outlines.Outline) → outline_in (names_view names.now) (view part.entry.value.now) ≡ Ok o
@@ -123,7 +123,7 @@ fn well_formed(part: Part<'_>, names: &Names<'_>) -> Result<Program, ReadError>
     }
 }
 
-// The program of an entry, or what the format refuses beside its instructions.
+// Reads the program of an entry, or returns the fault of its outline, which is reported after those of the room and the name.
 fn program_ahead<'a>(
     part: Part<'a>,
     names: &Names<'_>,
@@ -142,7 +142,7 @@ fn program_ahead<'a>(
     }
 }
 
-// Tests that there is room for a further program.
+// Checks that there is room for another program.
 fn check_room(programs: &Programs) -> Result<(), ReadError>
     ensures room { Gives (λ _. tt) result (room_for_program (map plain_program programs.now.entries)) }
     ensures below { IfOk result (λ _. length programs.now.entries < 256) }
@@ -153,7 +153,7 @@ fn check_room(programs: &Programs) -> Result<(), ReadError>
     Ok(())
 }
 
-// Whether there is a program of this name.
+// Returns whether there is a program of this name.
 fn has_program(programs: &Programs, name: &str) -> bool
     requires { AllByRecursion HasOwnName programs.now.entries }
     ensures { result ≡ is_some (place_named (λ p. p.name) (map plain_program programs.now.entries) name.now) }
@@ -161,7 +161,7 @@ fn has_program(programs: &Programs, name: &str) -> bool
     programs.get_index_of(name).is_some()
 }
 
-// Tests a name beside those of the programs before.
+// Checks that a name is valid and that no program so far has it.
 fn check_name(part: Part<'_>, programs: &Programs, name: &str) -> Result<(), ReadError>
     requires { AllByRecursion HasOwnName programs.now.entries }
     ensures name { Gives (λ _. tt) result (new_program (under (path_of part.entry.path) (codes "name")) (map plain_program programs.now.entries) name.now) }
@@ -178,7 +178,7 @@ fn check_name(part: Part<'_>, programs: &Programs, name: &str) -> Result<(), Rea
     Ok(())
 }
 
-// The program that was read ahead, unless the format refuses something in it.
+// Returns the program that was read ahead, or the refusal for the fault of its outline.
 fn unless_refused(
     part: Part<'_>,
     ahead: Result<Program, OutlineFault<'_>>,
@@ -192,14 +192,14 @@ fn unless_refused(
     }
 }
 
-// A program that is not yet among the others, and its name.
+// A program that is not added yet, and its name.
 #[derive(Drop)]
 struct NewProgram {
     name: String,
     program: Program,
 }
 
-// The program of an entry beside those before.
+// Reads a program that is not in `programs` yet from an entry.
 #[tactic(auto, unfolding(definition_format::specs::Denoted::Programs::program_in))]
 fn program_in(
     part: Part<'_>,
@@ -223,7 +223,7 @@ fn program_in(
     Ok(NewProgram { name, program })
 }
 
-// Adds the program of an entry to those before.
+// Reads the program of an entry and adds it to those before.
 fn read_entry(part: Part<'_>, names: &Names<'_>, programs: &mut Programs) -> Result<(), ReadError>
     requires named { AllByRecursion HasOwnName programs.old.entries }
     requires sound { AllByRecursion (IsSoundProgram names.now.types.now) programs.old.entries }
@@ -237,11 +237,11 @@ fn read_entry(part: Part<'_>, names: &Names<'_>, programs: &mut Programs) -> Res
     Ok(())
 }
 
-/// The programs of a list, where their kinds may name these types and places.
+/// Reads the programs of a list. Their kinds may name the types and places in `names`.
 ///
 /// # Errors
 ///
-/// `Refused` with the first fault in document order, and `OutOfMemory` if memory is refused.
+/// Returns `Refused` with the first fault in document order, or `OutOfMemory` if memory is refused.
 pub fn read_programs(list: Entries<'_>, names: &Names<'_>) -> Result<Programs, ReadError>
     ensures read { Gives (λ programs. map plain_program programs.entries) result (each (at_entry (λ path. program_at path (names_view names.now)) list.entry.path.now) 0 [] (items_view list.entry.items.now)) }
     ensures named { IfOk result (λ programs. AllByRecursion HasOwnName programs.entries) }

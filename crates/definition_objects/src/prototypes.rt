@@ -1,4 +1,4 @@
-//! The prototypes of a definition, of which programs make objects.
+//! Reads the prototypes of a definition, of which programs make objects.
 
 ghost use Rattle.std.specs.Prelude.{◌≡◌, [], None, codes, is_some, length, map, string_bytes, IfOk};
 ghost use Rattle.serde_json.specs.Find.{get};
@@ -39,7 +39,7 @@ const MEMBERS: [&str; 4] = ["id", "class", "properties", "peers"];
 
 const MEMBERS_OF_GIVEN: [&str; 2] = ["name", "value"];
 
-/// What is known of classes where objects are read: the types, with their properties and the shapes that they name.
+/// The classes as they are known while objects are read: the types with their properties and the shapes that they name.
 #[derive(Clone, Copy)]
 pub struct Classes<'a> {
     pub types: &'a TypeTree,
@@ -48,7 +48,7 @@ pub struct Classes<'a> {
 }
 
 impl Classes<'_> {
-    /// Whether a class has a shape.
+    /// Returns whether a class has a shape.
     pub fn is_shaped(&self, class: TypeId) -> bool
         ensures { result ≡ is_shaped_by self.now.types.now (read None self.now.shaped.now) class }
     {
@@ -56,7 +56,7 @@ impl Classes<'_> {
     }
 }
 
-// Tests that a property takes a value.
+// Checks that a property can be given a value.
 fn check_writable(part: Part<'_>, spec: &Spec) -> Result<(), ReadError>
     ensures { Gives (λ _. tt) result (if_writable (under (path_of part.entry.path) (codes "name")) (spec_view spec.now)) }
 {
@@ -67,7 +67,7 @@ fn check_writable(part: Part<'_>, spec: &Spec) -> Result<(), ReadError>
     Ok(())
 }
 
-// The value that an entry gives.
+// Reads the value that an entry gives.
 fn value_in(part: Part<'_>, types: &TypeTree, kind: Kind) -> Result<Given, ReadError>
     requires { IsKnown types.now kind }
     ensures { Gives given_view result (plain_value (under (path_of part.entry.path) (codes "value")) types.now (kind_view kind) (get (codes "value") (view part.entry.value.now))) }
@@ -79,7 +79,7 @@ fn value_in(part: Part<'_>, types: &TypeTree, kind: Kind) -> Result<Given, ReadE
     Ok(Given::Value(value))
 }
 
-// Adds the value that an entry gives to a property of a class.
+// Reads the value that an entry gives to a property of a class, and adds it to those before.
 #[tactic(auto, unfolding(definition_format::specs::Denoted::Prototypes::plain_at))]
 fn read_given(
     part: Part<'_>,
@@ -105,7 +105,7 @@ fn read_given(
     Ok(())
 }
 
-// How the entries of a prototype's properties are read, where it is of this class.
+// The reader for the entries of the properties of a prototype of this class.
 #[derive(Clone, Copy)]
 struct PlainEntries<'a> {
     types: &'a TypeTree,
@@ -137,7 +137,7 @@ impl<'a> Reads<Vec<GivenValue>> for PlainEntries<'a> {
     }
 }
 
-// The values that a prototype of a class is given.
+// Reads the values that a prototype of this class is given.
 #[tactic(auto, unfolding(definition_format::specs::Denoted::Prototypes::all_plain_at, param_specs::specs::Table::specs_of))]
 fn read_givens(
     part: Part<'_>,
@@ -165,7 +165,7 @@ fn read_givens(
     Ok(given)
 }
 
-// Tests that there is room for a further prototype.
+// Checks that there is room for another prototype.
 fn check_room(prototypes: &Prototypes) -> Result<(), ReadError>
     ensures { Gives (λ _. tt) result (room_for_prototype (map plain_prototype prototypes.now.entries)) }
 {
@@ -175,14 +175,14 @@ fn check_room(prototypes: &Prototypes) -> Result<(), ReadError>
     Ok(())
 }
 
-// Whether a prototype has this id.
+// Returns whether a prototype has this id.
 fn has_prototype(prototypes: &Prototypes, id: &str) -> bool
     ensures { result ≡ is_some (place_named (λ p. p.id) (map plain_prototype prototypes.now.entries) id.now) }
 {
     prototype_of(prototypes, id).is_some()
 }
 
-// A prototype that is not yet among the others, and the names of all peers so far.
+// A prototype that is not added yet, its id, and the names of all peers so far.
 #[derive(Drop)]
 struct NewPrototype {
     id: String,
@@ -190,7 +190,7 @@ struct NewPrototype {
     named: PeerNames,
 }
 
-// The prototypes that were read so far, and the names of their peers.
+// The prototypes that are read so far, and the names of their peers.
 #[derive(Drop)]
 struct PrototypeDraft {
     prototypes: Prototypes,
@@ -204,7 +204,7 @@ pub struct ReadPrototypes {
     pub named: PeerNames,
 }
 
-// The prototype of an entry beside those before.
+// Reads a prototype that is not in `prototypes` yet from an entry. `named` has the names of the peers so far.
 #[tactic(auto, unfolding(crate::specs::PeerDrafts::stock_in))]
 fn prototype_in(
     part: Part<'_>,
@@ -237,7 +237,7 @@ fn prototype_in(
     })
 }
 
-// Adds the prototype of an entry to those before.
+// Reads the prototype of an entry and adds it to those before.
 #[tactic(auto, unfolding(crate::specs::PeerDrafts::stock_at))]
 fn read_entry(
     part: Part<'_>,
@@ -254,7 +254,7 @@ fn read_entry(
     Ok(())
 }
 
-// How the entries of prototypes are read.
+// The reader for the entries of the prototypes.
 #[derive(Clone, Copy)]
 struct PrototypeEntries<'a> {
     known: Classes<'a>,
@@ -287,11 +287,11 @@ impl<'a> Reads<PrototypeDraft> for PrototypeEntries<'a> {
     }
 }
 
-/// The prototypes of a list, where classes have these properties and shapes, and the names of their peers.
+/// Reads the prototypes of a list, and collects the names of their peers.
 ///
 /// # Errors
 ///
-/// `Refused` with the first fault in document order, and `OutOfMemory` if memory is refused.
+/// Returns `Refused` with the first fault in document order, or `OutOfMemory` if memory is refused.
 pub fn read_prototypes(list: Entries<'_>, known: Classes<'_>) -> Result<ReadPrototypes, ReadError>
     requires { ArePlain known.types.now known.specs.now }
     ensures prototypes { Gives (λ r. map plain_prototype r.prototypes.entries) result (each (at_entry (λ path. prototype_at path known.entry.types.now (specs_by known.entry.types.now (own_of known.entry.specs.now)) (is_shaped_by known.entry.types.now (read None known.entry.shaped.now))) list.entry.path.now) 0 [] (items_view list.entry.items.now)) }

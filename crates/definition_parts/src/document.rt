@@ -15,14 +15,14 @@ use g_values::JsonFault;
 use serde_json::{Map, Value};
 use std::alloc::{AllocError, Global};
 
-/// The most bytes of a definition.
+/// The greatest number of bytes of a definition.
 pub const MAX_BYTES: usize = 4_194_304;
 
-/// The JSON value that the bytes hold.
+/// Parses the bytes of a definition as JSON.
 ///
 /// # Errors
 ///
-/// `Refused` with the first fault in document order, and `OutOfMemory` if memory is refused.
+/// Returns `TooLong`, `NotUtf8` or `NotJson`, tested in this order, or `OutOfMemory` if memory is refused.
 #[tactic(auto, unfolding(definition_format::specs::Document::document))]
 pub fn parsed(alloc: Global, bytes: &[u8]) -> Result<Value, ReadError>
     ensures { Gives view result (document bytes.now) }
@@ -40,7 +40,7 @@ pub fn parsed(alloc: Global, bytes: &[u8]) -> Result<Value, ReadError>
     }
 }
 
-/// A value of a document, and where it is.
+/// A value of a document and its path.
 #[derive(Clone, Copy)]
 pub struct Part<'a> {
     pub alloc: Global,
@@ -48,7 +48,7 @@ pub struct Part<'a> {
     pub value: &'a Value,
 }
 
-/// The entries of a list of a document, and the path of the list.
+/// The entries of a list of a document and the path of the list.
 #[derive(Clone, Copy)]
 pub struct Entries<'a> {
     pub alloc: Global,
@@ -56,14 +56,14 @@ pub struct Entries<'a> {
     pub items: &'a [Value],
 }
 
-// The path of an entry of a list.
+// Returns the path of an entry of the list at `path`.
 fn path_of_entry(alloc: Global, path: &str, index: usize) -> Result<String, AllocError>
     ensures { IfOk result (λ s. string_bytes s ≡ nth path.now index) }
 {
     Ok(format!(in alloc; "{path}/{index}")?)
 }
 
-/// The path as a text.
+/// Returns the text of a path.
 ///
 /// # Errors
 ///
@@ -77,7 +77,7 @@ pub fn path_text(alloc: Global, path: Path<'_>) -> Result<String, AllocError>
     }
 }
 
-/// The path of a member of the value there.
+/// Returns the path of the member `key` of the value at `path`.
 ///
 /// # Errors
 ///
@@ -90,7 +90,7 @@ pub fn path_under(alloc: Global, path: Path<'_>, key: &str) -> Result<String, Al
     Ok(format!(in alloc; "{start}/{key}")?)
 }
 
-/// The path of an entry of the list there.
+/// Returns the path of an entry of the list at `path`.
 ///
 /// # Errors
 ///
@@ -102,11 +102,11 @@ pub fn path_within(alloc: Global, path: Path<'_>, index: usize) -> Result<String
     path_of_entry(alloc, whole.as_str(), index)
 }
 
-/// A name that is an entry of a list.
+/// Reads a name that is an entry of a list.
 ///
 /// # Errors
 ///
-/// `Shape` at the entry if it is no text.
+/// Returns `Shape` at the entry if it is no text, or `OutOfMemory` if memory is refused.
 pub fn entry_name<'a>(part: Part<'a>) -> Result<&'a str, ReadError>
     ensures { Gives (λ s. s.now) result (or_refused (shape (path_of part.entry.path)) (as_str (view part.entry.value.now))) }
 {
@@ -116,7 +116,7 @@ pub fn entry_name<'a>(part: Part<'a>) -> Result<&'a str, ReadError>
     }
 }
 
-/// A fault of shape at a member.
+/// Makes the refusal `Shape` at the member `key`.
 ///
 /// # Errors
 ///
@@ -127,7 +127,7 @@ pub fn bad_shape(alloc: Global, path: Path<'_>, key: &str) -> Result<ReadError, 
     Ok(ReadError::Refused(DefinitionFault::Shape(path_under(alloc, path, key)?)))
 }
 
-/// A fault of a name at a member, which nothing has.
+/// Makes the refusal `Unknown` at the member `key`, with a name that nothing has.
 ///
 /// # Errors
 ///
@@ -140,7 +140,7 @@ pub fn unknown_name(part: Part<'_>, key: &str, name: &str) -> Result<ReadError, 
     Ok(ReadError::Refused(DefinitionFault::Unknown(path, name)))
 }
 
-// The path of a member of the value there, or of the value itself.
+// Returns the path of the member `key` of the value at `path`, or of this value if there is no key.
 fn path_at(alloc: Global, path: Path<'_>, key: Option<&str>) -> Result<String, AllocError>
     ensures { IfOk result (λ s. string_bytes s ≡ at_key (path_of path.entry) (option_map (λ k. k.now) key.entry)) }
 {
@@ -150,7 +150,7 @@ fn path_at(alloc: Global, path: Path<'_>, key: Option<&str>) -> Result<String, A
     }
 }
 
-/// A fault of shape at a member, or at the value itself.
+/// Makes the refusal `Shape` at the member `key`, or at the value itself if there is no key.
 ///
 /// # Errors
 ///
@@ -161,7 +161,7 @@ pub fn bad_shape_at(part: Part<'_>, key: Option<&str>) -> Result<ReadError, Read
     Ok(ReadError::Refused(DefinitionFault::Shape(path_at(part.alloc, part.path, key)?)))
 }
 
-/// A fault of a name there, which nothing has.
+/// Makes the refusal `Unknown` with a name that nothing has, at the member `key`, or at the value itself if there is no key.
 ///
 /// # Errors
 ///
@@ -174,7 +174,7 @@ pub fn unknown_at(part: Part<'_>, key: Option<&str>, name: &str) -> Result<ReadE
     Ok(ReadError::Refused(DefinitionFault::Unknown(path, name)))
 }
 
-/// A fault of a value at a member.
+/// Makes the refusal `ValueFault` with this cause at the member `key`.
 ///
 /// # Errors
 ///
@@ -191,7 +191,8 @@ pub fn bad_value(
     Ok(ReadError::Refused(DefinitionFault::ValueFault(path, cause)))
 }
 
-/// The entries of a member that is a list, read ahead; none where it is no list.
+/// Returns the entries of the list under `key`, or no entries if there is no list. It refuses nothing, so it may look ahead of what is
+/// read.
 pub fn listed_ahead<'a>(value: &'a Value, key: &str) -> &'a [Value]
     ensures { items_view result.now ≡ listed_ahead key.now (view value.now) }
 {
@@ -202,11 +203,11 @@ pub fn listed_ahead<'a>(value: &'a Value, key: &str) -> &'a [Value]
 }
 
 impl<'a> Part<'a> {
-    /// The members of the value, which must be an object.
+    /// Returns the members of the value.
     ///
     /// # Errors
     ///
-    /// `Refused` with the first fault in document order, and `OutOfMemory` if memory is refused.
+    /// Returns `Shape` at the value if it is no object, or `OutOfMemory` if memory is refused.
     pub fn members(self) -> Result<&'a Map<String, Value>, ReadError>
         ensures { Gives (λ m. members_view m.now.entries) result (members_at (path_of self.entry.path) (view self.entry.value.now)) }
     {
@@ -218,11 +219,11 @@ impl<'a> Part<'a> {
         }
     }
 
-    /// A member that must be a text.
+    /// Returns the text under `key`.
     ///
     /// # Errors
     ///
-    /// `Refused` with the first fault in document order, and `OutOfMemory` if memory is refused.
+    /// Returns `Shape` at the member if it is absent or no text, or `OutOfMemory` if memory is refused.
     pub fn text(self, key: &str) -> Result<&'a str, ReadError>
         ensures { Gives (λ s. s.now) result (text_at (path_of self.entry.path) (view self.entry.value.now) key.now) }
     {
@@ -232,11 +233,11 @@ impl<'a> Part<'a> {
         }
     }
 
-    /// A truth value, which is false where it is absent.
+    /// Returns the truth value under `key`, which is false if it is absent.
     ///
     /// # Errors
     ///
-    /// `Refused` with the first fault in document order, and `OutOfMemory` if memory is refused.
+    /// Returns `Shape` at the member if it is no truth value, or `OutOfMemory` if memory is refused.
     pub fn truth(self, key: &str) -> Result<bool, ReadError>
         ensures { Gives (λ b. b) result (truth_at (path_of self.entry.path) (view self.entry.value.now) key.now) }
     {
@@ -249,11 +250,11 @@ impl<'a> Part<'a> {
         }
     }
 
-    /// The entries of a list, which may be absent.
+    /// Returns the entries of the list under `key`, or no entries if it is absent.
     ///
     /// # Errors
     ///
-    /// `Refused` with the first fault in document order, and `OutOfMemory` if memory is refused.
+    /// Returns `Shape` at the member if it is no list, or `OutOfMemory` if memory is refused.
     pub fn entries(self, key: &str) -> Result<&'a [Value], ReadError>
         ensures { Gives (λ s. items_view s.now) result (entries_at (path_of self.entry.path) (view self.entry.value.now) key.now) }
     {
@@ -266,11 +267,11 @@ impl<'a> Part<'a> {
         }
     }
 
-    /// Tests that the members have no other keys.
+    /// Checks that each member has one of these keys.
     ///
     /// # Errors
     ///
-    /// `Refused` with the first fault in document order, and `OutOfMemory` if memory is refused.
+    /// Returns `Shape` at the first member that has another key, or `OutOfMemory` if memory is refused.
     #[tactic(auto, using(crate::proofs::Members::first_other_is))]
     pub fn check_only(self, members: &Map<String, Value>, keys: &[&str]) -> Result<(), ReadError>
         ensures { Gives (λ _. tt) result (only_at (path_of self.entry.path) (members_view members.now.entries) (map (λ k. k.now) keys.now)) }
@@ -285,21 +286,21 @@ impl<'a> Part<'a> {
     }
 }
 
-// Whether a key is one of these.
+// Returns whether `key` is one of `keys`.
 fn is_among(keys: &[&str], key: &str) -> bool
     ensures { result ≡ list_any (λ k. bytes_eq k.now key.now) keys.now }
 {
     keys.iter().any(|known| *known == key)
 }
 
-// The first key that is none of these.
+// Returns the first key that is not in `known`.
 fn first_other<'a>(members: &'a Map<String, Value>, known: &[&str]) -> Option<&'a String>
     ensures { option_copied result ≡ find (λ key. not (list_any (λ k. bytes_eq k.now (string_bytes key)) known.now)) (keys members.now) }
 {
     members.keys().find(|key| !is_among(known, key.as_str()))
 }
 
-// Adds a character as a path writes it.
+// Appends a character in the form that it has in a path.
 #[tactic(auto, using(crate::proofs::Escapes::escaped_plain))]
 fn push_escaped(out: &mut String, c: char) -> Result<(), AllocError>
     ensures { OnOk result (string_bytes out.new ≡ string_bytes out.old ++ escaped (encode_utf8 c)) }
@@ -312,7 +313,7 @@ fn push_escaped(out: &mut String, c: char) -> Result<(), AllocError>
     Ok(())
 }
 
-/// A key as a path writes it: `~0` for `~`, and `~1` for `/`.
+/// Returns a key in the form that it has in a path, with `~0` for `~` and `~1` for `/`.
 ///
 /// # Errors
 ///

@@ -1,4 +1,4 @@
-//! Entries of the document's lists, by what they are called. Those that come later are known too.
+//! Names of the entries of a document's lists, with their numbers. Entries that come later in the document are known too.
 
 ghost use Rattle.std.specs.Prelude.{◌≡◌, ◌+◌, ◌++◌, List, ℕ, None, Some, codes, length, map, option_map, slice_get, if◌then◌else◌, IfOk, OnOk};
 ghost use Rattle.std.specs.BTreeMap.{get_by_text};
@@ -13,24 +13,24 @@ use std::alloc::{AllocError, Global};
 use std::collections::BTreeMap;
 use std::marker::Model;
 
-/// How deep lists of objects nest. JSON is read 127 levels deep, and the children of an object are two levels below it.
+/// The greatest depth to which lists of objects nest. JSON is read 127 levels deep, and the children of an object are two levels below it.
 pub const MOST_LEVELS: usize = 64;
 
-/// What an entry is called under a key, if it is called something.
+/// Returns the text under `key` in an entry, or `None` if there is none.
 pub fn name_under<'a>(entry: &'a Value, key: &str) -> Option<&'a str>
     ensures { option_map (λ s. s.now) result ≡ name_under key.now (view entry.now) }
 {
     entry.get(key).and_then(Value::as_str)
 }
 
-// The entry of a number.
+// Returns the entry with this number.
 fn entry<'a>(entries: &[&'a Value], number: usize) -> Option<&'a Value>
     ensures { option_map (λ v. view v.now) result ≡ slice_get (views entries.now) number }
 {
     entries.get(number).copied()
 }
 
-/// The entries of a list that a member is; none, where it is no list.
+/// Returns the entries of the list under `key`, or no entries if there is no list.
 pub fn section<'a>(value: &'a Value, key: &str) -> &'a [Value]
     ensures { items_view result.now ≡ section key.now (view value.now) }
 {
@@ -40,7 +40,7 @@ pub fn section<'a>(value: &'a Value, key: &str) -> &'a [Value]
     }
 }
 
-// Gives what an entry is called its number, in place of that of an entry behind it.
+// Maps the entry's name under `key` to its number, in place of that of a later entry with the same name. Does nothing without a name.
 fn add_number(
     numbers: &mut BTreeMap<String, usize>,
     alloc: Global,
@@ -57,7 +57,7 @@ fn add_number(
     Ok(())
 }
 
-// The number of the first entry of each name.
+// Maps each name under `key` to the number of the first entry that has it.
 fn numbers_of(
     alloc: Global,
     entries: &[&Value],
@@ -74,14 +74,14 @@ fn numbers_of(
     Ok(numbers)
 }
 
-// References to the entries of a list.
+// Collects references to the entries of a list.
 fn each_of<'a>(alloc: Global, items: &'a [Value]) -> Result<Vec<&'a Value>, AllocError>
     ensures { IfOk result (λ refs. map (λ r. r.now) refs.items ≡ items.now) }
 {
     items.iter().collect(alloc)
 }
 
-// The same of a list.
+// Maps each name under `key` to the number of the first entry of the list that has it.
 fn numbers_in(
     alloc: Global,
     items: &[Value],
@@ -93,7 +93,7 @@ fn numbers_in(
     numbers_of(alloc, entries.as_slice(), key)
 }
 
-/// Adds the objects of a list in document order: behind each its children. Lists nest so many levels deep.
+/// Appends the objects of a list in document order, each followed by its children. Descends at most `levels` levels.
 ///
 /// # Errors
 ///
@@ -115,7 +115,7 @@ pub fn add_objects<'a>(
     Ok(())
 }
 
-/// A number, or the one behind the last.
+/// Returns `number`, or `most` if `number` is greater.
 pub fn at_most(most: u16, number: usize) -> u16
     ensures { result ≡ at_most most number }
 {
@@ -125,7 +125,7 @@ pub fn at_most(most: u16, number: usize) -> u16
     most
 }
 
-// The same of a sum.
+// Returns the sum of two numbers, or `most` if the sum is greater.
 fn sum_at_most(most: u16, left: usize, right: usize) -> u16
     ensures { result ≡ at_most most (left + right) }
 {
@@ -134,7 +134,7 @@ fn sum_at_most(most: u16, left: usize, right: usize) -> u16
     at_most(most, usize::from(left) + usize::from(right))
 }
 
-/// The interfaces and the classes of a document, by what they are called, with the number of the first of these types.
+/// The names of a document's interfaces and classes, with the number of the first of these types.
 #[derive(Drop)]
 pub struct TypeNames<'a> {
     first: usize,
@@ -159,7 +159,7 @@ impl<'a> Model for TypeNames<'a> {
 }
 
 impl<'a> TypeNames<'a> {
-    /// The names of a document, where the types before its interfaces are so many.
+    /// Collects the names of a document that has `first` types before its interfaces.
     ///
     /// # Errors
     ///
@@ -178,7 +178,7 @@ impl<'a> TypeNames<'a> {
         })
     }
 
-    /// The number of the interface or class of a name, or 256 where it is greater.
+    /// Returns the number of the interface or class with this name, or 256 if the number is greater.
     pub fn number(&self, name: &str) -> Option<u16>
         ensures { result ≡ option_map (at_most 256) (later_type self.now name.now) }
     {
@@ -191,7 +191,7 @@ impl<'a> TypeNames<'a> {
     }
 }
 
-/// The programs of a document, by what they are called.
+/// The names of a document's programs.
 #[derive(Drop)]
 pub struct ProgramNames<'a> {
     entries: &'a [Value],
@@ -212,7 +212,7 @@ impl<'a> Model for ProgramNames<'a> {
 }
 
 impl<'a> ProgramNames<'a> {
-    /// The names of a document.
+    /// Collects the names of a document's programs.
     ///
     /// # Errors
     ///
@@ -225,7 +225,7 @@ impl<'a> ProgramNames<'a> {
         Ok(ProgramNames { entries, numbers })
     }
 
-    /// The number of the program of a name, or 256 where it is greater.
+    /// Returns the number of the program with this name, or 256 if the number is greater.
     pub fn number(&self, name: &str) -> Option<u16>
         ensures { result ≡ program_named self.now name.now }
     {
@@ -234,7 +234,7 @@ impl<'a> ProgramNames<'a> {
     }
 }
 
-/// The objects of a document in document order, by their ids.
+/// The ids of a document's objects, in document order.
 #[derive(Drop)]
 pub struct ObjectNames<'a> {
     entries: Vec<&'a Value>,
@@ -255,7 +255,7 @@ impl<'a> Model for ObjectNames<'a> {
 }
 
 impl<'a> ObjectNames<'a> {
-    /// The names of these objects and of their children.
+    /// Collects the ids and classes of these objects and of their children.
     ///
     /// # Errors
     ///
@@ -269,14 +269,14 @@ impl<'a> ObjectNames<'a> {
         Ok(ObjectNames { entries, places })
     }
 
-    /// The place of the object of an id, of which there may be an entry.
+    /// Returns the place of the first object with this id.
     pub fn place(&self, id: &str) -> Option<usize>
         ensures { result ≡ number_from 0 self.now.ids id.now }
     {
         self.places.get(id).copied()
     }
 
-    /// What the class of the object at a place is called.
+    /// Returns the name of the class of the object at a place.
     pub fn class(&self, place: usize) -> Option<&str>
         ensures { option_map (λ s. s.now) result ≡ read None self.now.classes place }
     {

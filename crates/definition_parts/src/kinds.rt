@@ -1,4 +1,4 @@
-//! Kinds of properties, arguments and results, by their words.
+//! Reads kinds of properties, arguments and results from their words.
 
 ghost use Rattle.std.specs.Prelude.{◌≡◌, List, option_map, IfOk, IfSome};
 ghost use Rattle.serde_json.specs.View.{view};
@@ -15,7 +15,7 @@ use definition_format::ReadError;
 use g_values::Kind;
 use type_tree::{TypeId, TypeTree};
 
-/// The kind of a word that names no type.
+/// Returns the kind for a word that names no type, such as `int`.
 pub fn kind_named(word: &str) -> Option<Kind>
     ensures kind { option_map kind_view result ≡ kind_named word.now }
     ensures known { IfSome result (λ k. (types : List GType) → IsKnown types k) }
@@ -37,7 +37,7 @@ pub fn kind_named(word: &str) -> Option<Kind>
     }
 }
 
-// The enum of a name.
+// Returns the enum with this name.
 fn enum_named(types: &TypeTree, name: &str) -> Option<TypeId>
     ensures named { result ≡ enum_named types.now name.now }
     ensures known { IfSome result (λ t. sort_of types.now t ≡ enum) }
@@ -50,7 +50,7 @@ fn enum_named(types: &TypeTree, name: &str) -> Option<TypeId>
     }
 }
 
-// The flags type of a name.
+// Returns the flags type with this name.
 fn flags_named(types: &TypeTree, name: &str) -> Option<TypeId>
     ensures named { result ≡ flags_named types.now name.now }
     ensures known { IfSome result (λ t. sort_of types.now t ≡ flags) }
@@ -63,14 +63,14 @@ fn flags_named(types: &TypeTree, name: &str) -> Option<TypeId>
     }
 }
 
-// What comes before the first colon and what comes after it, if there is one.
+// Splits a word at its first colon, or returns `None` if it has no colon.
 fn parted(word: &str) -> Option<(&str, &str)>
     ensures { option_map (λ p. (p.0.now, p.1.now)) result ≡ parted word.now }
 {
     word.split_once(':')
 }
 
-// The class or interface of a name, which may come later.
+// Returns the class or interface with this name, which may come later in the document.
 fn object_type(types: &TypeTree, names: &TypeNames<'_>, name: &str) -> Option<TypeId>
     ensures { result ≡ object_type types.now names.now name.now }
 {
@@ -81,7 +81,8 @@ fn object_type(types: &TypeTree, names: &TypeNames<'_>, name: &str) -> Option<Ty
     Some(TypeId::new(number))
 }
 
-// The kind of a sort and of the type that a name names. The word is a member, or the value itself.
+// Returns the kind with this sort, which is `enum`, `flags` or `object`, and the type with this name. A fault is reported at the member
+// `key`, or at the value itself if there is no key.
 fn kind_of_type(
     part: Part<'_>,
     key: Option<&str>,
@@ -114,12 +115,12 @@ fn kind_of_type(
     Err(bad_shape_at(part, key)?)
 }
 
-/// The kind of a word, which is a member or the value itself. It may name an enum or a flags type of these, and a class or interface of the
-/// document.
+/// Returns the kind that a word names. An enum or flags type must be in `types`, a class or interface may also come later in the document.
+/// A fault is reported at the member `key`, or at the value itself if there is no key.
 ///
 /// # Errors
 ///
-/// `Refused` with the first fault in document order, and `OutOfMemory` if memory is refused.
+/// Returns `Shape` if the word has no form of a kind, `Unknown` if nothing has the name of its type, or `OutOfMemory` if memory is refused.
 pub fn kind_of_word(
     part: Part<'_>,
     key: Option<&str>,
@@ -139,11 +140,11 @@ pub fn kind_of_word(
     }
 }
 
-/// The kind of a property.
+/// Reads the kind of a property.
 ///
 /// # Errors
 ///
-/// `Refused` with the first fault in document order, and `OutOfMemory` if memory is refused.
+/// Returns `Refused` with the first fault in document order, or `OutOfMemory` if memory is refused.
 pub fn kind_of(part: Part<'_>, types: &TypeTree, names: &TypeNames<'_>) -> Result<Kind, ReadError>
     ensures kind { Gives kind_view result (kind_at (path_of part.entry.path) types.now names.now (view part.entry.value.now)) }
     ensures known { IfOk result (λ k. IsKnown types.now k) }
@@ -153,14 +154,14 @@ pub fn kind_of(part: Part<'_>, types: &TypeTree, names: &TypeNames<'_>) -> Resul
     Ok(kind)
 }
 
-/// Whether a kind is one of objects.
+/// Returns whether a kind is one of objects.
 pub fn is_object(kind: &Kind) -> bool
     ensures { result ≡ is_object_kind (kind_view kind.now) }
 {
     matches!(kind, Kind::Object(_))
 }
 
-/// The least number of a kind.
+/// Returns the least number of a kind of whole numbers, and 0 for any other kind.
 pub fn lowest(kind: &Kind) -> i128
     ensures { result ≡ lowest (kind_view kind.now) }
 {
@@ -171,7 +172,7 @@ pub fn lowest(kind: &Kind) -> i128
     }
 }
 
-/// The greatest number of a kind.
+/// Returns the greatest number of a kind of whole numbers, and 0 for any other kind.
 pub fn highest(kind: &Kind) -> i128
     ensures { result ≡ highest (kind_view kind.now) }
 {
@@ -184,7 +185,7 @@ pub fn highest(kind: &Kind) -> i128
     }
 }
 
-/// Whether a kind is one of whole numbers.
+/// Returns whether a kind is one of whole numbers.
 pub fn is_whole(kind: &Kind) -> bool
     ensures { result ≡ is_whole_kind (kind_view kind.now) }
 {

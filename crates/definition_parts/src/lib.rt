@@ -1,4 +1,5 @@
-//! The parts of a definition's document, with their paths: members and entries, names, numbers and kinds, and lists that are read entry by entry.
+//! The parts of a definition's document, with their paths: members and entries, names, numbers and kinds, and lists that are read entry by
+//! entry.
 #![tactic(auto)]
 
 pub mod document;

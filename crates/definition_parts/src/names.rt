@@ -1,4 +1,4 @@
-//! Names of what is neither a type nor a property.
+//! Names other than those of types and properties.
 
 ghost use Rattle.std.specs.Prelude.{◌≡◌, option_map};
 ghost use Rattle.serde_json.specs.Find.{as_str};
@@ -14,35 +14,35 @@ use crate::document::{Part, bad_shape, bad_shape_at};
 use definition_format::ReadError;
 use serde_json::Value;
 
-// An ASCII letter, a digit, `-` or `_`.
+// Returns whether a byte is an ASCII letter, a digit, `-` or `_`.
 fn is_name_byte(byte: u8) -> bool
     ensures { result ≡ is_name_byte byte }
 {
     matches!(byte, b'a'..=b'z' | b'A'..=b'Z' | b'0'..=b'9') || byte == b'-' || byte == b'_'
 }
 
-// Whether a text is made of them.
+// Returns whether all bytes of a text may be in a name.
 fn are_name_bytes(name: &str) -> bool
     ensures { result ≡ list_all is_name_byte name.now }
 {
     name.as_bytes().iter().all(|byte| is_name_byte(*byte))
 }
 
-// Whether a name may have so many bytes.
+// Returns whether a name may have this many bytes, which is 1 to 64.
 fn is_name_length(bytes: usize) -> bool
     ensures { result ≡ is_within 1 64 bytes }
 {
     1 <= bytes && bytes <= 64
 }
 
-/// Whether a text may be an id, or the name or nick of a member.
+/// Returns whether a text may be an id, or the name or nick of a member.
 pub fn is_name(name: &str) -> bool
     ensures { result ≡ is_name name.now }
 {
     is_name_length(name.len()) && are_name_bytes(name)
 }
 
-/// The name that a value is, if it is one.
+/// Returns the name in a value, or `None` if the value is no string or not a name.
 pub fn name_in(value: &Value) -> Option<&str>
     ensures { option_map (λ s. s.now) result ≡ name_if (as_str (view value.now)) }
 {
@@ -50,11 +50,11 @@ pub fn name_in(value: &Value) -> Option<&str>
     if is_name(name) { Some(name) } else { None }
 }
 
-/// The name that a member of an entry is.
+/// Reads a name from `value`, which is the member `key` of `part`.
 ///
 /// # Errors
 ///
-/// `Refused` with the first fault in document order, and `OutOfMemory` if memory is refused.
+/// Returns `Shape` at the member if the value is no name, or `OutOfMemory` if memory is refused.
 pub fn name_under<'a>(part: Part<'_>, key: &str, value: &'a Value) -> Result<&'a str, ReadError>
     ensures { Gives (λ s. s.now) result (name_at (under (path_of part.entry.path) key.now) (view value.now)) }
 {
@@ -64,11 +64,11 @@ pub fn name_under<'a>(part: Part<'_>, key: &str, value: &'a Value) -> Result<&'a
     }
 }
 
-/// The name that an entry is.
+/// Reads a name that is an entry of a list.
 ///
 /// # Errors
 ///
-/// `Refused` with the first fault in document order, and `OutOfMemory` if memory is refused.
+/// Returns `Shape` at the entry if it is no name, or `OutOfMemory` if memory is refused.
 pub fn name_of_entry<'a>(part: Part<'a>) -> Result<&'a str, ReadError>
     ensures { Gives (λ s. s.now) result (name_at (path_of part.entry.path) (view part.entry.value.now)) }
 {

@@ -6,7 +6,7 @@ ghost use Rattle.g_values.specs.Reading.{whole_number};
 
 use serde_json::Value;
 
-/// A whole number of 64 bits, with or without a sign.
+/// Returns the whole number of 64 bits in a value, with or without a sign, or `None` if it is none.
 pub fn whole_number(value: &Value) -> Option<i128>
     ensures { result ≡ whole_number (view value.now) }
 {

@@ -1,4 +1,4 @@
-//! Reading the entries of a list, one after the other.
+//! Reads the entries of a list one after the other.
 
 ghost use Rattle.std.specs.Prelude.{◌≡◌, ℕ, List, Result};
 ghost use Rattle.serde_json.specs.Data.{Data};
@@ -9,22 +9,22 @@ ghost use Rattle.definition_format.specs.Document.{path_of, each, at_entry};
 use crate::document::{Entries, Part};
 use definition_format::{Path, ReadError};
 
-/// What an entry of a list adds to a state.
+/// A reader that adds each entry of a list to a state.
 pub trait Reads<S> {
     // The state as the format sees it.
     ghost State: { Type 0 };
 
     ghost seen: { S → State };
 
-    // What no entry changes.
+    // The part of the state that no entry changes.
     ghost Unchanged: { Type 0 };
 
     ghost kept: { S → Unchanged };
 
-    // What must be known of the reader.
+    // The condition that a reader must meet.
     ghost known: { Self → Type 0 };
 
-    // What comes of the state by the entry at a path, or the fault.
+    // The state after the entry at a path is read, or the fault.
     ghost step: { Self → List ℕ → State → Data → Result State Refusal };
 
     fn read(&self, part: Part<'_>, state: &mut S) -> Result<(), ReadError>
@@ -33,11 +33,11 @@ pub trait Reads<S> {
         ensures same { kept state.new ≡ kept state.old };
 }
 
-/// Reads the entries of a list, from the first on.
+/// Reads the entries of a list in order.
 ///
 /// # Errors
 ///
-/// `Refused` with the first fault in document order, and `OutOfMemory` if memory is refused.
+/// Returns `Refused` with the first fault in document order, or `OutOfMemory` if memory is refused.
 pub fn read_each<S, R: Reads<S>>(
     reader: &R,
     list: Entries<'_>,

@@ -1,4 +1,4 @@
-//! The rules of bindings: which one a binding breaks first (GObject manual, GBinding).
+//! Finds the first binding that breaks a rule (GObject manual, GBinding).
 
 ghost use Rattle.std.specs.Prelude.{◌≡◌, Some, option_map, slice_get};
 ghost use Rattle.ui_machine.specs.Definition.Kinds as kinds;
@@ -18,59 +18,59 @@ use operand_types::Lookups;
 use param_specs::Spec;
 use ui_machine::{Place, Slot};
 
-/// The rules of bindings, in the order in which they are looked at.
+/// The rules of bindings, in the order in which they are tested.
 #[derive(Clone, Copy, Debug, PartialEq, Eq)]
 pub enum BindingRule {
-    /// Both ends are one property.
+    /// Both ends are the same property.
     Same,
     /// The source is not readable.
     Readable,
     /// The target is not writable.
     Writable,
-    /// The target is written by constructions alone.
+    /// The target is set only by constructions.
     ConstructOnly,
-    /// The kinds have no transformation.
+    /// There is no transformation between the kinds.
     Kinds,
-    /// An inversion of something else than truth values.
+    /// The binding inverts other values than truth values.
     Invert,
 }
 
-/// A binding, by its number, that breaks a rule.
+/// A binding that breaks a rule, with its number.
 #[derive(Clone, Copy, Debug, PartialEq, Eq)]
 pub struct BrokenBinding {
     pub binding: usize,
     pub rule: BindingRule,
 }
 
-/// Whether a binding goes both ways.
+/// Returns whether a binding is bidirectional.
 pub fn is_pair(binding: &Bind) -> bool
     ensures { result ≡ is_pair (bind_view binding.now) }
 {
     binding.flags.contains(BindingFlags::BIDIRECTIONAL)
 }
 
-// Whether both ends are one property.
+// Returns whether both ends of a binding are the same property.
 fn is_same_end(binding: &Bind) -> bool
     ensures { result ≡ same_channel (source_of (bind_view binding.now)) (target_of (bind_view binding.now)) }
 {
     binding.source.0 == binding.target.0 && binding.source_slot == binding.target_slot
 }
 
-// Whether a kind is that of truth values.
+// Returns whether a kind is that of truth values.
 fn is_truth(kind: Kind) -> bool
     ensures { result ≡ same_kind (kind_view kind) kinds.bool }
 {
     matches!(kind, Kind::Bool)
 }
 
-// Whether two kinds may be bound with an inversion, or without.
+// Returns whether two kinds may be bound with or without an inversion. With one, both must be truth values.
 fn is_invertible(inverts: bool, source: Kind, target: Kind) -> bool
     ensures { result ≡ is_invertible inverts (kind_view source) (kind_view target) }
 {
     !inverts || is_truth(source) && is_truth(target)
 }
 
-// The first rule that a binding breaks in one direction.
+// Returns the first rule that a binding breaks in one direction.
 fn rule_one_way(
     lookups: &Lookups<'_>,
     inverts: bool,
@@ -97,7 +97,7 @@ fn rule_one_way(
     None
 }
 
-// The spec of a property of a place.
+// Returns the spec of a property of the object or prototype at a place.
 fn spec_at<'l>(lookups: &'l Lookups<'_>, place: Place, slot: Slot) -> Option<&'l Spec>
     ensures { option_map (λ s. spec_view s.now) result ≡ spec_at lookups.now place.0 slot }
 {
@@ -107,7 +107,7 @@ fn spec_at<'l>(lookups: &'l Lookups<'_>, place: Place, slot: Slot) -> Option<&'l
     }
 }
 
-// The first rule that a binding breaks from one property to another. Both have to be there.
+// Returns the first rule that a binding breaks from one property to another. Both must exist.
 fn rule_between(
     lookups: &Lookups<'_>,
     inverts: bool,
@@ -125,7 +125,7 @@ fn rule_between(
     rule_one_way(lookups, inverts, source, target)
 }
 
-// The first rule that a binding breaks: forwards, and where it goes both ways then backwards.
+// Returns the first rule that a binding breaks, forwards and then, if it is bidirectional, backwards.
 fn rule_of(lookups: &Lookups<'_>, binding: &Bind) -> Option<BindingRule>
     ensures { option_map word_view result ≡ word_of lookups.now (bind_view binding.now) }
 {
@@ -144,7 +144,7 @@ fn rule_of(lookups: &Lookups<'_>, binding: &Bind) -> Option<BindingRule>
     rule_between(lookups, inverts, target, source)
 }
 
-/// The first binding that breaks a rule, and which.
+/// Returns the first binding that breaks a rule, and the rule.
 pub fn binding_fault(lookups: &Lookups<'_>) -> Option<BrokenBinding>
     ensures { option_map broken_fault result ≡ slice_get (binding_faults lookups.now) 0 }
 {

@@ -1,6 +1,7 @@
-//! Freezes and thaws of blocks: what is frozen in a block is thawed in it, by the same register, which is not written between.
+//! Checks that freezes and thaws match within each block. What a register freezes is thawed in the same block by the same register, which
+//! is not written in between.
 //!
-//! A block is read from its end: which brackets are open at an instruction is known from the code behind it.
+//! A block is read from its end, so that the brackets that are open at an instruction are known from the code after it.
 
 ghost use Rattle.std.specs.Prelude.{◌≡◌, map, option_map, slice_get, IfOk};
 ghost use Rattle.bytecode.specs.View.{block_view, instruction_view, program_view};
@@ -20,11 +21,11 @@ pub struct Unbalanced {
     pub block: BlockNumber,
 }
 
-/// Whether the freezes and thaws of a block match.
+/// Returns whether the freezes and thaws of a block match.
 ///
 /// # Errors
 ///
-/// `AllocError` where no memory is found.
+/// `AllocError` if memory is refused.
 pub fn is_balanced(alloc: Global, block: &Block) -> Result<bool, AllocError>
     ensures { IfOk result (λ r. r ≡ is_balanced (block_view block.now).code) }
 {
@@ -40,7 +41,7 @@ pub fn is_balanced(alloc: Global, block: &Block) -> Result<bool, AllocError>
     Ok(are_closed(open.as_slice()))
 }
 
-// The first block of a program whose freezes and thaws do not match.
+// Returns the first block of a program whose freezes and thaws do not match.
 fn program_fault(
     alloc: Global,
     number: ProgramId,
@@ -60,11 +61,11 @@ fn program_fault(
     Ok(None)
 }
 
-/// The first block of a definition whose freezes and thaws do not match. Whether its program is ever run does not matter.
+/// Returns the first block of a definition whose freezes and thaws do not match. It does not matter whether its program is ever run.
 ///
 /// # Errors
 ///
-/// `AllocError` where no memory is found.
+/// `AllocError` if memory is refused.
 pub fn bracket_fault(alloc: Global, lookups: &Lookups<'_>) -> Result<Option<Unbalanced>, AllocError>
     ensures { IfOk result (λ r. option_map unbalanced_view r ≡ slice_get (bracket_faults lookups.now) 0) }
 {

@@ -1,4 +1,4 @@
-//! The programs that classes and objects name for signals: each takes what it is given there, and gives what is wanted.
+//! Finds the first program that a class or an object names, and that does not take what it is given there or gives another result.
 
 ghost use Rattle.std.specs.Prelude.{◌≡◌, ◌++◌, ◌∷◌, [], None, option_map, slice_get, IfOk};
 ghost use Rattle.ui_machine.specs.Definition.Kinds as kinds;
@@ -22,18 +22,18 @@ use std::alloc::{AllocError, Global};
 use type_tree::TypeId;
 use ui_machine::{Place, ProgramId};
 
-/// Who runs a program that does not take what it is given there, or gives something else.
+/// The use of a program that does not take what it is given there, or gives another result.
 #[derive(Clone, Copy, Debug, PartialEq, Eq)]
 pub enum Handling {
-    /// A class, for a signal, by the number of the handler among the class's own.
+    /// A class names it for a signal, with the number of the handler among the class's own.
     ClassHandler { class: TypeId, number: usize },
-    /// A class, for its objects once they are constructed.
+    /// A class names it for its objects once they are constructed.
     Constructed(TypeId),
-    /// The object of a place, for a signal, by the number of the handler among the object's own.
+    /// The object at a place names it for a signal, with the number of the handler among the object's own.
     Attached { place: Place, number: usize },
 }
 
-// Whether the program of a number takes what it is given for a signal, and gives what the signal wants.
+// Returns whether the program with this number takes what it is given for a signal, and gives the result that the signal wants.
 fn is_taken_by(
     alloc: Global,
     lookups: &Lookups<'_>,
@@ -53,7 +53,7 @@ fn is_taken_by(
     Ok(takes(lookups, program, given.as_slice(), signal.result))
 }
 
-// Whether the program that a class names for a signal takes an instance of the class and the arguments.
+// Returns whether the program that a class names for a signal takes an instance of the class and the arguments.
 fn class_handler_fits(
     alloc: Global,
     lookups: &Lookups<'_>,
@@ -80,7 +80,7 @@ fn class_handler_fits(
     )
 }
 
-// The first program that a class names for a signal and that does not fit.
+// Returns the first program that a class names for a signal and that does not fit.
 fn class_handler_fault(
     alloc: Global,
     lookups: &Lookups<'_>,
@@ -97,7 +97,7 @@ fn class_handler_fault(
     Ok(None)
 }
 
-// Whether a program takes an instance of a class alone, and gives nothing.
+// Returns whether a program takes just an instance of a class, and gives no result.
 fn constructed_fits(
     alloc: Global,
     lookups: &Lookups<'_>,
@@ -114,7 +114,7 @@ fn constructed_fits(
     Ok(takes(lookups, program, given.as_slice(), None))
 }
 
-// The program that a class names for its objects once they are constructed, where it does not fit.
+// Returns the program that a class names for its constructed objects, if it does not fit.
 fn constructed_fault(
     alloc: Global,
     lookups: &Lookups<'_>,
@@ -131,7 +131,7 @@ fn constructed_fault(
     Ok(Some(Handling::Constructed(class)))
 }
 
-// The first program that a class names and that does not fit: of those for signals, then that for objects that are constructed.
+// Returns the first program that a class names and that does not fit. Those for signals go before the one for constructed objects.
 fn fault_of_class(
     alloc: Global,
     lookups: &Lookups<'_>,
@@ -145,7 +145,7 @@ fn fault_of_class(
     constructed_fault(alloc, lookups, class)
 }
 
-// The first program that some class names and that does not fit.
+// Returns the first program that any class names and that does not fit.
 fn class_fault(alloc: Global, lookups: &Lookups<'_>) -> Result<Option<Handling>, AllocError>
     ensures { IfOk result (λ r. option_map handling_fault r ≡ slice_get (class_faults lookups.now 0 lookups.now.classes) 0) }
 {
@@ -158,7 +158,7 @@ fn class_fault(alloc: Global, lookups: &Lookups<'_>) -> Result<Option<Handling>,
     Ok(None)
 }
 
-// The kind of a handler's data, if it has some: the object of their place.
+// Returns the kind of a handler's data, if it has some, which is the object at a place.
 fn data_kind(with: Option<Place>) -> Option<RegisterKind>
     ensures { option_map register_kind_view result ≡ option_map kinds.at (place_number with) }
 {
@@ -168,7 +168,7 @@ fn data_kind(with: Option<Place>) -> Option<RegisterKind>
     }
 }
 
-// Whether a signal of an object takes its detail, and its program the object, the arguments and the data.
+// Returns whether the signal of a handler takes its detail, and its program takes the object, the arguments and the data.
 fn attached_fits(
     alloc: Global,
     lookups: &Lookups<'_>,
@@ -199,7 +199,7 @@ fn attached_fits(
     )
 }
 
-// The first signal of an object that does not fit.
+// Returns the first handler of an object that does not fit.
 fn attached_fault(
     alloc: Global,
     lookups: &Lookups<'_>,
@@ -216,7 +216,7 @@ fn attached_fault(
     Ok(None)
 }
 
-// The first signal of some object that does not fit.
+// Returns the first handler of any object that does not fit.
 fn place_fault(alloc: Global, lookups: &Lookups<'_>) -> Result<Option<Handling>, AllocError>
     ensures { IfOk result (λ r. option_map handling_fault r ≡ slice_get (place_faults lookups.now 0 lookups.now.places) 0) }
 {
@@ -233,11 +233,12 @@ fn place_fault(alloc: Global, lookups: &Lookups<'_>) -> Result<Option<Handling>,
     Ok(None)
 }
 
-/// The first program that a class or an object names and that does not take what it is given there: class by class, then object by object.
+/// Returns the first program that a class or an object names and that does not take what it is given there. All classes go before all
+/// objects.
 ///
 /// # Errors
 ///
-/// `AllocError` where no memory is found.
+/// `AllocError` if memory is refused.
 pub fn handler_fault(alloc: Global, lookups: &Lookups<'_>) -> Result<Option<Handling>, AllocError>
     ensures { IfOk result (λ r. option_map handling_fault r ≡ slice_get (handler_faults lookups.now) 0) }
 {

@@ -1,8 +1,8 @@
-//! The rules of a definition beside those of its instructions: handlers take what they are given, bindings fit the properties that they
-//! bind, no property is in two pairs, and freezes and thaws match within a block.
+//! Checks the rules of a definition other than those of its instructions: handlers take what they are given, bindings fit the properties
+//! that they bind, no property is in two pairs, and freezes and thaws match within a block.
 //!
-//! Nothing runs. The rules are those of the law on typing. Of each the first fault in document order is looked for, and the contract says that
-//! it is the first of the law's list.
+//! Nothing runs. The rules are those of the law on typing. For each rule the first fault in document order is found, and the contract says
+//! that it is the first in the law's list.
 #![tactic(auto)]
 
 mod binding_rules;

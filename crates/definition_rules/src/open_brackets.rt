@@ -1,4 +1,4 @@
-//! How often the bracket of each register is open.
+//! Counts the open brackets of each register, where a freeze opens a bracket and a thaw closes it.
 
 ghost use Rattle.std.specs.Prelude.{◌≡◌, ◌∷◌, ℕ, List, option_map, IfOk, OnOk};
 ghost use Rattle.ui_machine.specs.Seq.{read};
@@ -13,14 +13,14 @@ use bytecode::{
 use operand_types::lists::write;
 use std::alloc::AllocError;
 
-/// What an instruction does to brackets.
+/// The effect of an instruction on brackets.
 #[derive(Clone, Copy, Debug, PartialEq, Eq)]
 pub enum BracketStep {
-    /// It opens that of a register.
+    /// Opens a bracket of the register.
     Freeze(Register),
-    /// It closes that of a register.
+    /// Closes a bracket of the register.
     Thaw(Register),
-    /// It writes a register, or none.
+    /// Writes the register, or none.
     Write(Option<Register>),
 }
 
@@ -74,7 +74,7 @@ fn source_written(instruction: &SourceInstruction) -> Option<Register>
     }
 }
 
-/// What an instruction does to brackets.
+/// Returns the effect of an instruction on brackets.
 #[tactic(auto, using(crate::proofs::InstructionSteps::computed, crate::proofs::InstructionSteps::controlled))]
 pub fn bracket_step(instruction: &Instruction) -> BracketStep
     ensures { step_view result ≡ step_of (instruction_view instruction.now) }
@@ -90,7 +90,7 @@ pub fn bracket_step(instruction: &Instruction) -> BracketStep
     }
 }
 
-// How often the bracket of a register is open.
+// Returns the number of open brackets of a register.
 fn count_of(counts: &[usize], register: Register) -> usize
     ensures { result ≡ read 0 counts.now register.0 }
 {
@@ -101,7 +101,7 @@ fn count_of(counts: &[usize], register: Register) -> usize
     }
 }
 
-// A bracket is opened: whether it is one of those that are open after it, and then it is not open before it.
+// Goes back over a freeze. Returns whether a bracket of the register is open after it, and then there is one less before it.
 fn open(counts: &mut Vec<usize>, register: Register) -> Result<bool, AllocError>
     ensures { IfOk result (λ kept. Goes kept counts.new.items counts.old.items (freezes register.0)) }
 {
@@ -113,7 +113,7 @@ fn open(counts: &mut Vec<usize>, register: Register) -> Result<bool, AllocError>
     Ok(true)
 }
 
-// A bracket is closed: it is open before it.
+// Goes back over a thaw, before which the register has one more open bracket.
 fn close(counts: &mut Vec<usize>, register: Register) -> Result<(), AllocError>
     requires { AreFew counts.old.items }
     ensures { OnOk result ((registers : List ℕ) → Counts counts.old.items registers → Counts counts.new.items (register.0 ∷ registers)) }
@@ -123,7 +123,7 @@ fn close(counts: &mut Vec<usize>, register: Register) -> Result<(), AllocError>
     Ok(())
 }
 
-// Whether a register that is written is none of an open bracket.
+// Returns whether the register that is written, if any, has no open bracket.
 fn is_kept(counts: &[usize], register: Option<Register>) -> bool
     ensures { Goes result counts.now counts.now (writes (option_map number_of register)) }
 {
@@ -133,12 +133,12 @@ fn is_kept(counts: &[usize], register: Option<Register>) -> bool
     }
 }
 
-/// Whether a step may be done, by counts of the brackets that are open after it. If it may, they become those of the brackets that are open
-/// before it.
+/// Goes back over a step. Returns whether it is allowed where `counts` are the brackets that are open after it. If it is, they become the
+/// brackets that are open before it.
 ///
 /// # Errors
 ///
-/// `AllocError` where no memory is found.
+/// `AllocError` if memory is refused.
 pub fn go_before(counts: &mut Vec<usize>, step: &BracketStep) -> Result<bool, AllocError>
     requires { AreFew counts.old.items }
     ensures { IfOk result (λ kept. Goes kept counts.new.items counts.old.items (step_view step.now)) }
@@ -153,7 +153,7 @@ pub fn go_before(counts: &mut Vec<usize>, step: &BracketStep) -> Result<bool, Al
     }
 }
 
-/// Whether no bracket is open.
+/// Returns whether no bracket is open.
 pub fn are_closed(counts: &[usize]) -> bool
     ensures { (registers : List ℕ) → Counts counts.now registers → result ≡ is_empty registers }
 {

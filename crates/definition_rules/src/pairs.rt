@@ -1,4 +1,4 @@
-//! Properties that are bound both ways: none is in two pairs.
+//! Checks that no property is in two pairs, which are bindings that go both ways.
 
 ghost use Rattle.std.specs.Prelude.{◌≡◌, ◌&&◌, option_map, slice_get, IfOk, OnOk};
 ghost use Rattle.definition_format.specs.Meaning.{bind_view};
@@ -14,13 +14,13 @@ use std::alloc::{AllocError, Global};
 use std::collections::BTreeSet;
 use ui_machine::Slot;
 
-/// A binding, by its number, that goes both ways and has an end that an earlier one has.
+/// A binding that goes both ways and shares an end with an earlier one, by its number.
 #[derive(Clone, Copy, Debug, PartialEq, Eq)]
 pub struct SecondPair {
     pub binding: usize,
 }
 
-// Whether a binding goes both ways and has an end that is among these, each of which is a place with a slot.
+// Returns whether a binding goes both ways and one of its ends is in `ends`, each of which is a place with a slot.
 fn is_second(ends: &BTreeSet<(u16, Slot)>, binding: &Bind) -> bool
     ensures { result ≡ (is_pair (bind_view binding.now) && is_taken ends.now (bind_view binding.now)) }
 {
@@ -29,7 +29,7 @@ fn is_second(ends: &BTreeSet<(u16, Slot)>, binding: &Bind) -> bool
             || ends.contains(&(binding.target.0, binding.target_slot)))
 }
 
-// The ends of a binding that goes both ways are put to these.
+// Adds the ends of a binding that goes both ways. Does nothing for any other.
 fn add_ends(ends: &mut BTreeSet<(u16, Slot)>, binding: &Bind) -> Result<(), AllocError>
     ensures { OnOk result (AddsEnds ends.old ends.new (bind_view binding.now)) }
 {
@@ -41,11 +41,11 @@ fn add_ends(ends: &mut BTreeSet<(u16, Slot)>, binding: &Bind) -> Result<(), Allo
     Ok(())
 }
 
-/// The first binding that goes both ways and has an end that an earlier one has.
+/// Returns the first binding that goes both ways and shares an end with an earlier one.
 ///
 /// # Errors
 ///
-/// `AllocError` where no memory is found.
+/// `AllocError` if memory is refused.
 pub fn pair_fault(alloc: Global, lookups: &Lookups<'_>) -> Result<Option<SecondPair>, AllocError>
     ensures { IfOk result (λ r. option_map second_fault r ≡ slice_get (pair_faults lookups.now) 0) }
 {

@@ -1,4 +1,4 @@
-//! The graph of a definition by numbers: what runs at each channel, and what programs may start.
+//! Sketches the graph of a definition by numbers: what runs at each channel, and what programs may start.
 #![tactic(auto)]
 
 ghost use Rattle.std.specs.Prelude.{◌≡◌, None, IfOk};
@@ -16,12 +16,12 @@ use raised_channels::raised_channels;
 use started_channels::sketched_programs;
 use std::alloc::{AllocError, Global};
 
-/// The graph of a definition by the numbers of its channels. It is right where the definition breaks no rule of instructions, handlers, bindings
-/// and pairs: only the pairs need that. It is always small enough for its nodes to be numbered.
+/// Returns the graph of a definition by the numbers of its channels. It is right if the definition breaks no rule of instructions,
+/// handlers, bindings and pairs, of which only the rule of pairs is needed. It is always small enough for its nodes to be numbered.
 ///
 /// # Errors
 ///
-/// `AllocError` where no memory is found.
+/// `AllocError` if memory is refused.
 pub fn sketch(
     alloc: Global,
     lookups: &Lookups<'_>,

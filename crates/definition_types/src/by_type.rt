@@ -1,4 +1,4 @@
-//! What types name, by type.
+//! Tables of what types name, indexed by type.
 
 ghost use Rattle.std.specs.Prelude.{◌≡◌, ◌≤◌, ℕ, None, Some, OnOk, if◌then◌else◌, nat_eq, vec_len};
 ghost use Rattle.ui_machine.specs.Seq.{read};
@@ -6,7 +6,7 @@ ghost use Rattle.ui_machine.specs.Seq.{read};
 use std::alloc::AllocError;
 use type_tree::TypeId;
 
-// Goes on with types that name nothing until there are so many.
+// Extends a table with empty entries until it has `len` of them.
 fn grow<T: Copy>(named: &mut Vec<Option<T>>, len: usize) -> Result<(), AllocError>
     requires { len ≤ 65536 }
     ensures same { (u : ℕ) → read None named.new.items u ≡ read None named.old.items u }

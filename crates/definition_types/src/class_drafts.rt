@@ -1,4 +1,4 @@
-//! Types while their classes are read.
+//! The types of a definition while their classes are read.
 
 use definitions::shapes::Shapes;
 use param_specs::SpecTable;
@@ -6,15 +6,15 @@ use signal_core::SignalTable;
 use type_tree::TypeTree;
 use ui_machine::ProgramId;
 
-/// Types with their properties and signals, the shapes that there are, and what classes name.
+/// The types with their properties and signals, the shapes that there are, and what classes name.
 #[derive(Drop)]
 pub struct ClassDraft {
     pub types: TypeTree,
     pub specs: SpecTable,
     pub signals: SignalTable,
-    /// The programs that classes name for their objects once they are constructed, by class.
+    /// The programs that classes run on their objects once these are constructed, by class.
     pub constructed: Vec<Option<ProgramId>>,
     pub shapes: Shapes,
-    /// The shapes that classes name, by class.
+    /// The numbers of the shapes that classes name, by class.
     pub shaped: Vec<Option<usize>>,
 }

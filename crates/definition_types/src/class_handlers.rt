@@ -1,4 +1,4 @@
-//! The programs that classes name for signals.
+//! Reads the programs that classes name for signals.
 
 ghost use Rattle.std.specs.Prelude.{◌≡◌, option_map, string_bytes, IfOk};
 ghost use Rattle.std.specs.BTreeSet.{contains_text};
@@ -25,7 +25,7 @@ use std::mem;
 use type_tree::TypeId;
 use ui_machine::ProgramId;
 
-// A signal and a program, of just two values.
+// Returns the signal and the program of a class handler, which are exactly two values.
 fn two_in(items: &[Value]) -> Option<(&Value, &Value)>
     ensures { option_map (λ w. (view w.0.now, view w.1.now)) result ≡ two_in (items_view items.now) }
 {
@@ -37,7 +37,7 @@ fn two_in(items: &[Value]) -> Option<(&Value, &Value)>
     }
 }
 
-// The parts of a class handler.
+// Returns the two parts of a class handler's entry.
 fn parts_of<'a>(part: Part<'a>) -> Result<(&'a Value, &'a Value), ReadError>
     ensures { Gives (λ w. (view w.0.now, view w.1.now)) result (pair_at (path_of part.entry.path) (view part.entry.value.now)) }
 {
@@ -49,7 +49,7 @@ fn parts_of<'a>(part: Part<'a>) -> Result<(&'a Value, &'a Value), ReadError>
     Err(ReadError::Refused(DefinitionFault::Shape(path_text(part.alloc, part.path)?)))
 }
 
-// The name of a signal, the first part.
+// Reads the name of a signal, which is part 0 of an entry.
 fn signal_part<'a>(part: Part<'_>, value: &'a Value) -> Result<&'a str, ReadError>
     ensures { Gives (λ s. s.now) result (or_refused (shape (nth (path_of part.entry.path) 0)) (as_str (view value.now))) }
 {
@@ -59,7 +59,7 @@ fn signal_part<'a>(part: Part<'_>, value: &'a Value) -> Result<&'a str, ReadErro
     }
 }
 
-// A fault of a name, the second part, which no program has.
+// Makes the refusal `Unknown` at part 1 of an entry, with a name that no program has.
 fn unknown_program(part: Part<'_>, name: &str) -> Result<ReadError, ReadError>
     ensures { IsRefusal (unknown (nth (path_of part.entry.path) 1) name.now) result }
 {
@@ -68,7 +68,7 @@ fn unknown_program(part: Part<'_>, name: &str) -> Result<ReadError, ReadError>
     Ok(ReadError::Refused(DefinitionFault::Unknown(path, name)))
 }
 
-// The program that the second part names.
+// Returns the program that part 1 of an entry names.
 #[tactic(auto, unfolding(definition_format::specs::Denoted::ClassHandlers::program_at))]
 fn program_part(
     part: Part<'_>,
@@ -84,7 +84,7 @@ fn program_part(
     }
 }
 
-// The canonical name of a signal, which must be none of these.
+// Returns the canonical name of a signal, which must not be in `named`.
 fn new_name(part: Part<'_>, named: &BTreeSet<String>, signal: &str) -> Result<String, ReadError>
     ensures new { Gives (λ _. tt) result (unless_there (nth (path_of part.entry.path) 0) (contains_text named.now (canonical signal.now))) }
     ensures name { IfOk result (λ s. string_bytes s ≡ canonical signal.now) }
@@ -94,7 +94,7 @@ fn new_name(part: Part<'_>, named: &BTreeSet<String>, signal: &str) -> Result<St
     Ok(name)
 }
 
-// The class handler of an entry, where the class has some for the signals of these names.
+// Reads a class handler from an entry. `named` has the signals for which the class has handlers already.
 #[tactic(auto, unfolding(crate::specs::HandlerDrafts::handler_part_in))]
 fn class_handler_in<'a>(
     part: Part<'a>,
@@ -115,7 +115,7 @@ fn class_handler_in<'a>(
     })
 }
 
-// How the entries of a class's handlers are read, where these are all programs.
+// The reader for the entries of a class's handlers.
 #[derive(Clone, Copy)]
 struct ClassHandlerEntries<'a> {
     programs: &'a ProgramNames<'a>,
@@ -147,7 +147,7 @@ impl<'a> Reads<HandlerDraft> for ClassHandlerEntries<'a> {
     }
 }
 
-// Gives a class the class handlers of a list.
+// Reads the class handlers of a list and adds them to a class.
 fn read_class_handlers(
     list: Entries<'_>,
     programs: &ProgramNames<'_>,
@@ -159,7 +159,7 @@ fn read_class_handlers(
 {
     let named = names_of(list.alloc, signals.own_handlers(t))?;
     let reader = ClassHandlerEntries { programs, t };
-    // The draft has the table meanwhile. It comes back also where an entry is at fault.
+    // The draft owns the table meanwhile, which is put back even if an entry is at fault.
     let mut draft = HandlerDraft {
         signals: mem::replace(signals, SignalTable::new(list.alloc)),
         named,
@@ -169,7 +169,7 @@ fn read_class_handlers(
     read
 }
 
-// Gives a class the class handlers of its entry.
+// Reads the class handlers of a class from its entry.
 #[tactic(auto, unfolding(definition_format::specs::Denoted::ClassHandlers::class_handlers_at))]
 pub(crate) fn give_class_handlers(
     part: Part<'_>,

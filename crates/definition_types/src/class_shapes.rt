@@ -1,4 +1,4 @@
-//! The shapes that classes name.
+//! Reads the shapes that classes name.
 
 ghost use Rattle.std.specs.Prelude.{◌≡◌, None, Ok, Some, codes, is_some, map};
 ghost use Rattle.serde_json.specs.Find.{get};
@@ -21,7 +21,7 @@ use type_tree::{TypeId, TypeTree};
 
 const MEMBER: &str = "shape";
 
-// Tests that a class has no shape so far.
+// Refuses a second shape for a class.
 fn check_unshaped(part: Part<'_>, has_shape: bool) -> Result<(), ReadError>
     ensures { Gives (λ _. tt) result (unless_there (under (path_of part.entry.path) (codes "shape")) has_shape) }
 {
@@ -32,7 +32,7 @@ fn check_unshaped(part: Part<'_>, has_shape: bool) -> Result<(), ReadError>
     Ok(())
 }
 
-// The number of the shape that a text names, for a class that may have one already.
+// Returns the number of the shape that a value names. Refuses it if the class has one already.
 #[tactic(auto, unfolding(definition_format::specs::Denoted::Shapes::named_shape))]
 fn named_shape(
     part: Part<'_>,
@@ -50,7 +50,7 @@ fn named_shape(
     Ok(number)
 }
 
-// The number of the shape that the entry of a class names, if it names one.
+// Returns the number of the shape that the entry of a class names, or `None` if it names none.
 fn shape_named(part: Part<'_>, shapes: &Shapes, has_shape: bool) -> Result<Option<usize>, ReadError>
     ensures { Gives (λ n. n) result (named_shape_or (under (path_of part.entry.path) (codes "shape")) (map plain_shape shapes.now.entries) has_shape (get (codes "shape") (view part.entry.value.now))) }
 {
@@ -61,7 +61,7 @@ fn shape_named(part: Part<'_>, shapes: &Shapes, has_shape: bool) -> Result<Optio
     Ok(Some(number))
 }
 
-// Gives a type a shape, if there is one.
+// Notes the shape of a type, if there is one.
 fn add_shape(
     shaped: &mut Vec<Option<usize>>,
     t: TypeId,
@@ -75,14 +75,14 @@ fn add_shape(
     Ok(())
 }
 
-// Whether a type has a shape.
+// Returns whether a type has a shape.
 fn is_shaped(types: &TypeTree, shaped: &[Option<usize>], t: TypeId) -> bool
     ensures { result ≡ is_shaped_by types.now (read None shaped.now) t }
 {
     shape_number(types, shaped, t).is_some()
 }
 
-/// Gives a class the shape of its entry.
+/// Reads the shape of a class from its entry.
 #[tactic(auto, unfolding(definition_format::specs::Denoted::Shapes::shaped_at))]
 pub(crate) fn give_shape(
     part: Part<'_>,

@@ -1,4 +1,4 @@
-//! The classes of a definition.
+//! Reads the classes of a definition.
 
 ghost use Rattle.std.specs.Prelude.{◌≡◌, ◌<◌, codes, length, map, IfOk};
 ghost use Rattle.serde_json.specs.View.{view, items_view};
@@ -41,7 +41,7 @@ const MEMBERS: [&str; 10] = [
     "shape",
 ];
 
-// A fault of a class at its parent.
+// Makes the refusal `BadType` at the parent of a class.
 fn bad_parent(part: Part<'_>, cause: TypeCause) -> Result<ReadError, ReadError>
     ensures { IsRefusal (bad_type (under (path_of part.entry.path) (codes "parent")) (cause_view cause)) result }
 {
@@ -49,7 +49,7 @@ fn bad_parent(part: Part<'_>, cause: TypeCause) -> Result<ReadError, ReadError>
     Ok(ReadError::Refused(DefinitionFault::BadType(path, cause)))
 }
 
-// The parent of a name.
+// Returns the parent with this name. `list` has the entries of all classes, some of which may not be read yet.
 fn parent_called(
     part: Part<'_>,
     list: &[Value],
@@ -75,7 +75,7 @@ fn parent_called(
     }
 }
 
-// The parent that is named.
+// Returns the parent that a value names.
 #[tactic(auto, unfolding(definition_format::specs::Denoted::Classes::named_parent))]
 fn named_parent(
     part: Part<'_>,
@@ -93,7 +93,7 @@ fn named_parent(
     Ok(parent)
 }
 
-// A class's parent: `GObject` where none is named.
+// Returns the parent of a class, which is `GObject` if none is named.
 fn parent_of(part: Part<'_>, list: &[Value], types: &TypeTree) -> Result<TypeId, ReadError>
     ensures parent { Gives (λ t. t) result (parent_at (path_of part.entry.path) (items_view list.now) types.now (view part.entry.value.now)) }
     ensures within { IfOk result (λ t. t < length types.now) }
@@ -104,7 +104,7 @@ fn parent_of(part: Part<'_>, list: &[Value], types: &TypeTree) -> Result<TypeId,
     }
 }
 
-// The class that an entry names as its parent, if it is there.
+// Returns the class that an entry names as its parent, or `None` if it is at fault. It refuses nothing, so it may look ahead.
 fn parent_ahead(value: &Value, types: &TypeTree) -> Option<TypeId>
     ensures { result ≡ parent_ahead types.now (get (codes "parent") (view value.now)) }
 {
@@ -114,7 +114,7 @@ fn parent_ahead(value: &Value, types: &TypeTree) -> Option<TypeId>
     }
 }
 
-// Tests that a class under a parent is not too deep.
+// Checks that a class with this parent is not too deep.
 fn check_depth(types: &TypeTree, parent: Option<TypeId>) -> Result<(), ReadError>
     ensures { Gives (λ _. tt) result (check_depth types.now parent) }
 {
@@ -126,7 +126,7 @@ fn check_depth(types: &TypeTree, parent: Option<TypeId>) -> Result<(), ReadError
     }
 }
 
-// What may not be done with the class of an entry.
+// Reads `abstract` and `final`.
 #[tactic(auto, unfolding(definition_format::specs::Denoted::Classes::flags_at))]
 fn flags_of(part: Part<'_>) -> Result<TypeFlags, ReadError>
     ensures { Gives (λ flags. flags) result (flags_at (path_of part.entry.path) (view part.entry.value.now)) }
@@ -139,7 +139,7 @@ fn flags_of(part: Part<'_>) -> Result<TypeFlags, ReadError>
     })
 }
 
-// Adds the class that an entry declares, of the entries of all classes.
+// Adds the class that an entry declares. `list` has the entries of all classes.
 #[tactic(auto, unfolding(definition_format::specs::Denoted::Classes::declared_at))]
 fn declare(
     part: Part<'_>,
@@ -164,7 +164,7 @@ fn declare(
     Ok(class)
 }
 
-// Gives a class what its entry names.
+// Reads the class handlers, the `constructed` program and the shape that the entry of a class names.
 #[tactic(auto, unfolding(definition_format::specs::Denoted::Classes::answers_at))]
 fn give_answers(
     part: Part<'_>,
@@ -185,7 +185,7 @@ fn give_answers(
     Ok(())
 }
 
-// Adds the class of an entry, with its properties, its signals and what it names.
+// Reads the class of an entry and adds it with its properties, its signals and what it names.
 #[tactic(auto, unfolding(definition_format::specs::Denoted::Drafts::type_at))]
 fn read_class(
     part: Part<'_>,
@@ -219,7 +219,7 @@ fn read_class(
     Ok(())
 }
 
-// How the entries of the classes are read, where the classes begin with the first and have this list, among the names of the document.
+// The reader for the entries of the classes. `list` has all of them, and `first` is the number of the first class.
 #[derive(Clone, Copy)]
 struct ClassEntries<'a> {
     first: usize,
@@ -264,11 +264,11 @@ impl<'a> Reads<ClassDraft> for ClassEntries<'a> {
     }
 }
 
-/// Adds the classes of a list.
+/// Reads the classes of a list and adds them.
 ///
 /// # Errors
 ///
-/// `Refused` with the first fault in document order, and `OutOfMemory` if memory is refused.
+/// Returns `Refused` with the first fault in document order, or `OutOfMemory` if memory is refused.
 pub fn read_classes(
     list: Entries<'_>,
     names: &TypeNames<'_>,

@@ -1,4 +1,4 @@
-//! The programs that classes run on their objects once these are constructed.
+//! Reads the programs that classes run on their objects once these are constructed.
 
 ghost use Rattle.std.specs.Prelude.{None, Ok, codes};
 ghost use Rattle.serde_json.specs.Find.{get};
@@ -20,7 +20,7 @@ use ui_machine::ProgramId;
 
 const MEMBER: &str = "constructed";
 
-// The program that is named.
+// Returns the program that a value names.
 #[tactic(auto, unfolding(definition_format::specs::Denoted::ClassHandlers::program_at))]
 fn program_in(
     part: Part<'_>,
@@ -36,7 +36,7 @@ fn program_in(
     }
 }
 
-// The program that the entry of a class names, if it names one.
+// Returns the program that the entry of a class names, or `None` if it names none.
 #[tactic(auto, unfolding(definition_format::specs::Denoted::Constructed::some_program))]
 fn program_of(part: Part<'_>, programs: &ProgramNames<'_>) -> Result<Option<ProgramId>, ReadError>
     ensures { Gives (λ p. p) result (program_or (under (path_of part.entry.path) (codes "constructed")) programs.now (get (codes "constructed") (view part.entry.value.now))) }
@@ -48,7 +48,7 @@ fn program_of(part: Part<'_>, programs: &ProgramNames<'_>) -> Result<Option<Prog
     Ok(Some(program))
 }
 
-// Gives a type a program, if there is one.
+// Notes the program of a type, if there is one.
 fn add_program(
     constructed: &mut Vec<Option<ProgramId>>,
     t: TypeId,
@@ -62,7 +62,7 @@ fn add_program(
     Ok(())
 }
 
-// Gives a class the program of its entry.
+// Reads the program of a class from its entry.
 #[tactic(auto, unfolding(definition_format::specs::Denoted::Constructed::constructed_at))]
 pub(crate) fn give_constructed(
     part: Part<'_>,

@@ -1,5 +1,5 @@
-//! The members of an enum while they are read. Their names and numbers are kept by themselves too, so that a further member is looked up among
-//! them at once.
+//! The members of an enum while they are read. Their names and numbers are also kept in sets, so that a further one is found without a
+//! search of the members.
 
 ghost use Rattle.std.specs.Prelude.{◌≡◌, [], map, string_bytes, OnOk};
 ghost use Rattle.type_tree.specs.Entry.{enum_member};
@@ -18,7 +18,7 @@ pub(crate) struct EnumDraft {
 }
 
 impl EnumDraft {
-    /// No members.
+    /// Creates a draft without members.
     pub(crate) fn new(alloc: Global) -> Self
         ensures { parts_seen result ≡ parts_of [] }
     {
@@ -29,25 +29,25 @@ impl EnumDraft {
         }
     }
 
-    /// Whether a member has this name.
+    /// Returns whether a member has this name.
     pub(crate) fn has_name(&self, name: &str) -> bool
         ensures { result ≡ (parts_seen self.now).has_name name.now }
     {
         self.names.contains(name)
     }
 
-    /// Whether a member has this number.
+    /// Returns whether a member has this number.
     pub(crate) fn has_number(&self, number: i32) -> bool
         ensures { result ≡ (parts_seen self.now).has_number number }
     {
         self.numbers.contains(&number)
     }
 
-    /// Adds a member. The key is its name once more, and the number its number.
+    /// Adds a member. `key` must be its name and `number` its number.
     ///
     /// # Errors
     ///
-    /// `AllocError` if memory is refused. What is kept may then be more names than members, and is of no further use.
+    /// `AllocError` if memory is refused. The draft may then have more names than members, and is of no further use.
     pub(crate) fn add(
         &mut self,
         key: String,
@@ -64,7 +64,7 @@ impl EnumDraft {
         Ok(())
     }
 
-    /// The members.
+    /// Returns the members.
     pub(crate) fn into_members(self) -> Vec<EnumMember>
         ensures { map enum_member result.items ≡ (parts_seen self).members }
     {

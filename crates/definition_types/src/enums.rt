@@ -1,4 +1,4 @@
-//! The enums and flags types of a definition.
+//! Reads the enums and flags types of a definition.
 
 ghost use Rattle.std.specs.Prelude.{◌≡◌, ◌≤ℤ◌, ◌∷◌, ◌++◌, [], codes, pos, map, length, option_and_then, option_map, None, IfOk, IfSome};
 ghost use Rattle.serde_json.specs.View.{view, items_view};
@@ -23,7 +23,7 @@ use type_tree::{EnumMember, FlagsMember, TypeTree};
 
 const MEMBERS: [&str; 2] = ["name", "members"];
 
-// A name, a nick and a number, of just three values.
+// Returns the name, the nick and the number of a member, which are exactly three values.
 fn three_in(items: &[Value]) -> Option<(&Value, &Value, &Value)>
     ensures { option_map (λ w. (view w.0.now, view w.1.now, view w.2.now)) result ≡ three_in (items_view items.now) }
 {
@@ -36,7 +36,7 @@ fn three_in(items: &[Value]) -> Option<(&Value, &Value, &Value)>
     }
 }
 
-// The parts of a member.
+// Returns the three parts of a member's entry.
 fn parts_of<'a>(part: Part<'a>) -> Result<(&'a Value, &'a Value, &'a Value), ReadError>
     ensures { Gives (λ w. (view w.0.now, view w.1.now, view w.2.now)) result (parts_at (path_of part.entry.path) (view part.entry.value.now)) }
 {
@@ -48,14 +48,14 @@ fn parts_of<'a>(part: Part<'a>) -> Result<(&'a Value, &'a Value, &'a Value), Rea
     Err(ReadError::Refused(DefinitionFault::Shape(path_text(part.alloc, part.path)?)))
 }
 
-// A fault of shape at a part of an entry.
+// Makes the refusal `Shape` at part `index` of an entry.
 pub(crate) fn bad_part(part: Part<'_>, index: usize) -> Result<ReadError, ReadError>
     ensures { IsRefusal (shape (nth (path_of part.entry.path) index)) result }
 {
     Ok(ReadError::Refused(DefinitionFault::Shape(path_within(part.alloc, part.path, index)?)))
 }
 
-// A name, the part of an entry with this index.
+// Reads a name that is part `index` of an entry.
 pub(crate) fn name_part<'a>(
     part: Part<'_>,
     index: usize,
@@ -69,7 +69,7 @@ pub(crate) fn name_part<'a>(
     }
 }
 
-// A whole number between two others, both included, if the value is one.
+// Returns the whole number in a value if it is from `low` to `high`, both included.
 fn number_in(value: &Value, low: i128, high: i128) -> Option<i128>
     ensures number { result ≡ number_if low high (whole_number (view value.now)) }
     ensures low { IfSome result (λ n. low ≤ℤ n) }
@@ -82,7 +82,7 @@ fn number_in(value: &Value, low: i128, high: i128) -> Option<i128>
     Some(number)
 }
 
-// The number of a member, its last part.
+// Reads the number of a member, which is its last part.
 fn number_part(part: Part<'_>, value: &Value, low: i128, high: i128) -> Result<i128, ReadError>
     ensures number { Gives (λ n. n) result (number_at (nth (path_of part.entry.path) 2) low high (view value.now)) }
     ensures low { IfOk result (λ n. low ≤ℤ n) }
@@ -94,7 +94,7 @@ fn number_part(part: Part<'_>, value: &Value, low: i128, high: i128) -> Result<i
     }
 }
 
-// Refuses a part of an entry that an earlier entry has.
+// Refuses part `index` of an entry as `Duplicate` if it is there already.
 pub(crate) fn check_new(part: Part<'_>, index: usize, there: bool) -> Result<(), ReadError>
     ensures { Gives (λ _. tt) result (unless_there (nth (path_of part.entry.path) index) there) }
 {
@@ -106,7 +106,7 @@ pub(crate) fn check_new(part: Part<'_>, index: usize, there: bool) -> Result<(),
     Ok(())
 }
 
-// A member of an enum, beside those before.
+// Reads a member of an enum. Its name and number must be different from those of the members before.
 #[tactic(auto, unfolding(crate::specs::EnumDrafts::enum_part_at))]
 fn enum_member_of(part: Part<'_>, draft: &EnumDraft) -> Result<EnumMember, ReadError>
     ensures { Gives (λ m. with_member (parts_seen draft.now) (enum_member m)) result (enum_part_at (path_of part.entry.path) (parts_seen draft.now) (view part.entry.value.now)) }
@@ -123,7 +123,7 @@ fn enum_member_of(part: Part<'_>, draft: &EnumDraft) -> Result<EnumMember, ReadE
     Ok(EnumMember { name, nick, number })
 }
 
-// How the members of an enum are read.
+// The reader for the members of an enum.
 #[derive(Clone, Copy)]
 struct EnumMembers;
 
@@ -150,7 +150,7 @@ impl Reads<EnumDraft> for EnumMembers {
     }
 }
 
-// The members of an enum that a list has.
+// Reads the members of an enum from a list.
 fn read_enum_members(list: Entries<'_>) -> Result<Vec<EnumMember>, ReadError>
     ensures { Gives (λ v. map enum_member v.items) result (each (at_entry enum_member_at list.entry.path.now) 0 [] (items_view list.entry.items.now)) }
 {
@@ -159,7 +159,7 @@ fn read_enum_members(list: Entries<'_>) -> Result<Vec<EnumMember>, ReadError>
     Ok(draft.into_members())
 }
 
-// A member of a flags type, beside those before.
+// Reads a member of a flags type.
 #[tactic(auto, unfolding(definition_format::specs::Denoted::Enums::flags_member_at))]
 fn flags_member_of(part: Part<'_>, members: &[FlagsMember]) -> Result<FlagsMember, ReadError>
     ensures { Gives (λ m. map flags_member members.now ++ flags_member m ∷ []) result (flags_member_at (path_of part.entry.path) (map flags_member members.now) (view part.entry.value.now)) }
@@ -174,7 +174,7 @@ fn flags_member_of(part: Part<'_>, members: &[FlagsMember]) -> Result<FlagsMembe
     Ok(FlagsMember { name, nick, bits })
 }
 
-// How the members of a flags type are read.
+// The reader for the members of a flags type.
 #[derive(Clone, Copy)]
 struct FlagsMembers;
 
@@ -204,7 +204,7 @@ impl Reads<Vec<FlagsMember>> for FlagsMembers {
     }
 }
 
-// The entries of the list of members, if it is there.
+// Returns the entries of `members`, or `None` if it is no list.
 fn listed_members(value: &Value) -> Option<&[Value]>
     ensures { option_map (λ s. items_view s.now) result ≡ option_and_then as_array (get (codes "members") (view value.now)) }
 {
@@ -213,7 +213,7 @@ fn listed_members(value: &Value) -> Option<&[Value]>
     Some(items.as_slice())
 }
 
-// The same, where there is one at least.
+// Returns the entries of `members`, of which there must be at least one.
 fn some_entries<'a>(part: Part<'a>) -> Result<&'a [Value], ReadError>
     ensures { Gives (λ s. items_view s.now) result (some_entries_at (path_of part.entry.path) (view part.entry.value.now) (codes "members")) }
 {
@@ -224,7 +224,7 @@ fn some_entries<'a>(part: Part<'a>) -> Result<&'a [Value], ReadError>
     }
 }
 
-// The members of an enum.
+// Reads the members of an enum.
 fn enum_members(part: Part<'_>) -> Result<Vec<EnumMember>, ReadError>
     ensures { Gives (λ v. map enum_member v.items) result (members_with enum_member_at (path_of part.entry.path) (view part.entry.value.now)) }
 {
@@ -239,7 +239,7 @@ fn enum_members(part: Part<'_>) -> Result<Vec<EnumMember>, ReadError>
     Ok(members)
 }
 
-// The members of a flags type.
+// Reads the members of a flags type.
 fn flags_members(part: Part<'_>) -> Result<Vec<FlagsMember>, ReadError>
     ensures { Gives (λ v. map flags_member v.items) result (members_with flags_member_at (path_of part.entry.path) (view part.entry.value.now)) }
 {
@@ -255,7 +255,7 @@ fn flags_members(part: Part<'_>) -> Result<Vec<FlagsMember>, ReadError>
     Ok(members)
 }
 
-// Adds the enum of an entry, where the enums begin with the first.
+// Reads an enum from an entry and adds it. The first enum has the number `first`.
 #[tactic(auto, unfolding(definition_format::specs::Denoted::Enums::enum_at))]
 fn read_enum(part: Part<'_>, first: usize, types: &mut TypeTree) -> Result<(), ReadError>
     ensures { Leads result (enum_at (path_of part.entry.path) first types.old (view part.entry.value.now)) types.new }
@@ -270,7 +270,7 @@ fn read_enum(part: Part<'_>, first: usize, types: &mut TypeTree) -> Result<(), R
     Ok(())
 }
 
-// Adds the flags type of an entry, where the flags types begin with the first.
+// Reads a flags type from an entry and adds it. The first flags type has the number `first`.
 #[tactic(auto, unfolding(definition_format::specs::Denoted::Enums::flags_at))]
 fn read_flags(part: Part<'_>, first: usize, types: &mut TypeTree) -> Result<(), ReadError>
     ensures { Leads result (flags_at (path_of part.entry.path) first types.old (view part.entry.value.now)) types.new }
@@ -285,7 +285,7 @@ fn read_flags(part: Part<'_>, first: usize, types: &mut TypeTree) -> Result<(), 
     Ok(())
 }
 
-// How the entries of the enums are read.
+// The reader for the entries of the enums.
 #[derive(Clone, Copy)]
 struct EnumEntries {
     first: usize,
@@ -313,7 +313,7 @@ impl Reads<TypeTree> for EnumEntries {
     }
 }
 
-// How the entries of the flags types are read.
+// The reader for the entries of the flags types.
 #[derive(Clone, Copy)]
 struct FlagsEntries {
     first: usize,
@@ -341,11 +341,11 @@ impl Reads<TypeTree> for FlagsEntries {
     }
 }
 
-/// Adds the enums of a list.
+/// Reads the enums of a list and adds them.
 ///
 /// # Errors
 ///
-/// `Refused` with the first fault in document order, and `OutOfMemory` if memory is refused.
+/// Returns `Refused` with the first fault in document order, or `OutOfMemory` if memory is refused.
 pub fn read_enums(list: Entries<'_>, types: &mut TypeTree) -> Result<(), ReadError>
     ensures { Leads result (each (at_entry (λ path. enum_at path (length types.old)) list.entry.path.now) 0 types.old (items_view list.entry.items.now)) types.new }
 {
@@ -353,11 +353,11 @@ pub fn read_enums(list: Entries<'_>, types: &mut TypeTree) -> Result<(), ReadErr
     read_each(&reader, list, types)
 }
 
-/// Adds the flags types of a list.
+/// Reads the flags types of a list and adds them.
 ///
 /// # Errors
 ///
-/// `Refused` with the first fault in document order, and `OutOfMemory` if memory is refused.
+/// Returns `Refused` with the first fault in document order, or `OutOfMemory` if memory is refused.
 pub fn read_flags_types(list: Entries<'_>, types: &mut TypeTree) -> Result<(), ReadError>
     ensures { Leads result (each (at_entry (λ path. flags_at path (length types.old)) list.entry.path.now) 0 types.old (items_view list.entry.items.now)) types.new }
 {

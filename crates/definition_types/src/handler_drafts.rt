@@ -1,5 +1,5 @@
-//! The class handlers of a class while they are read. The names of their signals are kept by themselves too, so that a further one is looked up
-//! among them at once.
+//! The class handlers of a class while they are read. The names of their signals are also kept in a set, so that a further name is found
+//! without a search of the handlers.
 
 ghost use Rattle.std.specs.Prelude.{◌≡◌, List, ℕ, is_some, string_bytes, IfOk, OnOk};
 ghost use Rattle.std.specs.BTreeSet.{contains_text};
@@ -14,7 +14,7 @@ use std::collections::BTreeSet;
 use type_tree::TypeId;
 use ui_machine::ProgramId;
 
-/// A class handler that is not yet among the others: its signal as it is spelled, and in canonical spelling.
+/// A class handler that is not added yet, with the name of its signal as it is spelled and in canonical spelling.
 #[derive(Drop)]
 pub(crate) struct NewHandler<'a> {
     pub(crate) signal: &'a str,
@@ -22,14 +22,14 @@ pub(crate) struct NewHandler<'a> {
     pub(crate) program: ProgramId,
 }
 
-/// The class handlers of all classes, and the canonical names of the signals for which one of the classes has some.
+/// The class handlers of all classes, and the canonical names of the signals for which the class that is being read has handlers.
 #[derive(Drop)]
 pub(crate) struct HandlerDraft {
     pub(crate) signals: SignalTable,
     pub(crate) named: BTreeSet<String>,
 }
 
-/// The names of the signals for which there are these class handlers.
+/// Returns the names of the signals for which there are these class handlers.
 pub(crate) fn names_of(
     alloc: Global,
     handlers: &[ClassHandler],
@@ -45,11 +45,11 @@ pub(crate) fn names_of(
 }
 
 impl HandlerDraft {
-    /// Adds a class handler to those of a class.
+    /// Adds a class handler to a class.
     ///
     /// # Errors
     ///
-    /// `AllocError` if memory is refused. What is kept may then be more class handlers than names, and is of no further use.
+    /// `AllocError` if memory is refused. The draft may then have more class handlers than names, and is of no further use.
     pub(crate) fn add(&mut self, t: TypeId, handler: NewHandler<'_>) -> Result<(), AllocError>
         requires { string_bytes handler.name ≡ canonical handler.signal.now }
         ensures handlers { OnOk result (parts_seen self.new ≡ with_handler (parts_seen self.old) t (handler_for handler.entry.signal.now handler.entry.program)) }

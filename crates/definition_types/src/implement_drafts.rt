@@ -1,5 +1,5 @@
-//! The interfaces of a class while they are read. The names of the signals that they bring are kept by themselves too, so that a further one is
-//! looked up among them at once.
+//! The interfaces of a class while they are read. The names of the signals that they bring are also kept in a set, so that a further name
+//! is found without a search of the interfaces.
 
 ghost use Rattle.std.specs.Prelude.{◌≡◌, ◌||◌, [], List, ℕ, false, is_some, OnOk};
 ghost use Rattle.std.specs.List.{list_any};
@@ -21,7 +21,7 @@ pub(crate) struct ImplementDraft<'a> {
 }
 
 impl<'a> ImplementDraft<'a> {
-    /// No interfaces.
+    /// Creates a draft without interfaces.
     pub(crate) fn new(alloc: Global) -> Self
         ensures types { result.types.items ≡ [] }
         ensures names { (name : List ℕ) → has_name result.names name ≡ false }
@@ -32,14 +32,14 @@ impl<'a> ImplementDraft<'a> {
         }
     }
 
-    // Whether a signal that they bring is called so, found by walking over the names.
+    // Returns whether one of the signals is called `name`, by a search through all names.
     fn has_spelled(&self, name: &str) -> bool
         ensures { result ≡ list_any (λ k. same_name k.now (canonical name.now)) self.now.names.keys }
     {
         self.names.iter().any(|own| is_spelling(*own, name))
     }
 
-    /// Whether they bring a signal of a name, in any spelling. One in the canonical spelling is not searched for.
+    /// Returns whether one of the signals is called `name`, in any spelling. A name in the canonical spelling needs no search.
     pub(crate) fn has(&self, name: &str) -> bool
         ensures { result ≡ has_name self.now.names (canonical name.now) }
     {
@@ -54,7 +54,7 @@ impl<'a> ImplementDraft<'a> {
     ///
     /// # Errors
     ///
-    /// `AllocError` if memory is refused. What is kept may then be an interface without its names, and is of no further use.
+    /// `AllocError` if memory is refused. The draft may then have an interface without its names, and is of no further use.
     pub(crate) fn add(
         &mut self,
         types: &TypeTree,

@@ -1,4 +1,4 @@
-//! The interfaces that a class implements, and the types that are listed by their names.
+//! Reads the interfaces that a class implements.
 
 ghost use Rattle.std.specs.Prelude.{◌≡◌, [], nat_eq, Some, OnOk};
 ghost use Rattle.std.specs.List.{list_any};
@@ -28,14 +28,14 @@ use signal_core::{Signal, SignalTable};
 use std::alloc::AllocError;
 use type_tree::{TypeId, TypeTree};
 
-// Whether a type is among these.
+// Returns whether `t` is one of `types`.
 pub(crate) fn is_listed(types: &[TypeId], t: TypeId) -> bool
     ensures { result ≡ list_any (nat_eq t) types.now }
 {
     types.iter().any(|other| t == *other)
 }
 
-// Adds a type to others, unless it is among them.
+// Appends a type unless it is already there.
 pub(crate) fn add_type(types: &mut Vec<TypeId>, t: TypeId) -> Result<(), AllocError>
     ensures { OnOk result (types.new.items ≡ type_with types.old.items (Some t)) }
 {
@@ -46,7 +46,7 @@ pub(crate) fn add_type(types: &mut Vec<TypeId>, t: TypeId) -> Result<(), AllocEr
     Ok(())
 }
 
-// A name that is an entry of a list, which nothing has.
+// Makes the refusal `Unknown` at an entry, with a name that nothing has.
 pub(crate) fn unknown_entry(part: Part<'_>, name: &str) -> Result<ReadError, ReadError>
     ensures { IsRefusal (unknown (path_of part.entry.path) name.now) result }
 {
@@ -55,7 +55,7 @@ pub(crate) fn unknown_entry(part: Part<'_>, name: &str) -> Result<ReadError, Rea
     Ok(ReadError::Refused(DefinitionFault::Unknown(path, name)))
 }
 
-// How the interfaces that entries name are read ahead.
+// The reader that looks ahead at the interfaces that entries name.
 #[derive(Clone, Copy)]
 struct NamedEntries<'a> {
     types: &'a TypeTree,
@@ -87,7 +87,7 @@ impl<'a> Reads<Vec<TypeId>> for NamedEntries<'a> {
     }
 }
 
-// The interfaces that entries name, each once.
+// Collects the interfaces that entries name, each once. Entries that name none are passed over.
 fn read_named(list: Entries<'_>, types: &TypeTree) -> Result<Vec<TypeId>, ReadError>
     ensures { Gives (λ v. v.items) result (each (at_entry (λ entry. named_at entry types.now) list.entry.path.now) 0 [] (items_view list.entry.items.now)) }
 {
@@ -97,7 +97,7 @@ fn read_named(list: Entries<'_>, types: &TypeTree) -> Result<Vec<TypeId>, ReadEr
     Ok(named)
 }
 
-// The interface that an entry names.
+// Returns the interface that an entry names.
 #[tactic(auto, unfolding(definition_format::specs::Denoted::Implements::interface_at_entry))]
 fn interface_of(part: Part<'_>, types: &TypeTree) -> Result<TypeId, ReadError>
     ensures { Gives (λ i. i) result (interface_at_entry (path_of part.entry.path) types.now (view part.entry.value.now)) }
@@ -109,7 +109,7 @@ fn interface_of(part: Part<'_>, types: &TypeTree) -> Result<TypeId, ReadError>
     }
 }
 
-// Tests that a class is all that an interface requires.
+// Checks that a class is everything that an interface requires.
 fn check_prerequisites(part: Part<'_>, heir: &Heir<'_>, interface: TypeId) -> Result<(), ReadError>
     ensures { Gives (λ _. tt) result (check_prerequisites (path_of part.entry.path) (heir_of heir.now) interface) }
 {
@@ -126,7 +126,7 @@ fn check_prerequisites(part: Part<'_>, heir: &Heir<'_>, interface: TypeId) -> Re
     }
 }
 
-// Tests that a class has the properties of an interface.
+// Checks that a class has the properties of an interface.
 fn check_overrides(part: Part<'_>, heir: &Heir<'_>, interface: TypeId) -> Result<(), ReadError>
     ensures { Gives (λ _. tt) result (check_overrides (path_of part.entry.path) (heir_of heir.now) interface) }
 {
@@ -140,7 +140,8 @@ fn check_overrides(part: Part<'_>, heir: &Heir<'_>, interface: TypeId) -> Result
     }
 }
 
-// Whether a signal of an interface has the name of one that the class's parent or one of the interfaces so far has.
+// Returns whether a signal of an interface has the name of a signal of the class's parent or of the interfaces so far. A name that the
+// class itself declares does not count here.
 fn is_again(heir: &Heir<'_>, implemented: &ImplementDraft<'_>, signal: &Signal) -> bool
     ensures { result ≡ is_again_in (signals_of heir.now.types.now heir.now.signals.now.signals) (names_of heir.now.own_signals.now.keys) heir.now.parent (λ name. has_name implemented.now.names name) (signal_view signal.now) }
 {
@@ -149,7 +150,7 @@ fn is_again(heir: &Heir<'_>, implemented: &ImplementDraft<'_>, signal: &Signal) 
         && (heir.signals.find(heir.types, heir.parent, name).is_some() || implemented.has(name))
 }
 
-// The same of one of some signals.
+// Returns whether `is_again` holds for any of these signals.
 fn any_again(heir: &Heir<'_>, implemented: &ImplementDraft<'_>, signals: &[Signal]) -> bool
     ensures { result ≡ list_any (λ s. is_again_in (signals_of heir.now.types.now heir.now.signals.now.signals) (names_of heir.now.own_signals.now.keys) heir.now.parent (λ name. has_name implemented.now.names name) (signal_view s)) signals.now }
 {
@@ -158,14 +159,14 @@ fn any_again(heir: &Heir<'_>, implemented: &ImplementDraft<'_>, signals: &[Signa
         .any(|signal| is_again(heir, implemented, signal))
 }
 
-// Whether an interface brings a signal again.
+// Returns whether `is_again` holds for any signal that an interface itself declares.
 fn brings_again(heir: &Heir<'_>, implemented: &ImplementDraft<'_>, interface: TypeId) -> bool
     ensures { result ≡ brings_again_in (heir_of heir.now) interface (λ name. has_name implemented.now.names name) }
 {
     any_again(heir, implemented, heir.signals.own(interface))
 }
 
-// Tests that an interface brings no signal that is there already. One that an ancestor implements brings nothing.
+// Checks that no signal of an interface is there already. An interface that an ancestor implements adds no signals.
 fn check_brought(
     part: Part<'_>,
     heir: &Heir<'_>,
@@ -184,7 +185,7 @@ fn check_brought(
     Ok(())
 }
 
-// Adds an interface to those before, unless it is among them.
+// Adds an interface to those before, unless it is one of them.
 #[tactic(auto, unfolding(crate::specs::ImplementDrafts::newly_implemented_in, signal_core::specs::Sources::declared_of))]
 fn implement<'a>(
     part: Part<'_>,
@@ -228,7 +229,7 @@ impl<'a> Reads<ImplementDraft<'a>> for Heir<'a> {
     }
 }
 
-// The interfaces of a list, which a class implements.
+// Reads the interfaces that a class implements from a list.
 fn read_heir(list: Entries<'_>, heir: &Heir<'_>) -> Result<Vec<TypeId>, ReadError>
     ensures { Gives (λ v. v.items) result (each (at_entry (λ entry. implemented_at entry (heir_of heir.now)) list.entry.path.now) 0 [] (items_view list.entry.items.now)) }
 {
@@ -237,7 +238,7 @@ fn read_heir(list: Entries<'_>, heir: &Heir<'_>) -> Result<Vec<TypeId>, ReadErro
     Ok(implemented.types)
 }
 
-// The interfaces of these entries, which a class of this parent implements.
+// Reads the interfaces that a class with this parent implements, from these entries.
 #[tactic(auto, unfolding(definition_format::specs::Denoted::Implements::implements_listed, definition_format::specs::Denoted::Implements::heir_at))]
 fn read_listed(
     part: Part<'_>,
@@ -272,7 +273,7 @@ fn read_listed(
     Ok(implemented)
 }
 
-// The interfaces that a class of this parent implements.
+// Reads the interfaces that a class with this parent implements.
 #[tactic(auto, unfolding(definition_format::specs::Denoted::Implements::implements_at))]
 pub(crate) fn read_implements(
     part: Part<'_>,

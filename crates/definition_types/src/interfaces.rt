@@ -1,4 +1,4 @@
-//! The interfaces of a definition.
+//! Reads the interfaces of a definition.
 
 ghost use Rattle.std.specs.Prelude.{◌≡◌, ◌||◌, length, IfOk};
 ghost use Rattle.serde_json.specs.View.{view, items_view};
@@ -24,7 +24,7 @@ use type_tree::{TypeId, TypeTree};
 
 const MEMBERS: [&str; 4] = ["name", "requires", "properties", "signals"];
 
-// The entries of all interfaces and of all classes: their names are known.
+// The entries of all interfaces and classes, whose names are known before they are read.
 #[derive(Clone, Copy)]
 pub(crate) struct Sections<'a> {
     pub(crate) interfaces: &'a [Value],
@@ -32,7 +32,7 @@ pub(crate) struct Sections<'a> {
 }
 
 impl<'a> Sections<'a> {
-    // Whether one of the entries has the name.
+    // Returns whether one of the entries has this name.
     fn declare(self, name: &str) -> bool
         ensures { result ≡ (is_declared (items_view self.entry.interfaces.now) name.now || is_declared (items_view self.entry.classes.now) name.now) }
     {
@@ -40,7 +40,7 @@ impl<'a> Sections<'a> {
     }
 }
 
-// How the types that an interface requires are read.
+// The reader for the types that an interface requires.
 #[derive(Clone, Copy)]
 struct RequiredEntries<'a> {
     sections: Sections<'a>,
@@ -48,7 +48,7 @@ struct RequiredEntries<'a> {
 }
 
 impl<'a> RequiredEntries<'a> {
-    // A known type that is not there yet.
+    // Makes the refusal for a type that is declared but not read yet.
     fn later(self, part: Part<'_>) -> Result<ReadError, ReadError>
         ensures { IsRefusal (bad_type (path_of part.entry.path) unknown_parent) result }
     {
@@ -56,7 +56,7 @@ impl<'a> RequiredEntries<'a> {
         Ok(ReadError::Refused(DefinitionFault::BadType(path, TypeCause::UnknownParent)))
     }
 
-    // The type of a name.
+    // Returns the type with this name.
     fn named(self, part: Part<'_>, name: &str) -> Result<TypeId, ReadError>
         ensures { Gives (λ t. t) result (required_or (path_of part.entry.path) (is_declared (items_view self.entry.sections.interfaces.now) name.now || is_declared (items_view self.entry.sections.classes.now) name.now) name.now (required_named self.entry.types.now name.now)) }
     {
@@ -98,7 +98,7 @@ impl<'a> Reads<Vec<TypeId>> for RequiredEntries<'a> {
     }
 }
 
-// The types that the interface of an entry requires.
+// Reads the types that the interface of an entry requires.
 #[tactic(auto, unfolding(definition_format::specs::Denoted::Interfaces::requires_at))]
 fn read_requires(
     part: Part<'_>,
@@ -120,7 +120,7 @@ fn read_requires(
     Ok(required)
 }
 
-// Adds the interface that an entry declares, where the interfaces begin with the first.
+// Adds the interface that an entry declares. The first interface has the number `first`.
 #[tactic(auto, unfolding(definition_format::specs::Denoted::Interfaces::interface_type_at))]
 fn declare(
     part: Part<'_>,
@@ -139,7 +139,7 @@ fn declare(
     Ok(interface)
 }
 
-// Adds the interface of an entry, with its properties and signals.
+// Reads the interface of an entry and adds it with its properties and signals.
 #[tactic(auto, unfolding(definition_format::specs::Denoted::Drafts::type_at))]
 fn read_interface(
     part: Part<'_>,
@@ -160,7 +160,7 @@ fn read_interface(
     Ok(())
 }
 
-// How the entries of the interfaces are read, where these begin with the first.
+// The reader for the entries of the interfaces. `first` is the number of the first one.
 #[derive(Clone, Copy)]
 struct InterfaceEntries<'a> {
     first: usize,
@@ -200,11 +200,11 @@ impl<'a> Reads<Draft> for InterfaceEntries<'a> {
     }
 }
 
-/// Adds the interfaces of a list, where the classes have these entries.
+/// Reads the interfaces of a list and adds them. `classes` are the entries of the classes.
 ///
 /// # Errors
 ///
-/// `Refused` with the first fault in document order, and `OutOfMemory` if memory is refused.
+/// Returns `Refused` with the first fault in document order, or `OutOfMemory` if memory is refused.
 pub fn read_interfaces(
     list: Entries<'_>,
     classes: &[Value],

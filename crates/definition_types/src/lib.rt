@@ -1,5 +1,5 @@
-//! The types of a definition, read from its document: enums, flags types, interfaces and classes, with their properties, their signals and the
-//! programs and shapes that they name; and shapes.
+//! Reads the types of a definition from its document: enums, flags types, interfaces and classes, with their properties, their signals and
+//! the programs and shapes that they name. Reads the shapes as well.
 #![tactic(auto)]
 
 mod by_type;

@@ -1,4 +1,4 @@
-//! What a class has of the properties of its interfaces. Its own properties are read ahead for that, each by itself.
+//! Compares the properties of a class with those of its interfaces. The class's own properties are read ahead for that, each by itself.
 
 ghost use Rattle.std.specs.Prelude.{◌≡◌, [], codes, is_some, map, string_bytes, option_map, option_and_then, IfOk, IfSome, None};
 ghost use Rattle.std.specs.List.{find, list_any};
@@ -29,10 +29,10 @@ use std::alloc::{AllocError, Global};
 use std::collections::BTreeMap;
 use type_tree::{TypeId, TypeTree, canonical_name, is_property_name};
 
-/// A class's own properties by their canonical names, read ahead: nothing where an entry is at fault.
+/// A class's own properties by their canonical names, read ahead. The value is `None` if the entry is at fault.
 pub(crate) type OwnAhead = BTreeMap<String, Option<Spec>>;
 
-/// How a class has a property of an interface.
+/// The relation of a class to a property of one of its interfaces.
 #[derive(Clone, Copy)]
 enum Override {
     Fine,
@@ -40,7 +40,7 @@ enum Override {
     Different,
 }
 
-// The canonical name of an entry's property or signal, if it has one.
+// Returns the canonical name of an entry's property or signal, or `None` if it has no valid name.
 pub(crate) fn own_name(alloc: Global, entry: &Value) -> Result<Option<String>, AllocError>
     ensures { IfOk result (λ name. option_map string_bytes name ≡ own_name (option_and_then as_str (get (codes "name") (view entry.now)))) }
 {
@@ -53,14 +53,14 @@ pub(crate) fn own_name(alloc: Global, entry: &Value) -> Result<Option<String>, A
     }
 }
 
-// Whether there is a property of this name.
+// Returns whether there is an own property of this name.
 fn has_own(own: &OwnAhead, name: &str) -> bool
     ensures { result ≡ is_some (own_named (map own_view own.now.entries) name.now) }
 {
     own.contains_key(name)
 }
 
-// How the own properties of a class of this parent are read.
+// The reader that looks ahead at the own properties of a class with this parent.
 #[derive(Clone, Copy)]
 struct OwnEntries<'a> {
     types: &'a TypeTree,
@@ -69,7 +69,7 @@ struct OwnEntries<'a> {
     parent: TypeId,
 }
 
-// The property of an entry, unless it is at fault: it is read as one more property of the parent.
+// Reads the property of an entry as one more property of the parent, or returns `None` if the entry is at fault.
 fn spec_ahead(
     part: Part<'_>,
     types: &TypeTree,
@@ -118,7 +118,7 @@ impl<'a> Reads<OwnAhead> for OwnEntries<'a> {
     }
 }
 
-// The own properties of a list, of a class of this parent.
+// Reads ahead the own properties of a class with this parent, from a list.
 fn read_own_entries(
     list: Entries<'_>,
     types: &TypeTree,
@@ -139,7 +139,7 @@ fn read_own_entries(
     Ok(own)
 }
 
-// The own properties of the entry of a class of this parent.
+// Reads ahead the own properties of a class with this parent, from its entry.
 pub(crate) fn read_own(
     part: Part<'_>,
     types: &TypeTree,
@@ -179,7 +179,7 @@ fn is_different(how: Override) -> bool
     }
 }
 
-// How a property is had that is this one, or none.
+// Compares the property that a class has, if any, with the one that an interface wants.
 fn compared(spec: Option<&Spec>, wanted: &Spec) -> Override
     ensures { override_view result ≡ compared (option_map (λ s. spec_view s.now) spec.entry) (spec_view wanted.now) }
 {
@@ -195,7 +195,7 @@ fn compared(spec: Option<&Spec>, wanted: &Spec) -> Override
     }
 }
 
-// What is known of a class while its interfaces are looked at: the types before it with their properties and signals, its parent, the
+// The context in which the interfaces of a class are judged: the types before it with their properties and signals, its parent, the
 // interfaces that it names, its own properties, and the names of its own signals.
 #[derive(Clone, Copy)]
 pub(crate) struct Heir<'a> {
@@ -208,7 +208,8 @@ pub(crate) struct Heir<'a> {
     pub(crate) own_signals: &'a OwnSignals,
 }
 
-// How a class has a property of an interface, where it inherits this one or none of that name.
+// Returns how a class has a property of an interface, with `inherited` the inherited property of this name. An own property goes first, and
+// one whose entry is at fault counts as fine.
 fn override_by(own: &OwnAhead, inherited: Option<&Spec>, wanted: &Spec) -> Override
     ensures { override_view result ≡ override_by (own_named (map own_view own.now.entries) (rc_str_bytes wanted.now.name)) (option_map (λ s. spec_view s.now) inherited.entry) (spec_view wanted.now) }
 {
@@ -220,7 +221,7 @@ fn override_by(own: &OwnAhead, inherited: Option<&Spec>, wanted: &Spec) -> Overr
 }
 
 impl<'a> Heir<'a> {
-    // How the class has a property of an interface.
+    // Returns how the class has a property of an interface.
     fn has(&self, wanted: &Spec) -> Override
         ensures { override_view result ≡ override_of (specs_of self.now.types.now self.now.specs.now self.now.parent) (map own_view self.now.own.now.entries) (spec_view wanted.now) }
     {
@@ -230,7 +231,7 @@ impl<'a> Heir<'a> {
         override_by(self.own, inherited, wanted)
     }
 
-    // The first property of an interface that the class does not have.
+    // Returns the first property of an interface that the class lacks.
     fn first_missing(&self, interface: TypeId) -> Option<&Spec>
         ensures { option_map (λ s. spec_view s.now) result ≡ find (λ w. is_missing (override_of (specs_of self.now.types.now self.now.specs.now self.now.parent) (map own_view self.now.own.now.entries) w)) (own_of self.now.specs.now interface) }
     {
@@ -243,7 +244,7 @@ impl<'a> Heir<'a> {
         None
     }
 
-    // The first property of an interface of which the class has another one.
+    // Returns the first property of an interface of which the class has a different version.
     fn first_different(&self, interface: TypeId) -> Option<&Spec>
         ensures { option_map (λ s. spec_view s.now) result ≡ find (λ w. is_different (override_of (specs_of self.now.types.now self.now.specs.now self.now.parent) (map own_view self.now.own.now.entries) w)) (own_of self.now.specs.now interface) }
     {
@@ -256,7 +257,8 @@ impl<'a> Heir<'a> {
         None
     }
 
-    // Why the class does not have the properties of an interface.
+    // Returns the cause for which the class does not have the properties of an interface, or `None`. A missing property goes before a
+    // different one.
     pub(crate) fn override_cause(
         &self,
         alloc: Global,

@@ -1,4 +1,4 @@
-//! The names of the signals that a class itself declares, read ahead for its interfaces.
+//! The names of the signals that a class itself declares, read ahead because its interfaces are judged with them.
 
 ghost use Rattle.std.specs.Prelude.{◌≡◌, []};
 ghost use Rattle.std.specs.BTreeSet.{contains_text};
@@ -19,14 +19,14 @@ use std::collections::BTreeSet;
 /// The names of a class's own signals, in canonical spelling.
 pub(crate) type OwnSignals = BTreeSet<String>;
 
-// Whether a name is among these.
+// Returns whether a name is among the own signals.
 pub(crate) fn has_own_signal(own: &OwnSignals, name: &str) -> bool
     ensures { result ≡ are_named (names_of own.now.keys) name.now }
 {
     own.contains(name)
 }
 
-// How the own signals of a class are read ahead.
+// The reader that looks ahead at the entries of a class's signals.
 #[derive(Clone, Copy)]
 struct OwnSignalEntries;
 
@@ -56,7 +56,7 @@ impl Reads<OwnSignals> for OwnSignalEntries {
     }
 }
 
-// The names of the signals of a list.
+// Collects the names of the signals of a list.
 fn read_own_entries(list: Entries<'_>) -> Result<OwnSignals, ReadError>
     ensures { Gives (λ own. λ name. contains_text own name) result (drafted are_named (each (at_entry own_signal_at list.entry.path.now) 0 [] (items_view list.entry.items.now))) }
 {
@@ -65,7 +65,7 @@ fn read_own_entries(list: Entries<'_>) -> Result<OwnSignals, ReadError>
     Ok(own)
 }
 
-// The names of the signals that the entry of a class declares.
+// Collects the names of the signals that the entry of a class declares.
 pub(crate) fn read_own_signals(part: Part<'_>) -> Result<OwnSignals, ReadError>
     ensures { Gives (λ own. λ name. contains_text own name) result (drafted are_named (own_signals_ahead (path_of part.entry.path) (view part.entry.value.now))) }
 {

@@ -1,4 +1,4 @@
-//! The shapes of a definition: the methods that peers are called with.
+//! Reads the shapes of a definition, which are the methods that peers are called with.
 
 ghost use Rattle.std.specs.Prelude.{◌≡◌, ◌∷◌, ◌++◌, [], codes, is_some, map, option_and_then, option_map, string_bytes, false, IfOk};
 ghost use Rattle.serde_json.specs.View.{view, items_view};
@@ -27,7 +27,7 @@ const MEMBERS: [&str; 2] = ["name", "methods"];
 
 const MEMBERS_OF_METHOD: [&str; 3] = ["name", "params", "result"];
 
-// The kind of a value, if it is one of what peers take and answer.
+// Returns the kind that a value names, or `None` if it is not one that peers take and answer.
 fn plain_kind_in(value: &Value) -> Option<Kind>
     ensures { option_map kind_view result ≡ option_and_then kind_named (as_str (view value.now)) }
 {
@@ -35,7 +35,7 @@ fn plain_kind_in(value: &Value) -> Option<Kind>
     kind_named(word)
 }
 
-// Adds the kind of an entry to those before.
+// Reads the kind of an entry and adds it to those before.
 #[tactic(auto, unfolding(definition_format::specs::Denoted::Shapes::plain_param_at), using(std::proofs::lemmas::List::map_push))]
 fn read_param(part: Part<'_>, params: &mut Vec<Kind>) -> Result<(), ReadError>
     ensures { Leads result (plain_param_at (path_of part.entry.path) (map kind_view params.old.items) (view part.entry.value.now)) (map kind_view params.new.items) }
@@ -47,7 +47,7 @@ fn read_param(part: Part<'_>, params: &mut Vec<Kind>) -> Result<(), ReadError>
     Ok(())
 }
 
-// How the kinds of a method's arguments are read.
+// The reader for the kinds of a method's arguments.
 #[derive(Clone, Copy)]
 struct ParamEntries;
 
@@ -74,7 +74,7 @@ impl Reads<Vec<Kind>> for ParamEntries {
     }
 }
 
-// The kinds of a list.
+// Reads the kinds of a list.
 fn read_params(list: Entries<'_>) -> Result<Vec<Kind>, ReadError>
     ensures { Gives (λ v. map kind_view v.items) result (each (at_entry plain_param_at list.entry.path.now) 0 [] (items_view list.entry.items.now)) }
 {
@@ -83,7 +83,7 @@ fn read_params(list: Entries<'_>) -> Result<Vec<Kind>, ReadError>
     Ok(params)
 }
 
-// The kinds of a method's arguments.
+// Reads `params`, the kinds of a method's arguments.
 #[tactic(auto, unfolding(definition_format::specs::Denoted::Shapes::plain_params_at))]
 fn params_of(part: Part<'_>) -> Result<Vec<Kind>, ReadError>
     ensures { Gives (λ v. map kind_view v.items) result (plain_params_at (path_of part.entry.path) (view part.entry.value.now)) }
@@ -99,7 +99,7 @@ fn params_of(part: Part<'_>) -> Result<Vec<Kind>, ReadError>
     Ok(params)
 }
 
-// The kind of the member `result` of a value, if it is one of what peers answer.
+// Returns the kind that `result` names, or `None` if it is not one that peers answer.
 fn result_in(value: &Value) -> Option<Kind>
     ensures { option_map kind_view result ≡ option_and_then kind_named (option_and_then as_str (get (codes "result") (view value.now))) }
 {
@@ -107,7 +107,7 @@ fn result_in(value: &Value) -> Option<Kind>
     plain_kind_in(result)
 }
 
-// The kind of a method's result.
+// Reads `result`, the kind of a method's result.
 fn result_of(part: Part<'_>) -> Result<Kind, ReadError>
     ensures { Gives kind_view result (plain_kind_at (under (path_of part.entry.path) (codes "result")) (get (codes "result") (view part.entry.value.now))) }
 {
@@ -117,7 +117,7 @@ fn result_of(part: Part<'_>) -> Result<Kind, ReadError>
     }
 }
 
-// Tests that a name is one, and is not taken.
+// Checks that a name is valid and not taken.
 fn check_name(part: Part<'_>, name: &str, is_taken: bool) -> Result<(), ReadError>
     ensures name { Gives (λ _. tt) result (unless_taken (under (path_of part.entry.path) (codes "name")) name.now is_taken) }
     ensures new { IfOk result (λ _. is_taken ≡ false) }
@@ -133,14 +133,14 @@ fn check_name(part: Part<'_>, name: &str, is_taken: bool) -> Result<(), ReadErro
     Ok(())
 }
 
-// Whether a shape has a method of this name.
+// Returns whether a shape has a method of this name.
 fn has_method(methods: &Shape, name: &str) -> bool
     ensures { result ≡ has_method methods.now name.now }
 {
     methods.find(name).is_some()
 }
 
-// The method of an entry beside those before.
+// Reads a method that is not in `methods` yet from an entry.
 #[tactic(auto, unfolding(definition_format::specs::Denoted::Shapes::method_in))]
 fn method_in(part: Part<'_>, methods: &Shape) -> Result<Method, ReadError>
     ensures method { Gives method_view result (method_in (path_of part.entry.path) methods.now (view part.entry.value.now)) }
@@ -160,7 +160,7 @@ fn method_in(part: Part<'_>, methods: &Shape) -> Result<Method, ReadError>
     })
 }
 
-// Adds the method of an entry to those before.
+// Reads the method of an entry and adds it to those before.
 #[tactic(auto, unfolding(definition_format::specs::Denoted::Shapes::method_at))]
 fn read_method(part: Part<'_>, methods: &mut Shape) -> Result<(), ReadError>
     ensures { Leads result (method_at (path_of part.entry.path) methods.old (view part.entry.value.now)) methods.new }
@@ -170,7 +170,7 @@ fn read_method(part: Part<'_>, methods: &mut Shape) -> Result<(), ReadError>
     Ok(())
 }
 
-// How the methods of a shape are read.
+// The reader for the methods of a shape.
 #[derive(Clone, Copy)]
 struct MethodEntries;
 
@@ -196,7 +196,7 @@ impl Reads<Shape> for MethodEntries {
     }
 }
 
-// The methods of a list.
+// Reads the methods of a list.
 fn read_methods(list: Entries<'_>) -> Result<Shape, ReadError>
     ensures { Gives (λ s. s) result (each (at_entry method_at list.entry.path.now) 0 [] (items_view list.entry.items.now)) }
 {
@@ -205,7 +205,7 @@ fn read_methods(list: Entries<'_>) -> Result<Shape, ReadError>
     Ok(methods)
 }
 
-// The entries of the list of methods, if it is there.
+// Returns the entries of `methods`, or `None` if it is no list.
 fn listed_methods(value: &Value) -> Option<&[Value]>
     ensures { option_map (λ s. items_view s.now) result ≡ option_and_then as_array (get (codes "methods") (view value.now)) }
 {
@@ -214,7 +214,7 @@ fn listed_methods(value: &Value) -> Option<&[Value]>
     Some(items.as_slice())
 }
 
-// The same, which has to be there.
+// Returns the entries of `methods`, which must be a list.
 fn method_entries<'a>(part: Part<'a>) -> Result<&'a [Value], ReadError>
     ensures { Gives (λ s. items_view s.now) result (or_refused (shape (under (path_of part.entry.path) (codes "methods"))) (option_and_then as_array (get (codes "methods") (view part.entry.value.now)))) }
 {
@@ -224,7 +224,7 @@ fn method_entries<'a>(part: Part<'a>) -> Result<&'a [Value], ReadError>
     }
 }
 
-// The methods of a shape.
+// Reads the methods of a shape.
 #[tactic(auto, unfolding(definition_format::specs::Denoted::Shapes::methods_at))]
 fn methods_of(part: Part<'_>) -> Result<Shape, ReadError>
     ensures { Gives (λ s. s) result (methods_at (path_of part.entry.path) (view part.entry.value.now)) }
@@ -240,21 +240,21 @@ fn methods_of(part: Part<'_>) -> Result<Shape, ReadError>
     Ok(methods)
 }
 
-// Whether there is a shape of this name.
+// Returns whether there is a shape of this name.
 fn has_shape(shapes: &Shapes, name: &str) -> bool
     ensures { result ≡ is_some (shape_number (map plain_shape shapes.now.entries) name.now) }
 {
     shape_of(shapes, name).is_some()
 }
 
-// A shape that is not yet among the others, and its name.
+// A shape that is not added yet, and its name.
 #[derive(Drop)]
 struct NewShape {
     name: String,
     methods: Shape,
 }
 
-// The shape of an entry beside those before.
+// Reads a shape that is not in `shapes` yet from an entry.
 #[tactic(auto, unfolding(definition_format::specs::Denoted::Shapes::shape_in))]
 fn shape_in(part: Part<'_>, shapes: &Shapes) -> Result<NewShape, ReadError>
     ensures read { Gives (λ n. plain_shape (n.name, n.methods)) result (shape_in (path_of part.entry.path) (map plain_shape shapes.now.entries) (view part.entry.value.now)) }
@@ -269,7 +269,7 @@ fn shape_in(part: Part<'_>, shapes: &Shapes) -> Result<NewShape, ReadError>
     Ok(NewShape { name, methods })
 }
 
-// Adds the shape of an entry to those before.
+// Reads the shape of an entry and adds it to those before.
 fn read_shape(part: Part<'_>, shapes: &mut Shapes) -> Result<(), ReadError>
     ensures { Leads result (shape_at (path_of part.entry.path) (map plain_shape shapes.old.entries) (view part.entry.value.now)) (map plain_shape shapes.new.entries) }
 {
@@ -278,7 +278,7 @@ fn read_shape(part: Part<'_>, shapes: &mut Shapes) -> Result<(), ReadError>
     Ok(())
 }
 
-// How the entries of shapes are read.
+// The reader for the entries of the shapes.
 #[derive(Clone, Copy)]
 struct ShapeEntries;
 
@@ -305,11 +305,11 @@ impl Reads<Shapes> for ShapeEntries {
     }
 }
 
-/// The shapes of a list.
+/// Reads the shapes of a list.
 ///
 /// # Errors
 ///
-/// `Refused` with the first fault in document order, and `OutOfMemory` if memory is refused.
+/// Returns `Refused` with the first fault in document order, or `OutOfMemory` if memory is refused.
 pub fn read_shapes(list: Entries<'_>) -> Result<Shapes, ReadError>
     ensures { Gives (λ v. map plain_shape v.entries) result (each (at_entry shape_at list.entry.path.now) 0 [] (items_view list.entry.items.now)) }
 {

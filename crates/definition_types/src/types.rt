@@ -1,4 +1,4 @@
-//! What all types of a definition have: a name, and their place among the 256.
+//! Checks that all types of a definition share: their names, and the room for them among 256 types.
 
 ghost use Rattle.std.specs.Prelude.{◌≡◌, codes, None, IfOk};
 ghost use Rattle.std.specs.List.{list_any};
@@ -20,7 +20,7 @@ use serde_json::Value;
 use std::alloc::{AllocError, Global};
 use type_tree::{TypeFault, TypeId, TypeTree};
 
-// Whether an entry, taken by itself, has the name.
+// Returns whether an entry, taken by itself, has this name.
 fn is_called(entry: &Value, name: &str) -> bool
     ensures { result ≡ is_called (name_under (codes "name") (view entry.now)) name.now }
 {
@@ -36,7 +36,7 @@ fn any_called(list: &[Value], name: &str) -> bool
     list.iter().any(|entry| is_called(entry, name))
 }
 
-// Whether one of the entries of a section has the name.
+// Returns whether one of the entries of a section has this name.
 #[tactic(auto, using(crate::proofs::Parents::any_called))]
 pub(crate) fn is_declared(list: &[Value], name: &str) -> bool
     ensures { result ≡ is_declared (items_view list.now) name.now }
@@ -44,7 +44,7 @@ pub(crate) fn is_declared(list: &[Value], name: &str) -> bool
     any_called(list, name)
 }
 
-// Tests that the tree has room for a further type.
+// Checks that the tree has room for another type.
 pub(crate) fn check_room(types: &TypeTree) -> Result<(), ReadError>
     ensures room { Gives (λ _. tt) result (room_for_type types.now) }
     ensures fine { IfOk result (λ _. room_fault types.now ≡ None) }
@@ -55,7 +55,7 @@ pub(crate) fn check_room(types: &TypeTree) -> Result<(), ReadError>
     Ok(())
 }
 
-// Whether a type is of the section of which this is the first.
+// Returns whether a type was found and belongs to the section whose first type is `first`.
 pub(crate) fn is_from(first: usize, found: Option<TypeId>) -> bool
     ensures { result ≡ is_from first found }
 {
@@ -65,7 +65,7 @@ pub(crate) fn is_from(first: usize, found: Option<TypeId>) -> bool
     }
 }
 
-// The cause of a fault, with the names of types.
+// Converts a fault to its cause, with the names of types in place of their numbers.
 pub(crate) fn named_cause(
     alloc: Global,
     types: &TypeTree,
@@ -86,7 +86,7 @@ pub(crate) fn named_cause(
     }
 }
 
-// Tests the name of a type of a section beside those of the types before.
+// Checks the name of a type. It is `Duplicate` if a type of the same section has it, and a `BadType` for any other fault.
 pub(crate) fn check_type_name(
     part: Part<'_>,
     first: usize,

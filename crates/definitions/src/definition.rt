@@ -1,4 +1,4 @@
-//! What a definition says.
+//! A complete definition, with its look-ups.
 
 ghost use Rattle.std.specs.Prelude.{◌≡◌, ◌<◌, ◌≤◌, ◌+◌, None, ℕ, length, option_and_then, option_map, slice_get, IfOk, IfSome, map};
 ghost use Rattle.std.specs.Rc.{rc_str_bytes};
@@ -36,24 +36,25 @@ use std::rc::RcStr;
 use type_tree::{TypeId, TypeTree};
 use ui_machine::{Limits, ObjectId, Place, ProgramId, SignalId, Slot};
 
-/// A definition: its types with their properties and signals, and the programs and shapes that classes name; its shapes, its programs, its
-/// prototypes and its objects in document order; its bindings; and its limits. Its places are its objects and, behind them, its prototypes. It is seen as the machine's.
+/// A definition. It has types with their properties and signals, the programs and shapes that classes name, its shapes, programs,
+/// prototypes and objects in document order, its bindings, and its limits. Its places are its objects followed by its prototypes. A
+/// contract sees it as a definition of the machine.
 #[derive(Drop)]
 pub struct Definition {
     types: TypeTree,
     specs: SpecTable,
     signals: SignalTable,
-    // The programs that classes name for their objects once they are constructed, by class.
+    // For each class, the program that it names for its objects once they are constructed.
     constructed: Vec<Option<ProgramId>>,
     shapes: Shapes,
-    // The shapes that classes name, by class.
+    // For each class, the shape that it names.
     shaped: Vec<Option<usize>>,
     programs: Programs,
     prototypes: Prototypes,
     objects: Objects,
     bindings: Vec<Bind>,
     limits: Limits,
-    // Where the property of each slot of each class is, and each of its signals.
+    // The declarations behind the slots and the signal numbers of each class.
     slots: SlotTable,
     rows: SignalRows,
 }
@@ -72,7 +73,7 @@ impl Model for Definition {
 }
 
 impl Definition {
-    /// The definition of these parts. They have to be sound, and some bytes have to denote what they mean.
+    /// Makes a definition of its parts. They have to be sound, and some bytes have to denote what they mean.
     ///
     /// # Errors
     ///
@@ -100,7 +101,7 @@ impl Definition {
         })
     }
 
-    /// Its types. Some bytes denote the definition.
+    /// Returns the types. The contract also says that some bytes denote the definition.
     pub fn types(&self) -> &TypeTree
         ensures types { result.now ≡ self.now.types }
         ensures basic { IsBasic self.now }
@@ -109,7 +110,7 @@ impl Definition {
         &self.types
     }
 
-    /// How many objects may live at a time, and how many handlers programs may connect. `Limits::check` accepts them.
+    /// Returns the limits: how many objects may live at a time, and how many handlers programs may connect. `Limits::check` accepts them.
     pub fn limits(&self) -> Limits
         ensures objects { result.objects ≡ self.now.most_objects }
         ensures handlers { result.handlers ≡ self.now.most_handlers }
@@ -118,7 +119,7 @@ impl Definition {
         self.limits
     }
 
-    /// How many objects it has: not more than may live. They are its first places, and all others are prototypes.
+    /// Returns the number of objects, which is not more than may live. They are the first places, and all other places are prototypes.
     pub fn object_count(&self) -> usize
         ensures count { result ≡ object_count self.now }
         ensures few { result ≤ self.now.most_objects }
@@ -126,7 +127,7 @@ impl Definition {
         self.objects.len()
     }
 
-    /// How many places it has: its objects and its prototypes.
+    /// Returns the number of places, which are the objects and the prototypes.
     pub fn place_count(&self) -> usize
         ensures count { result ≡ length self.now.places }
         ensures few { result ≤ 512 }
@@ -134,7 +135,7 @@ impl Definition {
         self.objects.len() + self.prototypes.len()
     }
 
-    /// The object or prototype at a place, if there is one.
+    /// Returns the object or prototype at a place, or `None` if there is none.
     pub fn object(&self, place: usize) -> Option<ObjectEntry<'_>>
         ensures { option_map entry_view result ≡ slice_get self.now.places place }
     {
@@ -145,21 +146,21 @@ impl Definition {
         prototype_entry(&self.prototypes, place - count)
     }
 
-    /// How many bindings it has.
+    /// Returns the number of bindings.
     pub fn binding_count(&self) -> usize
         ensures { result ≡ length self.now.bindings }
     {
         self.bindings.len()
     }
 
-    /// The binding of a number, if there is one: bindings are numbered in document order.
+    /// Returns the binding with this number in document order, or `None` if there is none.
     pub fn binding(&self, number: usize) -> Option<&Bind>
         ensures { option_map (λ b. bind_view b.now) result ≡ slice_get self.now.bindings number }
     {
         self.bindings.get(number)
     }
 
-    /// The place of the object or prototype of an id.
+    /// Returns the place of the object or prototype with this id.
     pub fn place(&self, id: &str) -> Option<Place>
         ensures { option_map (λ p. p.0) result ≡ place_of self.now id.now }
     {
@@ -167,7 +168,7 @@ impl Definition {
         Some(Place(place as u16))
     }
 
-    /// The place of the object of an id.
+    /// Returns the place of the object with this id.
     pub fn object_place(&self, id: &str) -> Option<Place>
         ensures { option_map (λ p. p.0) result ≡ object_place self.now id.now }
     {
@@ -175,7 +176,7 @@ impl Definition {
         Some(Place(number as u16))
     }
 
-    /// The class of the object or prototype at a place, and the first class where there is none.
+    /// Returns the class of the object or prototype at a place, or the first class if there is none.
     pub fn class_at(&self, place: Place) -> TypeId
         ensures { result ≡ class_at self.now place.0 }
     {
@@ -185,7 +186,7 @@ impl Definition {
         }
     }
 
-    /// The spec of a property of a class by its slot, if there is one.
+    /// Returns the spec of a class's property by its slot, or `None` if there is none.
     pub fn spec(&self, class: TypeId, slot: Slot) -> Option<&Spec>
         ensures { option_map (λ s. spec_view s.now) result ≡ spec_of self.now class slot }
     {
@@ -196,7 +197,7 @@ impl Definition {
         Some(self.specs.own_spec(place.owner, usize::from(place.at)))
     }
 
-    /// How many properties a class has, inherited ones among them.
+    /// Returns the number of properties of a class, including inherited ones.
     pub fn slots(&self, class: TypeId) -> usize
         ensures slots { result ≡ length (specs_of self.now class) }
         ensures known { 0 < result → class < length self.now.types }
@@ -208,7 +209,7 @@ impl Definition {
         self.slots.count(class)
     }
 
-    /// The slot of the property of a class that a name names, in either spelling.
+    /// Returns the slot of a class's property with this name, in either spelling.
     pub fn slot(&self, class: TypeId, name: &str) -> Option<Slot>
         ensures { result ≡ slot_of self.now class name.now }
     {
@@ -218,7 +219,7 @@ impl Definition {
         self.specs.find(&self.types, class, name)
     }
 
-    /// The number of the signal of a class that a name names, in either spelling.
+    /// Returns the number of a class's signal with this name, in either spelling.
     pub fn signal_number(&self, class: TypeId, name: &str) -> Option<SignalId>
         ensures { result ≡ signal_number self.now class name.now }
     {
@@ -228,7 +229,7 @@ impl Definition {
         self.signals.find(&self.types, class, name)
     }
 
-    /// The signal of a class by its number, if it has so many. Number 0 is `notify`.
+    /// Returns the signal of a class by its number, or `None` if there are not so many. Number 0 is `notify`.
     pub fn signal(&self, class: TypeId, number: SignalId) -> Option<DeclaredSignal<'_>>
         ensures { option_map declared_view result ≡ signal_of self.now class number }
     {
@@ -239,7 +240,7 @@ impl Definition {
             .signal_in(&self.rows, &self.types, class, number)
     }
 
-    /// How many signals a class has, `notify` among them.
+    /// Returns the number of signals of a class, including `notify`.
     pub fn signal_count(&self, class: TypeId) -> usize
         ensures count { result ≡ length (class_of self.now class).signals }
         ensures few { result ≤ 16385 }
@@ -250,7 +251,8 @@ impl Definition {
         self.rows.count(class) + 1
     }
 
-    /// The program that a class runs for the signal of a number: its own, or that of its nearest ancestor that names one.
+    /// Returns the program that a class runs for the signal with this number. The class itself names it, or else its nearest ancestor that
+    /// names one.
     pub fn class_handler(&self, class: TypeId, number: SignalId) -> Option<ProgramId>
         ensures { result ≡ option_and_then (λ s. class_handler_of self.now class s.name) (signal_of self.now class number) }
     {
@@ -260,8 +262,8 @@ impl Definition {
         self.signals.class_handler(&self.types, class, number)
     }
 
-    /// What an emission by an object begins with: of the signal of its class of a number, with a detail. `None` where the class has no signal of
-    /// the number.
+    /// Returns the emission with which an object emits the signal with this number of its class, with a detail. Returns `None` if the class
+    /// has no signal with this number.
     pub fn emission(
         &self,
         class: TypeId,
@@ -281,7 +283,7 @@ impl Definition {
             .emission(&self.types, class, object, number, detail)
     }
 
-    /// The program that a class itself names for its objects once they are constructed.
+    /// Returns the program that a class itself names for its objects once they are constructed.
     pub fn constructed(&self, class: TypeId) -> Option<ProgramId>
         ensures { result ≡ (class_of self.now class).constructed }
     {
@@ -291,21 +293,21 @@ impl Definition {
         number_at(self.constructed.as_slice(), class.index())
     }
 
-    /// The number of the shape of a class: the one that it names, or that of its nearest ancestor that names one.
+    /// Returns the number of a class's shape. The class itself names it, or else its nearest ancestor that names one.
     pub fn shape_number(&self, class: TypeId) -> Option<usize>
         ensures { result ≡ nearest_shape self.now class }
     {
         shape_number(&self.types, self.shaped.as_slice(), class)
     }
 
-    /// How many shapes it has.
+    /// Returns the number of shapes.
     pub fn shape_count(&self) -> usize
         ensures { result ≡ length self.now.shapes }
     {
         self.shapes.len()
     }
 
-    /// The methods of the shape of a number, if there are so many shapes: they are numbered in document order.
+    /// Returns the methods of the shape with this number in document order, or `None` if there are not so many.
     pub fn shape(&self, number: usize) -> Option<&Shape>
         ensures { option_map (λ s. s.now) result ≡ option_map (λ s. s.methods) (slice_get self.now.shapes number) }
     {
@@ -313,7 +315,7 @@ impl Definition {
         Some(shape)
     }
 
-    /// The name of the shape of a number, and nothing where there are not so many.
+    /// Returns the name of the shape with this number, or an empty text if there are not so many.
     pub fn shape_name(&self, number: usize) -> &str
         ensures { IfSome (slice_get self.now.shapes number) (λ s. result.now ≡ s.name) }
     {
@@ -323,7 +325,7 @@ impl Definition {
         }
     }
 
-    /// How many types it has, classes among them.
+    /// Returns the number of types, which include the classes.
     pub fn class_count(&self) -> usize
         ensures count { result ≡ length self.now.classes }
         ensures few { result ≤ 256 }
@@ -333,7 +335,7 @@ impl Definition {
         self.types.len()
     }
 
-    /// The programs that a class itself names for signals, in document order.
+    /// Returns the programs that a class itself names for signals, in document order.
     pub fn class_handlers(&self, class: TypeId) -> &[ClassHandler]
         ensures { result.now ≡ (class_of self.now class).handlers }
     {
@@ -343,7 +345,7 @@ impl Definition {
         self.signals.own_handlers(class)
     }
 
-    /// The program of a number, if there is one. The kinds in its code are known, and it has at most 32 registers.
+    /// Returns the program with this number, or `None` if there is none. The kinds in its code are known, and it has at most 32 registers.
     pub fn program(&self, number: ProgramId) -> Option<&Program>
         ensures program { option_map (λ p. program_view p.now) result ≡ program_at self.now number }
         ensures known { IfSome result (λ p. HasKnownBlocks self.now.types p.now) }
@@ -353,14 +355,14 @@ impl Definition {
         Some(program)
     }
 
-    /// The number of the program of a name.
+    /// Returns the number of the program with this name.
     pub fn program_number(&self, name: &str) -> Option<ProgramId>
         ensures { result ≡ program_of self.now name.now }
     {
         number_of(&self.programs, name)
     }
 
-    /// The name of a class, and nothing where there is none.
+    /// Returns the name of a class, or an empty text if there is no such class.
     pub fn class_name(&self, class: TypeId) -> &str
         ensures { result.now ≡ (type_of self.now class).name }
     {
@@ -368,7 +370,7 @@ impl Definition {
     }
 }
 
-// The object of a number, if there is one.
+// Returns the object with this number, or `None` if there is none.
 fn object_entry(objects: &Objects, number: usize) -> Option<ObjectEntry<'_>>
     ensures { option_map entry_view result ≡ slice_get (map plain_object objects.now.entries) number }
 {
@@ -384,7 +386,7 @@ fn object_entry(objects: &Objects, number: usize) -> Option<ObjectEntry<'_>>
     })
 }
 
-// The prototype of a number, if there is one.
+// Returns the prototype with this number, or `None` if there is none.
 fn prototype_entry(prototypes: &Prototypes, number: usize) -> Option<ObjectEntry<'_>>
     ensures { option_map entry_view result ≡ slice_get (map plain_prototype prototypes.now.entries) number }
 {
@@ -400,7 +402,7 @@ fn prototype_entry(prototypes: &Prototypes, number: usize) -> Option<ObjectEntry
     })
 }
 
-// The number that is at a place, if one is there.
+// Returns the number at an index, if one is there.
 fn number_at(numbers: &[Option<ProgramId>], place: usize) -> Option<ProgramId>
     ensures { result ≡ read None numbers.now place }
 {

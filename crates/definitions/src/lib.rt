@@ -1,4 +1,4 @@
-//! Definitions: what a definition has, seen as the machine's, and how it is looked up.
+//! Definitions, which a contract sees as definitions of the machine, and their look-ups.
 #![tactic(auto)]
 
 mod definition;

@@ -1,4 +1,4 @@
-//! What definitions are made of.
+//! The parts of which definitions are made.
 
 use crate::places::{Objects, Prototypes};
 use crate::programs::Programs;
@@ -15,10 +15,10 @@ pub struct Parts {
     pub types: TypeTree,
     pub specs: SpecTable,
     pub signals: SignalTable,
-    /// The programs that classes name for their objects once they are constructed, by class.
+    /// For each class, the program that it names for its objects once they are constructed.
     pub constructed: Vec<Option<ProgramId>>,
     pub shapes: Shapes,
-    /// The shapes that classes name, by class.
+    /// For each class, the shape that it names.
     pub shaped: Vec<Option<usize>>,
     pub programs: Programs,
     pub prototypes: Prototypes,

@@ -1,4 +1,4 @@
-//! The places of a definition, by their ids: its objects and, behind them, its prototypes.
+//! The places of a definition by their ids: its objects, followed by its prototypes.
 
 ghost use Rattle.std.specs.Prelude.{◌≡◌, ◌<◌, ◌≤◌, ◌+◌, length, IfSome, map};
 ghost use Rattle.ui_machine.specs.Definition.Names.{place_named};
@@ -16,7 +16,7 @@ pub type Objects = IndexMap<String, ObjectBody>;
 /// Prototypes in document order, by their ids.
 pub type Prototypes = IndexMap<String, PrototypeBody>;
 
-// Where the object of an id is.
+// Returns the index of the object with this id.
 pub(crate) fn position_of(objects: &Objects, id: &str) -> Option<usize>
     ensures place { result ≡ place_named (λ p. p.id) (map plain_object objects.now.entries) id.now }
     ensures within { IfSome result (λ i. i < length objects.now.entries) }
@@ -24,7 +24,7 @@ pub(crate) fn position_of(objects: &Objects, id: &str) -> Option<usize>
     objects.get_index_of(id)
 }
 
-/// Where the prototype of an id is among the prototypes.
+/// Returns the index of the prototype with this id among the prototypes.
 pub fn prototype_of(prototypes: &Prototypes, id: &str) -> Option<usize>
     ensures place { result ≡ place_named (λ p. p.id) (map plain_prototype prototypes.now.entries) id.now }
     ensures within { IfSome result (λ i. i < length prototypes.now.entries) }
@@ -32,7 +32,7 @@ pub fn prototype_of(prototypes: &Prototypes, id: &str) -> Option<usize>
     prototypes.get_index_of(id)
 }
 
-/// Where the object or prototype of an id is: prototypes come after the objects.
+/// Returns the place of the object or prototype with this id. Prototypes come after the objects.
 pub fn place_in(objects: &Objects, prototypes: &Prototypes, id: &str) -> Option<usize>
     requires { length objects.now.entries + length prototypes.now.entries ≤ 512 }
     ensures place { result ≡ place_named (λ p. p.id) (places_of objects.now.entries prototypes.now.entries) id.now }

@@ -1,4 +1,4 @@
-//! The programs of a definition, by their names.
+//! The programs of a definition by their names.
 
 ghost use Rattle.std.specs.Prelude.{◌≡◌, ◌≤◌, length, map};
 ghost use Rattle.std.specs.List.{AllByRecursion};
@@ -12,7 +12,7 @@ use ui_machine::ProgramId;
 /// Programs in document order, by their names.
 pub type Programs = IndexMap<String, Program>;
 
-/// The number of the program of a name.
+/// Returns the number of the program with this name.
 pub fn number_of(programs: &Programs, name: &str) -> Option<ProgramId>
     requires named { AllByRecursion HasOwnName programs.now.entries }
     requires few { length programs.now.entries ≤ 256 }

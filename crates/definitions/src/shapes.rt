@@ -1,4 +1,4 @@
-//! The shapes of a definition, by their names, and those of its classes.
+//! The shapes of a definition by their names, and the shapes of its classes.
 
 ghost use Rattle.std.specs.Prelude.{◌≡◌, ◌<◌, IfSome, None, length, map};
 ghost use Rattle.ui_machine.specs.Definition.Names.{place_named};
@@ -13,14 +13,14 @@ use type_tree::{TypeId, TypeTree};
 /// Shapes in document order, by their names.
 pub type Shapes = IndexMap<String, Shape>;
 
-/// The number of the shape of a name.
+/// Returns the number of the shape with this name.
 pub fn shape_of(shapes: &Shapes, name: &str) -> Option<usize>
     ensures { result ≡ place_named (λ s. s.name) (map plain_shape shapes.now.entries) name.now }
 {
     shapes.get_index_of(name)
 }
 
-// The number of the shape that is at a place, if one is there.
+// Returns the number of the shape at an index, if one is there.
 fn shape_at(shaped: &[Option<usize>], place: usize) -> Option<usize>
     ensures { result ≡ read None shaped.now place }
 {
@@ -31,7 +31,8 @@ fn shape_at(shaped: &[Option<usize>], place: usize) -> Option<usize>
     }
 }
 
-/// The number of the shape of a class: the one that it names, or that of its nearest ancestor that names one, where these are by class.
+/// Returns the number of a class's shape. The class itself names it, or else its nearest ancestor that names one. `shaped` has the shapes
+/// that classes name, by class.
 pub fn shape_number(types: &TypeTree, shaped: &[Option<usize>], class: TypeId) -> Option<usize>
     ensures { result ≡ shape_by types.now (read None shaped.now) class }
 {

@@ -1,4 +1,4 @@
-//! The types of a definition, by their numbers.
+//! The types of a definition by their numbers.
 
 ghost use Rattle.std.specs.Prelude.{◌≡◌};
 ghost use Rattle.ui_machine.specs.Seq.{read};
@@ -6,7 +6,7 @@ ghost use Rattle.ui_machine.specs.Output.Text.{no_type};
 
 use type_tree::{TypeId, TypeTree};
 
-/// The name of a type, and nothing where there is none.
+/// Returns the name of a type, or an empty text if there is no such type.
 pub fn type_name(types: &TypeTree, t: TypeId) -> &str
     ensures { result.now ≡ (read no_type types.now t).name }
 {

@@ -1,4 +1,4 @@
-//! What depends on what.
+//! The graph of what depends on what.
 
 ghost use Rattle.std.specs.Prelude.{◌≡◌, ◌<◌, ◌≤◌, ◌++◌, ◌∷◌, [], length, slice_get, slice_index, Some, OnOk, OnErr};
 ghost use Rattle.dependency_order.specs.Kept.{AreStarts, lists_in, with_last};
@@ -6,10 +6,10 @@ ghost use Rattle.dependency_order.specs.Kept.{AreStarts, lists_in, with_last};
 use std::alloc::{AllocError, Global};
 use std::marker::Model;
 
-/// Nodes by their numbers, each with the nodes that it depends on. A contract sees the list of these lists.
+/// A graph of nodes, which are numbers. Each has a list of the nodes that it depends on, and the contracts see the list of these lists.
 #[derive(Debug, Drop)]
 pub struct Dependencies {
-    // Of each node, where its edges begin.
+    // For each node, where its edges begin.
     starts: Vec<usize>,
     // The nodes that edges lead to, node after node.
     targets: Vec<u32>,
@@ -27,7 +27,7 @@ impl Model for Dependencies {
 }
 
 impl Dependencies {
-    /// No nodes. It takes no memory.
+    /// Creates a graph without nodes. It takes no memory.
     pub fn new(alloc: Global) -> Dependencies
         ensures { result ≡ [] }
     {
@@ -37,18 +37,18 @@ impl Dependencies {
         }
     }
 
-    /// How many nodes there are.
+    /// Returns the number of nodes.
     pub fn node_count(&self) -> usize
         ensures { result ≡ length self.now }
     {
         self.starts.len()
     }
 
-    /// Adds a node, the next in number, that depends on nothing so far.
+    /// Adds the node with the next number, which depends on nothing so far.
     ///
     /// # Errors
     ///
-    /// `AllocError` where no memory is found. Nothing is changed then.
+    /// `AllocError` if memory is refused. Nothing is changed then.
     pub fn add_node(&mut self) -> Result<(), AllocError>
         ensures ok { OnOk result (self.new ≡ self.old ++ [] ∷ []) }
         ensures err { OnErr result (self.new ≡ self.old) }
@@ -57,11 +57,11 @@ impl Dependencies {
         Ok(())
     }
 
-    /// Adds an edge: the node that was added last depends on this one too.
+    /// Adds an edge, so that the node that was added last also depends on `to`.
     ///
     /// # Errors
     ///
-    /// `AllocError` where no memory is found. Nothing is changed then.
+    /// `AllocError` if memory is refused. Nothing is changed then.
     pub fn add_edge(&mut self, to: u32) -> Result<(), AllocError>
         requires { 0 < length self.old }
         ensures ok { OnOk result (self.new ≡ with_last self.old to) }
@@ -71,7 +71,7 @@ impl Dependencies {
         Ok(())
     }
 
-    /// The nodes that a node depends on.
+    /// Returns the nodes that a node depends on.
     pub fn edges(&self, node: usize) -> &[u32]
         requires { node < length self.now }
         ensures { slice_get self.now node ≡ Some result.now }
@@ -80,7 +80,7 @@ impl Dependencies {
     }
 }
 
-// The list of this number, of the lists that begin at these places of `all`.
+// Returns list `number` of those that begin at the places `starts` of `all`.
 fn list_at<'a>(starts: &[usize], all: &'a [u32], number: usize) -> &'a [u32]
     requires places { AreStarts starts.now all.now }
     requires inside { number < length starts.now }

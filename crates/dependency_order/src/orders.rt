@@ -1,4 +1,4 @@
-//! Orders and cycles.
+//! Sorts the nodes of a graph.
 
 ghost use Rattle.std.specs.Prelude.{◌≡◌, ◌≤◌, length, drop, IfOk};
 ghost use Rattle.dependency_order.specs.Graphs.{IsGraph};
@@ -8,20 +8,20 @@ use crate::dependencies::Dependencies;
 use crate::searches::Search;
 use std::alloc::{AllocError, Global};
 
-/// What the edges of a graph allow.
+/// The result of sorting the nodes of a graph.
 #[derive(Debug, Drop)]
 pub enum Sorted {
-    /// All nodes, each behind those that it depends on.
+    /// All nodes, each after those that it depends on.
     Order(Vec<usize>),
     /// Nodes that each depend on the next one, and the last one on the first.
     Cycle(Vec<usize>),
 }
 
-/// The nodes in order, each once and behind those that it depends on; or nodes that depend on one another in a cycle, each of them once.
+/// Returns all nodes in an order in which each comes once and after those that it depends on, or else a cycle of nodes, each of them once.
 ///
 /// # Errors
 ///
-/// `AllocError` where no memory is found.
+/// `AllocError` if memory is refused.
 pub fn sort(alloc: Global, dependencies: &Dependencies) -> Result<Sorted, AllocError>
     requires { IsGraph dependencies.now }
     ensures { IfOk result (λ sorted. Sorts dependencies.now sorted) }
@@ -36,7 +36,7 @@ pub fn sort(alloc: Global, dependencies: &Dependencies) -> Result<Sorted, AllocE
     Ok(Sorted::Order(search.into_order()))
 }
 
-// The entries of a list from one on.
+// Returns the entries of a list from index `from` on.
 fn rest_of(alloc: Global, nodes: &[usize], from: usize) -> Result<Vec<usize>, AllocError>
     requires { from ≤ length nodes.now }
     ensures { IfOk result (λ rest. rest.items ≡ drop from nodes.now) }

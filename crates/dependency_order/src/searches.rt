@@ -1,5 +1,5 @@
-//! The search goes from a node to the first one that it depends on and that is not done, and so on down. A node whose edges all lead to nodes
-//! that are done is done itself. Where an edge leads back to the path there is a cycle.
+//! A search for an order or a cycle. It goes from a node to the first one that it depends on and that is not done, and so on down. A node
+//! is done when all its edges lead to nodes that are done. An edge that leads back to the path closes a cycle.
 
 ghost use Rattle.std.specs.Prelude.{◌≡◌, ◌<◌, ◌≤◌, ◌↔◌, ℕ, length, slice_get, slice_index_or, Some, IsTrue, IfSome, IfNone, IfOk, OnOk, drop};
 ghost use Rattle.dependency_order.specs.Graphs.{IsCycle, IsGraph};
@@ -9,16 +9,16 @@ use crate::dependencies::Dependencies;
 use std::alloc::{AllocError, Global};
 use std::marker::Model;
 
-/// How far the search has come.
+/// The state of a search.
 #[derive(Drop)]
 pub(crate) struct Search {
-    // Of each node, how many of its edges are known to lead to nodes that are done.
+    // For each node, how many of its edges are known to lead to nodes that are done.
     passed: Vec<usize>,
     path: Vec<usize>,
-    // Of each node on the path, its place there.
+    // For each node on the path, its place there.
     place: Vec<usize>,
     order: Vec<usize>,
-    // Of each node that is done, its position in the order.
+    // For each node that is done, its position in the order.
     position: Vec<usize>,
 }
 
@@ -31,7 +31,7 @@ impl Model for Search {
 }
 
 impl Search {
-    /// A search of so many nodes, none of which is done.
+    /// Creates a search of `count` nodes, none of which is done.
     pub(crate) fn new(alloc: Global, count: usize) -> Result<Search, AllocError>
         ensures { IfOk result (λ s. s ≡ at_first count) }
     {
@@ -44,21 +44,22 @@ impl Search {
         })
     }
 
-    /// The nodes on the path.
+    /// Returns the nodes on the path.
     pub(crate) fn path(&self) -> &[usize]
         ensures { result.now ≡ self.now.path }
     {
         self.path.as_slice()
     }
 
-    /// The nodes that are done, in order.
+    /// Returns the nodes that are done, in order.
     pub(crate) fn into_order(self) -> Vec<usize>
         ensures { result.items ≡ self.order }
     {
         self.order
     }
 
-    /// Goes on until a node is done, or an edge leads back to the path, to the place of it that is answered.
+    /// Goes on until `root` is done and returns `None`, or until an edge leads back to the path and returns the place there that it leads
+    /// to.
     pub(crate) fn visit(
         &mut self,
         dependencies: &Dependencies,
@@ -81,7 +82,7 @@ impl Search {
         Ok(None)
     }
 
-    // Makes one step at the end of the path; where the path is empty it begins at a node that is not done.
+    // Makes one step at the end of the path, or begins the path at `root`, which is not done, if it is empty.
     fn advance(
         &mut self,
         dependencies: &Dependencies,
@@ -104,8 +105,8 @@ impl Search {
         self.step(dependencies, node)
     }
 
-    // Makes one step from the last node of the path: the node is done, or the path goes on, or an edge leads back to the path, to the place
-    // that is answered.
+    // Makes one step from the last node of the path. The node is done, or the path goes on, or an edge leads back to the path. In the last
+    // case it returns the place on the path that the edge leads to.
     fn step(
         &mut self,
         dependencies: &Dependencies,
@@ -133,7 +134,7 @@ impl Search {
         Ok(None)
     }
 
-    // The number of the first edge, from this one on, that leads to a node that is not done.
+    // Returns the index of the first edge, from index `from` on, that leads to a node that is not done.
     fn first_waiting(&self, edges: &[u32], from: usize) -> Option<usize>
         requires inside { (k to : ℕ) → slice_get edges.now k ≡ Some to → to < length self.now.position }
         requires positioned { (k node : ℕ) → slice_get self.now.order k ≡ Some node → slice_get self.now.position node ≡ Some k }
@@ -153,7 +154,7 @@ impl Search {
         None
     }
 
-    // Whether a node is done.
+    // Returns whether a node is done.
     fn is_done(&self, node: usize) -> bool
         requires inside { node < length self.now.position }
         requires positioned { (k n : ℕ) → slice_get self.now.order k ≡ Some n → slice_get self.now.position n ≡ Some k }
@@ -163,7 +164,7 @@ impl Search {
         position < self.order.len() && self.order[position] == node
     }
 
-    // The place of a node on the path, if it is there.
+    // Returns the place of a node on the path, or `None` if it is not there.
     fn place_on_path(&self, node: usize) -> Option<usize>
         requires inside { node < length self.now.place }
         requires placed { (i n : ℕ) → slice_get self.now.path i ≡ Some n → slice_get self.now.place n ≡ Some i }
@@ -178,7 +179,7 @@ impl Search {
         }
     }
 
-    // How many of a node's edges are known to lead to nodes that are done.
+    // Returns how many of a node's edges are known to lead to nodes that are done.
     fn passed_count(&self, edges: &[u32], node: usize) -> usize
         requires inside { node < length self.now.passed }
         ensures { result ≡ passed_of self.now edges.now node }
@@ -196,7 +197,7 @@ impl Search {
         Ok(())
     }
 
-    // Goes on to a node: the path is longer by it.
+    // Extends the path by the node `to`, which edge `number` of `node` leads to.
     fn go_down(&mut self, node: usize, number: usize, to: usize) -> Result<(), AllocError>
         requires node { node < length self.old.passed }
         requires inside { to < length self.old.place }
@@ -208,7 +209,7 @@ impl Search {
         Ok(())
     }
 
-    // Takes the last node off the path, and marks it as done.
+    // Takes the last node off the path and marks it as done.
     fn finish(&mut self, node: usize) -> Result<(), AllocError>
         requires inside { node < length self.old.position }
         ensures { OnOk result (self.new ≡ done_with self.old node) }
@@ -220,7 +221,7 @@ impl Search {
     }
 }
 
-// The last of some nodes.
+// Returns the last of some nodes.
 fn last_of(nodes: &[usize]) -> Option<usize>
     ensures some { IfSome result (λ node. IsLast nodes.now node) }
     ensures none { IfNone result (length nodes.now ≡ 0) }

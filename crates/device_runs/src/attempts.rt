@@ -6,7 +6,7 @@ use event_lines::{Counted, run};
 use native_peers::PeerPool;
 use std::alloc::{AllocError, Global};
 
-/// What fails in a run, and how much a write takes.
+/// The script of a run: what fails in it, and how much a write takes.
 #[derive(Drop)]
 pub struct Script {
     read: Option<u64>,
@@ -15,7 +15,7 @@ pub struct Script {
 }
 
 impl Script {
-    /// Nothing fails, and a write takes all.
+    /// Creates a script by which nothing fails and a write takes all.
     pub fn whole() -> Script {
         Script {
             read: None,
@@ -24,7 +24,7 @@ impl Script {
         }
     }
 
-    /// The read of a number fails, counted from 0.
+    /// Creates a script by which the read with this number fails, counted from 0.
     pub fn failing_read(number: u64) -> Script {
         Script {
             read: Some(number),
@@ -33,7 +33,7 @@ impl Script {
         }
     }
 
-    /// The write of a number fails, counted from 0.
+    /// Creates a script by which the write with this number fails, counted from 0.
     pub fn failing_write(number: u64) -> Script {
         Script {
             read: None,
@@ -42,7 +42,7 @@ impl Script {
         }
     }
 
-    /// A write takes so many bytes at most.
+    /// Creates a script by which a write takes at most so many bytes.
     pub fn taking(most: usize) -> Script {
         Script {
             read: None,
@@ -59,7 +59,7 @@ pub struct Case<'a> {
     pub events: &'a [u8],
 }
 
-/// How a run ended, and what it did.
+/// The status of a run, and what it did.
 #[derive(Drop)]
 pub struct Attempt {
     pub status: u8,
@@ -69,7 +69,7 @@ pub struct Attempt {
 }
 
 impl Case<'_> {
-    /// Runs the definition without peers over its events, with what the script says.
+    /// Runs the definition without peers over its events, with the failures of the script.
     pub fn attempt(&self, alloc: Global, script: Script) -> Attempt {
         let mut reader = Counted::new(ScriptedFeed::new(self.events, script.read));
         let mut writer = Counted::new(ScriptedSink::new(alloc, script.most, script.write));
@@ -85,7 +85,11 @@ impl Case<'_> {
 }
 
 impl Attempt {
-    /// What was written, beside what is written where nothing fails.
+    /// Returns a text that compares what was written with what is written where nothing fails.
+    ///
+    /// # Errors
+    ///
+    /// `AllocError` if memory is refused.
     pub fn beside(&self, alloc: Global, whole: &Attempt) -> Result<String, AllocError> {
         let bytes = self.written.len();
         if self.written.as_slice() == whole.written.as_slice() {

@@ -1,8 +1,8 @@
 //! Runs over devices that fail, for tests: each read and each write of a run fails once, and a writer takes one byte at a time, or none.
 //!
-//! Each word of the command line names a definition and its events, the files `NAME.json` and `NAME.jsonl`. A line says how a run of them
-//! ended, and whether what came to its writer is a front of what comes where nothing fails. That `run` keeps to this with every device is
-//! proved; here it is seen.
+//! Each word of the command line names a definition and its events, the files `NAME.json` and `NAME.jsonl`. A line says with which status a
+//! run of them ended, and whether what came to its writer is a front of what comes where nothing fails. That `run` keeps to this with every
+//! device is proved. Here it is seen.
 #![tactic(auto)]
 
 mod attempts;
@@ -25,7 +25,7 @@ fn main(rt: HostRuntime) -> ExitCode {
     }
 }
 
-// Runs what each word names.
+// Runs the cases that the words name.
 fn run_cases(rt: &HostRuntime) -> Result<(), RunFault> {
     let words = env::args(rt)?.collect::<Vec<String>>(rt.alloc())?;
     for name in words.iter().skip(1) {
@@ -34,7 +34,7 @@ fn run_cases(rt: &HostRuntime) -> Result<(), RunFault> {
     Ok(())
 }
 
-// The bytes of a file.
+// Returns the bytes of a file.
 fn bytes_of(rt: &HostRuntime, name: &str) -> Result<Vec<u8>, RunFault> {
     let file = File::open(rt, name)?;
     let bytes = definition_bytes(rt.alloc(), &mut Device::new(file))?;
@@ -59,7 +59,7 @@ fn run_case(rt: &HostRuntime, name: &str) -> Result<(), RunFault> {
     take_few(rt, name, &case, &whole, 0)
 }
 
-// Each read fails once.
+// Runs the case once for each of its reads, which fails.
 fn fail_reads(
     rt: &HostRuntime,
     name: &str,
@@ -74,7 +74,7 @@ fn fail_reads(
     Ok(())
 }
 
-// Each write fails once.
+// Runs the case once for each of its writes, which fails.
 fn fail_writes(
     rt: &HostRuntime,
     name: &str,
@@ -89,7 +89,7 @@ fn fail_writes(
     Ok(())
 }
 
-// Each write takes no more than so many bytes.
+// Runs the case with writes that take no more than so many bytes.
 fn take_few(
     rt: &HostRuntime,
     name: &str,

@@ -1,14 +1,14 @@
-//! Why the program ends early.
+//! The faults with which the program ends early.
 
 use event_lines::FileFault;
 use std::alloc::{AllocError, AllocFailed};
 use std::io;
 
-/// Why the program ends early.
+/// The reason why the program ends early.
 #[derive(Clone, Copy, Debug, PartialEq, Eq)]
 pub enum RunFault {
     OutOfMemory,
-    /// A file was not read, or a line is not taken.
+    /// A file was not read, or a line could not be written.
     Device,
 }
 

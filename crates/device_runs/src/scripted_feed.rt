@@ -1,13 +1,13 @@
-//! A feed whose read of a number fails.
+//! A feed of which one read fails, given by its number.
 
 ghost use Rattle.std.specs.Prelude.{false, ◌≡◌};
 
 use ui_machine::{DeviceFault, Feed};
 
-/// The most bytes that one read gives, so that a run has several.
+/// The greatest number of bytes that one read gives, which is small so that a run has several reads.
 const PIECE_SIZE: usize = 16;
 
-/// Gives bytes in small pieces. The read of a number fails, if there is one.
+/// A feed that gives bytes in small pieces. The read with number `fails_at` fails, if there is one.
 #[derive(Drop)]
 pub struct ScriptedFeed<'a> {
     left: &'a [u8],
@@ -17,7 +17,7 @@ pub struct ScriptedFeed<'a> {
 }
 
 impl<'a> ScriptedFeed<'a> {
-    /// These bytes, of which no piece was read.
+    /// Creates a feed of these bytes, of which nothing was read.
     pub fn new(bytes: &'a [u8], fails_at: Option<u64>) -> ScriptedFeed<'a>
         ensures { result.failed ≡ false }
     {

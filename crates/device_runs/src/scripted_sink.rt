@@ -1,11 +1,12 @@
-//! A sink whose write of a number fails.
+//! A sink of which one write fails, given by its number.
 
 ghost use Rattle.std.specs.Prelude.{false, ◌≡◌};
 
 use std::alloc::Global;
 use ui_machine::{DeviceFault, Sink};
 
-/// Takes so many bytes a write at most, and keeps them. The write of a number fails, if there is one, and one that takes none of some bytes.
+/// A sink that takes at most `most` bytes a write, and keeps them. The write with number `fails_at` fails, if there is one, and so does a
+/// write that takes none of some bytes.
 #[derive(Drop)]
 pub struct ScriptedSink {
     pub taken: Vec<u8>,
@@ -16,7 +17,7 @@ pub struct ScriptedSink {
 }
 
 impl ScriptedSink {
-    /// A sink that has taken nothing.
+    /// Creates a sink that has taken nothing.
     pub fn new(alloc: Global, most: usize, fails_at: Option<u64>) -> ScriptedSink
         ensures { result.failed ≡ false }
     {

@@ -1,4 +1,4 @@
-//! What programs give: an emission collects it (GObject manual, Signals: GSignalAccumulator).
+//! The values that programs give: an emission collects them (GObject manual, Signals: GSignalAccumulator).
 
 ghost use Rattle.std.specs.Prelude.{◌≡◌, ℕ, ◌+◌, ◌≤◌, [], cond, option_map, OnOk};
 ghost use Rattle.ui_machine.specs.Rules.Accumulation.{down_to_emission, given_down};
@@ -29,8 +29,8 @@ use instance_tables::Table;
 use signal_core::{Accumulator, Cursor, is_last};
 use std::alloc::AllocError;
 
-// An emission takes what its program gave, if it gave something, and answers whether that was the last. It holds what that names, and lets
-// go what the value before it named.
+// Gives a program's value, if there is one, to the emission that ran the program, and returns whether that was the last value. The emission
+// holds what the value names, and lets go what the value before it named.
 fn collect(
     table: &mut Table,
     cursor: &mut Cursor,
@@ -55,7 +55,7 @@ fn collect(
     is_last
 }
 
-// The transfers of an emission, of which none are left where it stopped.
+// Returns the transfers of an emission, or none if the emission was stopped.
 fn unless_stopped(transfers: Transfers, is_stopped: bool) -> Transfers
     ensures { result ≡ cond is_stopped (at.Due []) transfers }
 {
@@ -66,7 +66,8 @@ fn unless_stopped(transfers: Transfers, is_stopped: bool) -> Transfers
     }
 }
 
-// An emission collects what its program gave, which may stop it.
+// Gives a program's value to the emission that ran the program, which it may stop, and puts the rest of the emission before the other
+// tasks.
 fn accumulate(
     engine: &mut Engine,
     definition: &Definition,
@@ -113,7 +114,7 @@ fn accumulate(
     });
 }
 
-// The program of a source says whether the source stays (GLib manual, GSourceFunc).
+// Keeps or removes a source, as its program answered (GLib manual, GSourceFunc).
 fn answer(engine: &mut Engine, source: u64, given: Option<Value>)
     requires able { Able (kept_source (world_of engine.now.world) source (option_map value_view given)) }
     requires held { HoldsSources engine.now }
@@ -129,7 +130,8 @@ fn answer(engine: &mut Engine, source: u64, given: Option<Value>)
     answer_source(engine, source, keep);
 }
 
-/// What a program gives goes to the task below it: an emission collects it, a source stays or not by it, and to all others it gives nothing.
+/// Gives a program's value to the task below the program. An emission collects it, a source stays or goes by it, and any other task takes
+/// nothing.
 pub(crate) fn give_down(engine: &mut Engine, definition: &Definition, given: Option<Value>)
     requires able { Able (given_down definition.now (world_of engine.now.world) (agenda_of definition.now engine.now) (option_map value_view given)) }
     requires held { HoldsTasks definition.now engine.now }

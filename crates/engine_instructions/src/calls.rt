@@ -1,4 +1,4 @@
-//! `call`: a method of an object's peer is to answer.
+//! `call`: a program calls a method of an object's peer.
 
 ghost use Rattle.std.specs.Prelude.{◌≡◌, List, Ok, IfOk, IfSome, IsSome, OnErr, OnOk, map, option_map, string_bytes};
 ghost use Rattle.ui_machine.specs.Definition.Types.{GType};
@@ -36,7 +36,7 @@ use peer_shapes::MethodRef;
 use std::alloc::AllocError;
 use ui_machine::ObjectId;
 
-// A method of a peer, by the numbers of both.
+// A method of a peer, with the numbers of both.
 #[derive(Clone, Copy)]
 struct CalledMethod<'a> {
     peer: usize,
@@ -44,7 +44,7 @@ struct CalledMethod<'a> {
     method: MethodRef<'a>,
 }
 
-// The number of the method of a name of an object's class, which the instruction's link says.
+// Returns the number of a method among those of an object's class, if the class has it. The instruction's link says what the name means.
 fn method_number(
     engine: &Engine,
     definition: &Definition,
@@ -63,7 +63,7 @@ fn method_number(
     engine.links.method(shape, link.method())
 }
 
-// The method of a name of an object's peer. Its kinds are known whatever the types are.
+// Returns the method that a name means for an object's peer, if there are both. Its kinds are known whatever the types are.
 fn method_called<'a>(
     engine: &'a Engine,
     definition: &Definition,
@@ -93,7 +93,7 @@ fn method_called<'a>(
     })
 }
 
-// The call that is due.
+// Returns the call that the instruction asks for, with its arguments copied from the registers.
 fn due_call(
     engine: &Engine,
     definition: &Definition,
@@ -126,7 +126,7 @@ fn due_call(
     })
 }
 
-/// A method of an object's peer is to answer, and the program waits for the answer.
+/// Calls a method of an object's peer, which answers before the program goes on.
 pub(crate) fn call_from_program(
     engine: &mut Engine,
     definition: &Definition,

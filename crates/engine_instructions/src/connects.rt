@@ -33,7 +33,7 @@ use linked_programs::Link;
 use signal_core::Connection;
 use std::alloc::AllocError;
 
-// What the object that a register names is connected with.
+// Returns the connection that `connect` asks for, on the object that a register names.
 fn new_connection(
     engine: &Engine,
     definition: &Definition,
@@ -71,8 +71,8 @@ fn new_connection(
     })
 }
 
-/// A handler is connected, unless one of its objects is disposed, or as many are connected as may be: a line says so then. A register gets
-/// whether it was.
+/// Connects a handler, unless the object or the data object is disposed or a limit is reached. A limit is reported by a line. Writes to a
+/// register whether the handler was connected.
 pub(crate) fn connect_from_program(
     engine: &mut Engine,
     definition: &Definition,

@@ -17,7 +17,7 @@ use std::rc::RcStr;
 use type_tree::TypeId;
 use ui_machine::{ObjectId, SignalId};
 
-// The name of the property that a detail of a notification names, which the instruction's link says.
+// Returns the name of the property that a detail of `notify` names. The instruction's link says which property it is.
 fn property_named(
     engine: &Engine,
     definition: &Definition,
@@ -40,19 +40,19 @@ fn property_named(
     Ok(String::from_str(engine.alloc, name)?)
 }
 
-// The detail of a notification: that of any other signal is none.
+// Returns the detail if the signal is `notify`, and None for any other signal.
 fn notified(signal: SignalId, detail: Option<&str>) -> Option<&str>
     ensures { result ≡ (if signal == 0 then detail.entry else None) }
 {
     if signal == 0 { detail } else { None }
 }
 
-/// A detail as it is at a signal of an object. The signal is detailed, and a detail of `notify` names a property, which the instruction's link
-/// says.
+/// Returns a detail as it is kept for a signal of an object. The signal has to be detailed, and a detail of `notify` has to name a
+/// property, which the instruction's link says.
 ///
 /// # Errors
 ///
-/// `AllocError` if no memory is found.
+/// `AllocError` if memory is refused.
 pub(crate) fn detail_in(
     engine: &Engine,
     definition: &Definition,
@@ -66,7 +66,7 @@ pub(crate) fn detail_in(
     ensures { IfOk result (λ own. detail_in definition.now (world_of engine.now.world) object.0 signal (option_map (λ text. text.now) detail.entry) ≡ Ok (detail_of own)) }
 {
     let Some(text) = notified(signal, detail) else {
-        // No name is looked up.
+        // No name is looked up here.
         return arguments::detail_in(engine, definition, object, signal, detail);
     };
     let class = engine.world.table.class_of(object);
@@ -74,7 +74,7 @@ pub(crate) fn detail_in(
     Ok(Some(name))
 }
 
-// The same detail, to be shared.
+// Turns the text of a detail into a shared one.
 fn shared(detail: Option<String>) -> Result<Option<RcStr>, AllocError>
     ensures { IfOk result (λ text. shared_detail_of text ≡ detail_of detail) }
 {
@@ -84,12 +84,12 @@ fn shared(detail: Option<String>) -> Result<Option<RcStr>, AllocError>
     }
 }
 
-/// The detail of an emission as it is at a signal of an object. Its text is shared with the program. A detail of `notify` asks for memory: no
-/// program of an accepted definition emits it.
+/// Returns the detail of an emission as it is kept for a signal of an object. Its text is shared with the program. A detail of `notify`
+/// asks for memory, but no program of an accepted definition emits `notify`.
 ///
 /// # Errors
 ///
-/// `AllocError` where a text has 2^64 - 1 sharers, and at `notify` if no memory is found.
+/// `AllocError` if the text has 2^64 - 1 sharers, or for `notify` if memory is refused.
 pub(crate) fn shared_detail_in(
     engine: &Engine,
     definition: &Definition,

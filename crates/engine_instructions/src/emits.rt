@@ -31,7 +31,7 @@ use std::alloc::AllocError;
 use std::rc::RcStr;
 use ui_machine::{ObjectId, SignalId};
 
-/// What `emit` says beside the object.
+/// The operands of `emit` beside the object.
 #[derive(Clone, Copy, Debug)]
 pub(crate) struct Emit<'a> {
     /// The register that waits for the result.
@@ -39,11 +39,11 @@ pub(crate) struct Emit<'a> {
     pub(crate) signal: &'a str,
     pub(crate) detail: &'a Option<RcStr>,
     pub(crate) args: &'a [Register],
-    /// What the names mean.
+    /// The meanings of the names.
     pub(crate) link: Link,
 }
 
-/// The number of an object's signal by name, which the instruction's link says.
+/// Returns the number of a signal of an object. The instruction's link says what the name means.
 pub(crate) fn signal_in(
     engine: &Engine,
     definition: &Definition,
@@ -64,7 +64,7 @@ pub(crate) fn signal_in(
     number
 }
 
-// The emission that a program is to begin, with its arguments in a list that is empty yet.
+// Returns the emission that a program asks for, with its arguments in the given list, which has to be empty.
 fn new_emission(
     engine: &Engine,
     definition: &Definition,
@@ -92,7 +92,7 @@ fn new_emission(
     })
 }
 
-/// An emission is to begin, and the program waits for its result where it takes one.
+/// Begins an emission before the program goes on. The program waits for the result if it takes one.
 pub(crate) fn emit_from_program(
     engine: &mut Engine,
     definition: &Definition,

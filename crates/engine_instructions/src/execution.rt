@@ -1,4 +1,4 @@
-//! Instructions: what each of them does.
+//! The execution of an instruction, by its sort.
 
 ghost use Rattle.std.specs.Prelude.{◌≡◌, ◌-◌, Some, IfSome, OnOk, OnErr};
 ghost use Rattle.ui_machine.specs.Definition.Lookups.{program_at};
@@ -44,7 +44,7 @@ use frames::Frame;
 use linked_programs::Link;
 use std::alloc::AllocError;
 
-// The link of an instruction that a frame has taken.
+// Returns the link of an instruction that a frame has taken.
 fn link_of(
     engine: &Engine,
     definition: &Definition,
@@ -61,11 +61,12 @@ fn link_of(
     engine.links.link(frame.program, frame.block, at)
 }
 
-/// Does what an instruction says, which its frame has taken and which is counted already. The number of a peer that it closes is left in the engine. Handlers that it disconnects have no more turns in the emissions that go on.
+/// Carries out an instruction, which its frame has taken and which is counted already. Leaves the number of a peer that it closes in the
+/// engine. Handlers that it disconnects have no more turns in the emissions that are under way.
 ///
 /// # Errors
 ///
-/// `AllocError` if no memory is found.
+/// `AllocError` if memory is refused.
 pub fn execute(
     engine: &mut Engine,
     definition: &Definition,
@@ -120,7 +121,7 @@ pub fn execute(
     }
 }
 
-// Where a program goes on, or that it ends.
+// Carries out a jump, a branch or a return.
 fn execute_control(
     engine: &mut Engine,
     definition: &Definition,
@@ -159,7 +160,7 @@ fn execute_control(
     Ok(())
 }
 
-// The instructions on properties.
+// Carries out an instruction on properties.
 fn execute_on_properties(
     engine: &mut Engine,
     definition: &Definition,
@@ -215,7 +216,7 @@ fn execute_on_properties(
     Ok(())
 }
 
-// The instructions on objects. Handlers that `dispose` disconnects have no more turns.
+// Carries out an instruction on objects. Handlers that `dispose` disconnects have no more turns.
 fn execute_on_objects(
     engine: &mut Engine,
     definition: &Definition,
@@ -258,7 +259,7 @@ fn execute_on_objects(
     Ok(())
 }
 
-// The instructions on signals and handlers. Handlers that `disconnect` disconnects have no more turns.
+// Carries out an instruction on signals and handlers. Handlers that `disconnect` disconnects have no more turns.
 fn execute_on_signals(
     engine: &mut Engine,
     definition: &Definition,
@@ -314,7 +315,7 @@ fn execute_on_signals(
     Ok(())
 }
 
-// The instructions on bindings and sources.
+// Carries out an instruction on bindings and sources.
 fn execute_on_sources(
     engine: &mut Engine,
     definition: &Definition,

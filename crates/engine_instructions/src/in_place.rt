@@ -1,4 +1,4 @@
-//! Instructions that touch registers alone, carried out where their program lies among the tasks.
+//! Instructions that touch registers alone, carried out in place, without taking their program off the stack of tasks.
 
 ghost use Rattle.std.specs.Prelude.{◌≡◌, List, None, Some, true, false, option_map, IfOk, IfSome, OnOk, OnErr, MatchOption, Ok};
 ghost use Rattle.ui_machine.specs.State.Tasks as tasks;
@@ -20,16 +20,16 @@ use frames::{Frame, compute};
 use g_values::Value;
 use std::alloc::AllocError;
 
-// What the next instruction of the first task's program is to write.
+// A write to a register that the next instruction of the first task's program makes.
 #[derive(Drop)]
 struct DueWrite<'a> {
     program: &'a Program,
     to: Register,
-    // Nothing where the register is to be unset.
+    // None if the register is to be unset.
     value: Option<Value>,
 }
 
-// The instruction that a program takes next.
+// Returns the instruction that a program takes next. At the last one of a block with passes left, that is the block's first.
 #[inline(always)]
 fn next_instruction<'a>(program: &'a Program, frame: &Frame) -> Option<&'a Instruction>
     ensures { MatchOption result (taken_in (program_view program.now) (frame_view frame.now) ≡ None)
@@ -40,7 +40,7 @@ fn next_instruction<'a>(program: &'a Program, frame: &Frame) -> Option<&'a Instr
     block.instruction(if is_again { 0 } else { frame.at })
 }
 
-// What the first task is to write, if it is a program whose next instruction touches registers alone and meets no limit.
+// Returns the write of the first task, if the task is a program whose next instruction touches registers alone and meets no limit.
 #[inline(always)]
 fn due_write<'a>(
     engine: &Engine,
@@ -78,7 +78,7 @@ fn due_write<'a>(
     }
 }
 
-// Writes it. It is a counted step.
+// Makes the write, as a counted step.
 #[inline(always)]
 fn write_due(engine: &mut Engine, definition: &Definition, due: DueWrite<'_>)
     requires due { IsToWrite definition.now engine.now (program_view due.program.now) due.to.0 (option_map value_view due.value) }
@@ -96,12 +96,12 @@ fn write_due(engine: &mut Engine, definition: &Definition, due: DueWrite<'_>)
     put_first(engine, definition, program, to, value);
 }
 
-/// Where the first task is a program whose next instruction touches registers alone, that is carried out where the program lies, as a counted step.
-/// Answers whether it was: it is not either where it meets a limit. Then nothing is done, and the task is there to be taken.
+/// Carries out the next instruction of the program that is the first task, in place and as a counted step, if the instruction touches
+/// registers alone. Returns whether it did. Where the instruction meets a limit it does nothing, and leaves the task to be taken.
 ///
 /// # Errors
 ///
-/// `AllocError` if no memory is found. Nothing is done.
+/// `AllocError` if memory is refused. Nothing is done then.
 #[inline(always)]
 pub fn compute_in_place(engine: &mut Engine, definition: &Definition) -> Result<bool, AllocError>
     requires able { FirstIsAble definition.now engine.now }

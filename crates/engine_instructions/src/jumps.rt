@@ -1,4 +1,4 @@
-//! Jumps and branches: where a program goes on.
+//! Jumps and branches, which set the block where a program goes on.
 
 ghost use Rattle.std.specs.Prelude.{◌≡◌, None, Some, OnOk, OnErr};
 ghost use Rattle.ui_machine.specs.Definition.Lookups.{program_at};
@@ -27,7 +27,7 @@ use frames::{Frame, truth_at, value_at};
 use g_values::Value;
 use std::alloc::AllocError;
 
-// Whether the text or the object in a register is null, if it has one.
+// Returns whether the text or the object in a register is null, or None if the register has neither.
 fn null_at(registers: &[Option<Value>], at: Register) -> Option<bool>
     ensures { result ≡ of_one is_null (read None (registers_of registers.now) at.0) }
 {
@@ -38,7 +38,7 @@ fn null_at(registers: &[Option<Value>], at: Register) -> Option<bool>
     }
 }
 
-/// The program goes on at a block.
+/// Makes the program go on at a block.
 pub(crate) fn jump(
     engine: &mut Engine,
     definition: &Definition,
@@ -61,7 +61,7 @@ pub(crate) fn jump(
     push_frame(engine, frame);
 }
 
-/// The program goes on at one of two blocks, by the truth value in a register.
+/// Makes the program go on at one of two blocks, by the truth value in a register.
 pub(crate) fn branch(
     engine: &mut Engine,
     definition: &Definition,
@@ -89,7 +89,7 @@ pub(crate) fn branch(
     jump(engine, definition, program, frame, else_to)
 }
 
-/// The same, by whether the text or the object in the register is null.
+/// Makes the program go on at one of two blocks, by whether the text or the object in a register is null.
 pub(crate) fn branch_null(
     engine: &mut Engine,
     definition: &Definition,

@@ -1,4 +1,4 @@
-//! Instructions: what each one does, as the machine's.
+//! The instructions of programs, each carried out as the machine does it.
 #![tactic(auto)]
 
 pub mod accumulation;

@@ -36,7 +36,7 @@ struct Matched {
     program: ProgramId,
 }
 
-// The handlers of the program of a name, on the object that a register names.
+// Returns the handlers of the program of this name on the object that a register names.
 fn matched_in(
     engine: &Engine,
     definition: &Definition,
@@ -54,7 +54,7 @@ fn matched_in(
     Matched { object, program }
 }
 
-// Disconnects them. They have no more turns in the emissions that go on.
+// Disconnects the handlers. They have no more turns in the emissions that are under way.
 fn disconnect(engine: &mut Engine, definition: &Definition, matched: Matched)
     ensures world { world_of engine.new.world ≡ disconnected (world_of engine.old.world) matched.object.0 matched.program }
     ensures agenda { agenda_of definition.now engine.new ≡ map (pruned (gone_handlers (world_of engine.new.world))) (agenda_of definition.now engine.old) }
@@ -71,7 +71,7 @@ fn disconnect(engine: &mut Engine, definition: &Definition, matched: Matched)
         .disconnect_matched(matched.object, matched.program);
 }
 
-// Blocks them once more.
+// Blocks the handlers once more.
 fn block(engine: &mut Engine, definition: &Definition, matched: Matched)
     ensures world { world_of engine.new.world ≡ with_handlers_on blocked (world_of engine.old.world) matched.object.0 matched.program }
     ensures agenda { agenda_of definition.now engine.new ≡ agenda_of definition.now engine.old }
@@ -87,7 +87,7 @@ fn block(engine: &mut Engine, definition: &Definition, matched: Matched)
         .block_matched(matched.object, matched.program);
 }
 
-// Blocks them once less.
+// Unblocks the handlers once.
 fn unblock(engine: &mut Engine, definition: &Definition, matched: Matched)
     ensures world { world_of engine.new.world ≡ with_handlers_on unblocked (world_of engine.old.world) matched.object.0 matched.program }
     ensures agenda { agenda_of definition.now engine.new ≡ agenda_of definition.now engine.old }
@@ -103,7 +103,7 @@ fn unblock(engine: &mut Engine, definition: &Definition, matched: Matched)
         .unblock_matched(matched.object, matched.program);
 }
 
-/// The handlers of a program on an object are disconnected.
+/// Disconnects the handlers of a program on an object.
 pub(crate) fn disconnect_matched(
     engine: &mut Engine,
     definition: &Definition,
@@ -127,7 +127,7 @@ pub(crate) fn disconnect_matched(
     push_frame(engine, frame);
 }
 
-/// The handlers of a program on an object are blocked once more.
+/// Blocks the handlers of a program on an object once more.
 pub(crate) fn block_matched(
     engine: &mut Engine,
     definition: &Definition,
@@ -150,7 +150,7 @@ pub(crate) fn block_matched(
     push_frame(engine, frame);
 }
 
-/// The handlers of a program on an object are blocked once less.
+/// Unblocks the handlers of a program on an object once.
 pub(crate) fn unblock_matched(
     engine: &mut Engine,
     definition: &Definition,

@@ -1,4 +1,4 @@
-//! `new`: an object of a prototype is made (GObject manual, GObject: `g_object_new`).
+//! `new`: a program makes an object of a prototype (GObject manual, GObject: `g_object_new`).
 
 ghost use Rattle.std.specs.Prelude.{◌≡◌, ◌<◌, ◌-◌, ◌&&◌, List, Some, min, length, slice_get, IfSome, OnOk, OnErr, option_map};
 ghost use Rattle.ui_machine.specs.Instructions.{in_front};
@@ -37,14 +37,14 @@ use linked_programs::Link;
 use std::alloc::AllocError;
 use ui_machine::Place;
 
-// A prototype, lent, and its place.
+// A prototype of the definition, with its place.
 #[derive(Clone, Copy)]
 struct Prototype<'a> {
     place: Place,
     entry: ObjectEntry<'a>,
 }
 
-// The prototype of an id, whose place the instruction's link says.
+// Returns the prototype of an id, if there is one. The instruction's link says at which place it is.
 fn prototype_named<'a>(definition: &'a Definition, id: &str, link: Link) -> Option<Prototype<'a>>
     requires { LinksPlace definition.now id.now link }
     ensures named { known arms.Code (option_map prototype_of result) ≡ prototype_named definition.now id.now }
@@ -64,7 +64,7 @@ fn prototype_named<'a>(definition: &'a Definition, id: &str, link: Link) -> Opti
     Some(Prototype { place, entry })
 }
 
-// How many objects of a definition are from a place on.
+// Returns how many objects of the definition there are from a place on.
 fn objects_from(definition: &Definition, place: Place) -> u32
     ensures { result ≡ object_count definition.now - place.0 }
 {
@@ -74,7 +74,7 @@ fn objects_from(definition: &Definition, place: Place) -> u32
     definition.object_count().saturating_sub(first) as u32
 }
 
-// How many objects the builder makes by a task.
+// Returns how many objects the builder makes by a task.
 fn made_by(task: &Task, definition: &Definition) -> u32
     ensures { (hs : List Handler) → result ≡ of_items is_making (task_of definition.now hs task.now) }
 {
@@ -87,7 +87,7 @@ fn made_by(task: &Task, definition: &Definition) -> u32
     }
 }
 
-// How many objects the builder has still to make, up to the greatest number that there is.
+// Returns how many objects the builder has still to make, at most `u32::MAX`.
 fn objects_to_make(engine: &Engine, definition: &Definition) -> u32
     ensures { result ≡ min (to_make (agenda_of definition.now engine.now)) u32.MAX }
 {
@@ -99,7 +99,7 @@ fn objects_to_make(engine: &Engine, definition: &Definition) -> u32
     count
 }
 
-// Whether one more object may be made, beside those that the builder has still to make: they count in number and in identities.
+// Returns whether one more object may be made. The objects that the builder has still to make count beside it, in number and in identities.
 fn has_room(engine: &Engine, definition: &Definition) -> bool
     ensures { result ≡ has_room definition.now (world_of engine.now.world) (to_make (agenda_of definition.now engine.now)) }
 {
@@ -110,14 +110,15 @@ fn has_room(engine: &Engine, definition: &Definition) -> bool
         .has_room_below(definition.limits().objects, to_come)
 }
 
-// Whether a new object may be made, for which there is this peer: there is room, and a peer, if it wants one.
+// Returns whether a new object may be made: there is room for it, and a peer if it wants one.
 fn may_create(engine: &Engine, definition: &Definition, peer: NewPeer) -> bool
     ensures { result ≡ (has_room definition.now (world_of engine.now.world) (to_make (agenda_of definition.now engine.now)) && is_there peer) }
 {
     has_room(engine, definition) && peer.is_there()
 }
 
-// A register gets a new object of the prototype at a place, which gets this peer. The rest of its construction comes before the program goes on.
+// Writes a new object of the prototype at a place, which gets this peer, to a register. The rest of its construction comes before the
+// program goes on.
 fn create_at(
     engine: &mut Engine,
     definition: &Definition,
@@ -150,8 +151,9 @@ fn create_at(
     Ok(())
 }
 
-/// A register gets a new object of the prototype of an id, with the first of its peers that is left where its class has a shape; or null where
-/// no more objects may live or no peer is left: a line says so then. The rest of the object's construction comes before the program goes on.
+/// Writes a new object of the prototype of an id to a register. If its class has a shape, the object gets the first of the prototype's
+/// peers that is left. If no more objects may live or no peer is left, the register gets null, and a line says so. The rest of the object's
+/// construction comes before the program goes on.
 pub(crate) fn create(
     engine: &mut Engine,
     definition: &Definition,

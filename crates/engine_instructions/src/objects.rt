@@ -43,7 +43,7 @@ use linked_programs::Link;
 use std::alloc::AllocError;
 use ui_machine::ObjectId;
 
-/// A register is written with the object that the builder has of an id, or with null where it has none.
+/// Writes the object that the builder holds for an id to a register, or null if it holds none.
 pub(crate) fn look_up_object(
     engine: &mut Engine,
     definition: &Definition,
@@ -71,7 +71,7 @@ pub(crate) fn look_up_object(
     write_register(engine, definition, frame, to, Some(object))
 }
 
-/// An object floats no longer.
+/// Sinks an object, which floats no longer.
 pub(crate) fn sink(engine: &mut Engine, definition: &Definition, frame: Frame, object: Register)
     requires able { Able (left engine.now.counted (in_front (agenda_of definition.now engine.now) (sinking (world_of engine.now.world) (frame_view frame) object.0))) }
     requires counted { Counts definition.now (λ o. in_frame o (frame_view frame)) engine.now }
@@ -88,7 +88,7 @@ pub(crate) fn sink(engine: &mut Engine, definition: &Definition, frame: Frame, o
     push_frame(engine, frame);
 }
 
-/// The notifications of an object wait from now on.
+/// Freezes the notifications of an object, which wait from then on.
 pub(crate) fn freeze_notify(
     engine: &mut Engine,
     definition: &Definition,
@@ -110,7 +110,7 @@ pub(crate) fn freeze_notify(
     push_frame(engine, frame);
 }
 
-/// One freeze of an object is taken off. Where it was the last one, what waited is notified before the program goes on.
+/// Takes one freeze of an object off. If it was the last one, the properties that wait are notified before the program goes on.
 pub(crate) fn thaw_notify(
     engine: &mut Engine,
     definition: &Definition,
@@ -139,7 +139,7 @@ pub(crate) fn thaw_notify(
     );
 }
 
-// An object leaves its parent, if it has one.
+// Takes an object out of its parent, and says its line. Does nothing if it has no parent.
 fn leave(engine: &mut Engine, definition: &Definition, child: ObjectId) -> Result<(), AllocError>
     ensures ok { let w = world_of engine.old.world in OnOk result (world_of engine.new.world ≡ orphaned definition.now w child.0 (parent_in (living w.objects child.0))) }
     ensures err { OnErr result (IsQuiet (world_of engine.old.world) (world_of engine.new.world)) }
@@ -156,7 +156,7 @@ fn leave(engine: &mut Engine, definition: &Definition, child: ObjectId) -> Resul
     Ok(())
 }
 
-/// An object leaves its parent, if it has one.
+/// Takes an object out of its parent, if it has one.
 pub(crate) fn orphan(
     engine: &mut Engine,
     definition: &Definition,
@@ -179,7 +179,7 @@ pub(crate) fn orphan(
     Ok(())
 }
 
-/// An object becomes another's child, or does not, by a limit's line. A register is written with whether it did.
+/// Makes an object the child of another one, or says a limit's line. Writes to a register whether the object was adopted.
 pub(crate) fn adopt_from_program(
     engine: &mut Engine,
     definition: &Definition,
@@ -205,8 +205,8 @@ pub(crate) fn adopt_from_program(
     join_objects(engine, definition, parent, child)
 }
 
-// An object that was not disposed is: it lets go what it holds, and all forget it. Its peer is closed, if it has one that is open. Its
-// handlers go, and have no more turns in the emissions that go on, and its bindings end.
+// Disposes an object that was not disposed before: it lets go what it holds, and all forget it. Its peer is closed, if it has an open one.
+// Its handlers are disconnected and have no more turns in the emissions that are under way, and its bindings end.
 fn dispose(engine: &mut Engine, definition: &Definition, object: ObjectId) -> Result<(), AllocError>
     requires able { Able (disposed definition.now (world_of engine.now.world) object.0) }
     requires live { IsSome (living engine.now.world.table.objects object.0) }
@@ -230,8 +230,8 @@ fn dispose(engine: &mut Engine, definition: &Definition, object: ObjectId) -> Re
     Ok(())
 }
 
-/// An object is disposed, unless it was before: it lets go what it holds, and all forget it. Its peer is closed, if it has one that is open.
-/// Its handlers have no more turns in the emissions that go on, and its bindings end.
+/// Disposes an object, unless it was disposed before: it lets go what it holds, and all forget it. Its peer is closed, if it has an open
+/// one. Its handlers have no more turns in the emissions that are under way, and its bindings end.
 pub(crate) fn run_dispose(
     engine: &mut Engine,
     definition: &Definition,

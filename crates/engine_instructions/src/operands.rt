@@ -1,4 +1,4 @@
-//! Operands of instructions: the objects that registers name, and the programs that go by a name.
+//! The operands of instructions: objects that registers name, and programs by their names.
 
 ghost use Rattle.std.specs.Prelude.{◌≡◌, Ok, Some, option_map};
 ghost use Rattle.ui_machine.specs.Definition.Lookups.{program_of};
@@ -19,7 +19,7 @@ use frames::{Frame, identity_at};
 use linked_programs::Link;
 use ui_machine::{ObjectId, ProgramId};
 
-/// The living object that a register names.
+/// Returns the living object that a register names.
 pub(crate) fn object_in(engine: &Engine, frame: &Frame, from: Register) -> ObjectId
     requires able { Able (operand_in (world_of engine.now.world) (frame_view frame.now) from.0) }
     ensures { operand_in (world_of engine.now.world) (frame_view frame.now) from.0 ≡ Ok result.0 }
@@ -29,7 +29,7 @@ pub(crate) fn object_in(engine: &Engine, frame: &Frame, from: Register) -> Objec
     identity_at(frame.registers.as_slice(), from)
 }
 
-/// The object that is the data, if there is one.
+/// Returns the data object that a register names, if a register is given.
 #[tactic(auto, unfolding(ui_machine::specs::Instructions::Registers::data_in))]
 pub(crate) fn data_in(engine: &Engine, frame: &Frame, with: Option<Register>) -> Option<ObjectId>
     requires able { Able (data_in (world_of engine.now.world) (frame_view frame.now) (option_map number_of with)) }
@@ -38,7 +38,7 @@ pub(crate) fn data_in(engine: &Engine, frame: &Frame, with: Option<Register>) ->
     Some(object_in(engine, frame, with?))
 }
 
-/// The number of the program of a name, which the instruction's link says.
+/// Returns the number of the program of a name, which the instruction's link says.
 pub(crate) fn program_named(definition: &Definition, name: &str, link: Link) -> ProgramId
     requires able { Able (known arms.Code (program_of definition.now name.now)) }
     requires link { LinksProgram definition.now name.now link }

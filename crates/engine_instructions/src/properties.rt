@@ -33,7 +33,7 @@ use linked_programs::Link;
 use std::alloc::AllocError;
 use ui_machine::{ObjectId, Slot};
 
-/// The value of a register that is set.
+/// Returns a copy of the value of a register, which has to be set.
 pub(crate) fn value_in(frame: &Frame, from: Register) -> Result<Value, AllocError>
     requires able { Able (value_in (frame_view frame.now) from.0) }
     ensures { IfOk result (λ value. value_in (frame_view frame.now) from.0 ≡ Ok (value_view value)) }
@@ -44,7 +44,7 @@ pub(crate) fn value_in(frame: &Frame, from: Register) -> Result<Value, AllocErro
     value.copied()
 }
 
-// The slot of an object's property by its name, which the instruction's link says.
+// Returns the slot of an object's property. The instruction's link says what the name means.
 fn slot_at(
     engine: &Engine,
     definition: &Definition,
@@ -65,7 +65,7 @@ fn slot_at(
     slot
 }
 
-// The value of an object's property, which may be read.
+// Returns a copy of the value of an object's property, which has to be readable.
 fn readable_value(
     engine: &Engine,
     definition: &Definition,
@@ -81,7 +81,7 @@ fn readable_value(
     engine.world.table.read(object, slot).copied()
 }
 
-/// A register is written with the value of an object's property.
+/// Writes the value of an object's property to a register.
 pub(crate) fn get_property(
     engine: &mut Engine,
     definition: &Definition,
@@ -109,7 +109,7 @@ pub(crate) fn get_property(
     Ok(())
 }
 
-/// An object's property is set to the value of a register, before the program goes on.
+/// Sets an object's property to the value of a register, before the program goes on.
 pub(crate) fn set_property(
     engine: &mut Engine,
     definition: &Definition,
@@ -145,7 +145,7 @@ pub(crate) fn set_property(
     Ok(())
 }
 
-// The notification of a property is raised: it waits on a frozen object, and comes first on any other.
+// Raises the notification of a property. It waits if the object is frozen, and otherwise comes before the other tasks.
 #[tactic(auto, unfolding(ui_machine::specs::Rules::Sets::raising))]
 fn raise(
     engine: &mut Engine,
@@ -171,7 +171,7 @@ fn raise(
     Ok(())
 }
 
-/// The notification of an object's property is raised before the program goes on, if the property may be read.
+/// Raises the notification of an object's property before the program goes on. Does nothing if the property is not readable.
 pub(crate) fn notify_from_program(
     engine: &mut Engine,
     definition: &Definition,

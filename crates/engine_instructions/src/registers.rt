@@ -28,7 +28,7 @@ use frames::{Frame, compute};
 use g_values::Value;
 use std::alloc::AllocError;
 
-/// A register is written, or unset, and the program goes on.
+/// Writes or unsets a register, and lets the program go on.
 #[inline(always)]
 pub(crate) fn write_register(
     engine: &mut Engine,
@@ -53,7 +53,7 @@ pub(crate) fn write_register(
     push_frame(engine, frame);
 }
 
-/// A limit was reached, of what the word says: a line says so, and a register gets a value all the same.
+/// Says the line that a limit was reached, and writes a value to a register all the same. The word names what is limited.
 pub(crate) fn write_null_and_say_limit(
     engine: &mut Engine,
     definition: &Definition,
@@ -83,7 +83,7 @@ pub(crate) fn write_null_and_say_limit(
     Ok(())
 }
 
-/// A register is written with what comes of others.
+/// Writes to a register what is computed from other registers.
 pub(crate) fn compute_register(
     engine: &mut Engine,
     definition: &Definition,

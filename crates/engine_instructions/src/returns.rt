@@ -1,4 +1,4 @@
-//! `return`: a program ends, and what it gives goes to the task below it.
+//! `return`: a program ends and gives a value to the task below it.
 
 ghost use Rattle.std.specs.Prelude.{◌≡◌, Ok, Some, option_map, IfOk, IfSome, OnOk, OnErr};
 ghost use Rattle.ui_machine.specs.Definition.Lookups.{program_at};
@@ -25,7 +25,7 @@ use frames::Frame;
 use g_values::Value;
 use std::alloc::AllocError;
 
-// The value of a register that may be left out.
+// Returns the value of a register, or None if no register is given.
 fn given_by(frame: &Frame, from: Option<Register>) -> Result<Option<Value>, AllocError>
     requires able { Able (given_by (frame_view frame.now) (option_map number_of from)) }
     ensures { IfOk result (λ given. given_by (frame_view frame.now) (option_map number_of from) ≡ Ok (option_map value_view given)) }
@@ -36,7 +36,7 @@ fn given_by(frame: &Frame, from: Option<Register>) -> Result<Option<Value>, Allo
     Ok(Some(value_in(frame, from)?))
 }
 
-/// The program ends. What its registers name is let go.
+/// Ends the program, and gives its value to the task below it. What its registers name is let go.
 pub(crate) fn return_from_program(
     engine: &mut Engine,
     definition: &Definition,

@@ -1,4 +1,4 @@
-//! `idle`, `timeout` and `remove`: the sources of the main context (GLib manual, The Main Event Loop).
+//! `idle`, `timeout` and `remove`: a program attaches or removes sources of the main context (GLib manual, The Main Event Loop).
 
 ghost use Rattle.std.specs.Prelude.{◌≡◌, OnOk, OnErr};
 ghost use Rattle.ui_machine.specs.Instructions.{in_front};
@@ -32,22 +32,22 @@ use linked_programs::Link;
 use std::alloc::AllocError;
 use ui_machine::{ObjectId, ProgramId};
 
-/// What `idle` and `timeout` say beside the register that they write. An idle has no interval.
+/// The operands of `idle` and `timeout` beside the register that they write. An idle has no interval.
 #[derive(Clone, Copy, Debug)]
 pub(crate) struct Attach<'a> {
-    /// The instruction's word, which the limit's line says.
+    /// The instruction's word, which the line of the limit says.
     pub(crate) word: &'a str,
     pub(crate) program: &'a str,
-    /// What the program's name means.
+    /// The meaning of the program's name.
     pub(crate) link: Link,
     pub(crate) priority: i32,
     pub(crate) interval: Option<u32>,
-    /// The register of the object that is the data.
+    /// The register that names the data object.
     pub(crate) with: Option<Register>,
 }
 
 impl Attach<'_> {
-    // The source that it asks for, which runs a program and has this data.
+    // Returns the source that the instruction asks for, which runs a program and has this data.
     fn source(self, program: ProgramId, arg: Option<ObjectId>) -> NewSource
         ensures attached { (w : World) → with_new_source w result ≡ with_source w (attach_of self.entry) program (id_of arg) }
         ensures arg { result.arg ≡ arg }
@@ -61,7 +61,7 @@ impl Attach<'_> {
     }
 }
 
-/// A source is attached, unless as many are attached as may be, which a line says. A register gets whether it was.
+/// Attaches a source, unless the limit of sources is reached, which a line says. Writes to a register whether it was attached.
 pub(crate) fn attach_from_program(
     engine: &mut Engine,
     definition: &Definition,
@@ -99,7 +99,7 @@ pub(crate) fn attach_from_program(
     )
 }
 
-/// Each source of a program is removed.
+/// Removes each source of a program.
 pub(crate) fn remove_from_program(
     engine: &mut Engine,
     definition: &Definition,

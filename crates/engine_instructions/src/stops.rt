@@ -23,7 +23,7 @@ use engine_world::task::Task;
 use frames::Frame;
 use std::alloc::AllocError;
 
-// The emission that runs the program stops: what is left of it is its cleanup stage, which makes no transfers.
+// Stops the emission that is the first task, if one is. Only its cleanup stage is left then, which makes no transfers.
 fn stop_emission(engine: &mut Engine)
     requires begun { AllTakeKnownHandlers engine.now.world.handlers.last engine.now.stack }
     ensures agenda { (d : machine.Definition) → agenda_of d engine.new ≡ stopped (agenda_of d engine.old) }
@@ -54,7 +54,7 @@ fn stop_emission(engine: &mut Engine)
     });
 }
 
-/// The emission that runs the program stops, and the program goes on.
+/// Stops the emission that runs the program, and lets the program go on.
 pub(crate) fn stop_from_program(engine: &mut Engine, definition: &Definition, frame: Frame)
     requires able { Able (left engine.now.counted (instruction_step definition.now (world_of engine.now.world) (agenda_of definition.now engine.now) (frame_view frame) words.stop)) }
     requires counted { Counts definition.now (λ o. in_frame o (frame_view frame)) engine.now }

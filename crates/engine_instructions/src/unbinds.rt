@@ -24,7 +24,7 @@ use engine_world::program_frames::push_frame;
 use frames::Frame;
 use linked_programs::Link;
 
-// The bindings of some numbers end.
+// Ends the bindings with these numbers.
 fn unbind_numbered(bindings: &mut Bindings, numbers: &[u64])
     ensures { bindings.new ≡ record bindings.old { bindings = without_numbers numbers.now bindings.old.bindings } }
 {
@@ -33,7 +33,7 @@ fn unbind_numbered(bindings: &mut Bindings, numbers: &[u64])
     }
 }
 
-// The bindings of a name end, which the instruction's link says.
+// Ends the bindings of a name. The instruction's link says which these are.
 fn unbind(engine: &mut Engine, definition: &Definition, name: &str, link: Link)
     requires link { LinksBindings definition.now engine.now.links name.now link }
     requires meanings { KeepsMeanings definition.now (world_of engine.now.world) }
@@ -48,7 +48,7 @@ fn unbind(engine: &mut Engine, definition: &Definition, name: &str, link: Link)
     unbind_numbered(&mut engine.world.bindings, numbers);
 }
 
-/// The binding of a name ends, if it has not ended before.
+/// Ends the binding of a name, if it has not ended before.
 pub(crate) fn unbind_from_program(
     engine: &mut Engine,
     definition: &Definition,

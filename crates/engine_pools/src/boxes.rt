@@ -1,4 +1,4 @@
-//! The boxes of a pool: how one is asked for a due call, and closed.
+//! The boxes of a pool, which are asked for due calls, and closed.
 
 ghost use Rattle.std.specs.Prelude.{◌≡◌, None, map, option_map};
 ghost use Rattle.ui_machine.specs.State.Config.{is_asked};
@@ -12,7 +12,7 @@ use engine_world::task::DueCall;
 use g_values::Value;
 use native_peers::Peers;
 
-/// Asks the peer of a due call, which is open. A fault is no value.
+/// Asks the open peer of a due call, and returns its answer. A fault gives None.
 pub(crate) fn ask<P: Peers>(pool: &mut P, call: &DueCall) -> Option<Value>
     requires asked { IsAskable (P.seen pool.now) call.now.peer call.now.method (map value_view call.now.args.items) }
     ensures asks { Asks call.now.peer
@@ -28,7 +28,7 @@ pub(crate) fn ask<P: Peers>(pool: &mut P, call: &DueCall) -> Option<Value>
     }
 }
 
-// Whether the engine knows the peer of a number to be open.
+// Returns whether the engine knows the peer with this number to be open.
 fn is_open(engine: &Engine, number: usize) -> bool
     ensures { result ≡ is_asked (world_of engine.now.world) number }
 {
@@ -38,7 +38,7 @@ fn is_open(engine: &Engine, number: usize) -> bool
     }
 }
 
-// Whether the box of a number is open, while the engine knows the peer to be closed.
+// Returns whether the box with this number is open while the engine knows its peer to be closed.
 fn is_due<P: Peers>(engine: &Engine, pool: &P, number: usize) -> bool
     ensures { result ≡ is_due (world_of engine.now.world) (P.seen pool.now) number }
 {
@@ -48,7 +48,8 @@ fn is_due<P: Peers>(engine: &Engine, pool: &P, number: usize) -> bool
     pool.is_open(number) && !is_open(engine, number)
 }
 
-/// Closes the box of the peer that a step has closed, if it has closed one: the engine has left its number, and knows it to be closed.
+/// Closes the box of the peer that a step has closed, if it has closed one. The engine has left the peer's number, and knows the peer to be
+/// closed.
 pub(crate) fn close_due<P: Peers>(engine: &mut Engine, pool: &mut P)
     ensures closed { P.seen pool.new
         ≡ closed_in (due (world_of engine.old.world) (P.seen pool.old) engine.old.closing)

@@ -1,4 +1,4 @@
-//! Due calls of open peers: the peer is asked, and the program is given what it answers.
+//! Due calls of open peers: each asks its peer, and the program is given the answer.
 
 ghost use Rattle.std.specs.Prelude.{◌≡◌, MatchOption, None, true, is_some, OnErr, OnOk, vec_capacity};
 ghost use Rattle.ui_machine.specs.State.Config.{is_asked};
@@ -26,8 +26,7 @@ use engine_world::task::{DueCall, Task};
 use native_peers::Peers;
 use std::alloc::AllocError;
 
-// Asks the open peer of a due call, and gives the program what it answers. Where no memory is found the peer has replied, and no line reports
-// it.
+// Asks the open peer of a due call, and gives the program its answer. If memory is refused the peer has replied, and no line reports it.
 fn ask_for<P: Peers>(
     engine: &mut Engine,
     definition: &Definition,
@@ -55,7 +54,7 @@ fn ask_for<P: Peers>(
     Ok(())
 }
 
-// Whether the next step asks a peer.
+// Returns whether the next step asks a peer.
 fn asks(engine: &Engine, definition: &Definition) -> bool
     requires counted { Counts definition.now nothing engine.now }
     ensures { result ≡ is_some (question definition.now (config_of definition.now engine.now)) }
@@ -68,7 +67,7 @@ fn asks(engine: &Engine, definition: &Definition) -> bool
     }
 }
 
-/// Takes the first task if it is a call of an open peer, where nothing is to be finalised.
+/// Takes the first task off if it is a call of an open peer and nothing is to be finalised.
 pub(crate) fn take_call(engine: &mut Engine, definition: &Definition) -> Option<DueCall>
     requires counted { Counts definition.now nothing engine.now }
     ensures taken { MatchOption result ((engine.new ≡ engine.old) × (question definition.now (config_of definition.now engine.old) ≡ None))
@@ -87,12 +86,12 @@ pub(crate) fn take_call(engine: &mut Engine, definition: &Definition) -> Option<
     Some(call)
 }
 
-/// Asks the open peer of a due call, gives the program what it answers, and lets the object of the call go. No run of the machine from there
-/// may be stuck.
+/// Asks the open peer of a due call, gives the program its answer, and lets the object of the call go. No run of the machine from there may
+/// be stuck.
 ///
 /// # Errors
 ///
-/// `AllocError` if no memory is found: then the peer has replied, and no line reports it.
+/// `AllocError` if memory is refused. The peer has replied then, and no line reports it.
 pub(crate) fn answer_call<P: Peers>(
     engine: &mut Engine,
     definition: &Definition,

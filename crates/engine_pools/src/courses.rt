@@ -1,4 +1,4 @@
-//! Events that are gone on with for so many steps at a time.
+//! Events that are carried out a number of steps at a time.
 
 ghost use Rattle.std.specs.Prelude.{◌≡◌, ◌≤◌, ◌+◌, ◌*◌, ℕ, List, option_map, ◌<◌, vec_capacity};
 ghost use Rattle.ui_machine.specs.Prefix.{IsPrefix};
@@ -32,27 +32,27 @@ use main_context::{Batch, Due};
 use native_peers::Peers;
 use std::alloc::AllocError;
 
-/// An event that has begun and not ended: it is in one of its dispatches.
+/// An event that has begun and not ended. It is in one of its dispatches.
 #[derive(Drop)]
 pub struct Course {
-    /// The sources of its turn whose dispatches have not begun; none of a request.
+    /// The sources of its turn whose dispatches have not begun, or None for a request.
     pub left: Option<Batch>,
-    /// What the dispatches before this one led to.
+    /// What the dispatches before the present one led to.
     pub so_far: Reply,
     /// The kind of the value that the event asks for, if it asks for one.
     pub asked: Option<Kind>,
 }
 
-/// How far an event has come.
+/// The progress of an event.
 #[derive(Drop)]
 pub enum Progress {
-    /// It goes on.
+    /// The event goes on.
     UnderWay(Course),
-    /// It has ended, and led to this.
+    /// The event has ended, and led to this.
     Ended(Reply),
 }
 
-// The source whose turn is next, if there is one.
+// Takes the source whose turn is next, if there is one.
 fn next_due(engine: &Engine, left: &mut Option<Batch>) -> Option<Due>
     ensures given { result ≡ option_map due_of (next_source (world_of engine.now.world).sources (sources_left left.old)) }
     ensures left { sources_left left.new ≡ numbers_after (world_of engine.now.world).sources (sources_left left.old) }
@@ -63,7 +63,7 @@ fn next_due(engine: &Engine, left: &mut Option<Batch>) -> Option<Due>
     }
 }
 
-/// Begins the dispatch of the source whose turn is next. Where there is none the event has ended.
+/// Begins the dispatch of the source whose turn is next. If there is none the event has ended.
 pub fn begin_next(engine: &mut Engine, definition: &Definition, course: Course) -> Progress
     requires rests { IsAtRest definition.now engine.now }
     requires room { 0 < vec_capacity engine.now.stack.tasks }
@@ -91,12 +91,12 @@ pub fn begin_next(engine: &mut Engine, definition: &Definition, course: Course) 
     })
 }
 
-/// Goes on with an event for at most so many counted steps: where it does not end, just so many were made. The dispatch of a source begins
-/// where the one before it has ended.
+/// Goes on with an event for at most `most` counted steps. If the event does not end, exactly so many were made. The dispatch of a source
+/// begins where the one before it has ended.
 ///
 /// # Errors
 ///
-/// `AllocError` if no memory is found: the transcript is as far as the event came.
+/// `AllocError` if memory is refused. The transcript is then as far as the event came.
 pub fn advance<P: Peers>(
     engine: &mut Engine,
     definition: &Definition,
@@ -122,7 +122,7 @@ pub fn advance<P: Peers>(
     ensures made { IfUnderWay result (λ next. next.so_far.steps + engine.new.counted ≡ course.so_far.steps + engine.old.counted + most) }
     ensures most { IfEnded result (λ reply. reply.steps ≤ course.so_far.steps + engine.old.counted + most) }
     ensures asked { IfUnderWay result (λ next. next.asked ≡ course.asked) }
-    // An object that it asks for is known by the type that it asks for.
+    // An object in the reply is known by the type that the event asks for.
     ensures kind { IfEnded result (λ reply. IsAnswerTo (option_map kind_view course.asked) reply.result) }
     ensures same { SameRelations (P.relations pool.old) (P.relations pool.new) }
     ensures grows { IsPrefix (world_of engine.old.world).transcript (world_of engine.new.world).transcript }
@@ -144,7 +144,7 @@ pub fn advance<P: Peers>(
 }
 
 impl Course {
-    // What is left once the dispatch has ended.
+    // Returns what is left of the event after a dispatch that led to `one`.
     fn after(self, one: Reply) -> Course
         requires few { self.so_far.dispatches + 1 ≤ 256 }
         requires steps { self.so_far.steps + one.steps ≤ 256 * most_steps }

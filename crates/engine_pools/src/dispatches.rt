@@ -29,19 +29,19 @@ use g_values::{Kind, Value};
 use native_peers::Peers;
 use std::alloc::AllocError;
 
-/// What a dispatch led to.
+/// What one dispatch or more led to.
 #[derive(Drop)]
 pub struct Reply {
-    /// The value that the event gave, where it gave one. An object is known by the type that the property or the signal declares.
+    /// The value that the event gave, if it gave one. An object is known by the type that the property or the signal declares.
     pub result: Option<Value>,
-    /// How many lines `end` were said.
+    /// The number of lines `end` that were said.
     pub dispatches: u32,
-    /// The counted steps.
+    /// The number of counted steps.
     pub steps: u64,
 }
 
 impl Reply {
-    /// What no dispatch has led to.
+    /// Returns the reply before any dispatch.
     pub fn none() -> Reply
         ensures { result ≡ nothing_yet }
     {
@@ -53,7 +53,7 @@ impl Reply {
     }
 }
 
-/// Begins a dispatch: the task is all there is to do, and nothing is counted yet.
+/// Begins a dispatch: the task is all there is to do, nothing is counted yet, and there is no result yet.
 pub fn begin_dispatch(engine: &mut Engine, definition: &Definition, task: Task)
     requires idle { agenda_of definition.now engine.now ≡ [] }
     requires plain { HoldsNothing task }
@@ -75,7 +75,7 @@ pub fn begin_dispatch(engine: &mut Engine, definition: &Definition, task: Task)
 ///
 /// # Errors
 ///
-/// `AllocError` if no memory is found: the transcript is as far as the dispatch came.
+/// `AllocError` if memory is refused. The transcript is then as far as the dispatch came.
 pub fn dispatch<P: Peers>(
     engine: &mut Engine,
     definition: &Definition,
@@ -102,11 +102,12 @@ pub fn dispatch<P: Peers>(
     end_dispatch(engine, definition, None)
 }
 
-/// Says the line of a dispatch's end, and answers what it led to. The value that it gave is asked for by this kind.
+/// Says the line of a dispatch's end, and returns what the dispatch led to. An object that it gave is known by the type of the kind
+/// `asked`.
 ///
 /// # Errors
 ///
-/// `AllocError` if no memory is found.
+/// `AllocError` if memory is refused.
 pub(crate) fn end_dispatch(
     engine: &mut Engine,
     definition: &Definition,
@@ -130,7 +131,7 @@ pub(crate) fn end_dispatch(
     })
 }
 
-// The same value, where it is asked for by this kind.
+// Returns the value as it is, but an object by the type of the kind that is asked for.
 fn known_by(asked: Kind, value: Value) -> Value
     ensures value { value_view result ≡ value_view value }
     ensures kind { IsKnownBy (Some (kind_view asked)) result }
@@ -141,7 +142,7 @@ fn known_by(asked: Kind, value: Value) -> Value
     }
 }
 
-// The same value once more, if there is one, where it is asked for by this kind.
+// Returns a copy of a value, if there is one, with an object by the type of the kind that is asked for.
 fn copied(value: &Option<Value>, asked: Option<Kind>) -> Result<Option<Value>, AllocError>
     ensures value { IfOk result (λ copy. option_map value_view copy ≡ option_map value_view value.now) }
     ensures kind { IfOk result (λ copy. IsAnswerTo (option_map kind_view asked) copy) }

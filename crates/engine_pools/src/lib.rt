@@ -1,8 +1,8 @@
-//! An engine beside a pool of boxes: how the machine follows both, and how a box is asked and closed.
+//! An engine beside a pool of boxed peers: its steps, dispatches and events, in which boxes are asked and closed.
 //!
-//! The engine knows of each peer its name, its methods, whether it is open, and which object has got it; what the peer counts and keeps is the
-//! box's alone. So the engine's steps are the machine's over peers where all that is forgotten, and by the law of forgetting they are the
-//! machine's over the boxes.
+//! The engine knows of each peer its name, its methods, whether it is open, and which object has got it. What the peer counts and keeps is
+//! known to its box alone. So the engine's steps are those of the machine over peers where all that is forgotten, and by the law of
+//! forgetting they are steps of the machine over the boxes.
 #![tactic(auto)]
 
 mod boxes;

@@ -1,4 +1,4 @@
-//! Programs: how one takes its next instruction.
+//! The step in which a program takes its next instruction.
 
 ghost use Rattle.std.specs.Prelude.{OnOk, OnErr};
 ghost use Rattle.ui_machine.specs.Definition.Lookups.{program_at};
@@ -22,11 +22,11 @@ use engine_world::engine::Engine;
 use frames::Frame;
 use std::alloc::AllocError;
 
-/// A program takes its next instruction. It is a counted step. The machine is not stuck there.
+/// Takes the next instruction of a program, as a counted step. The machine must not be stuck there.
 ///
 /// # Errors
 ///
-/// `AllocError` if no memory is found.
+/// `AllocError` if memory is refused.
 pub(crate) fn run_program(
     engine: &mut Engine,
     definition: &Definition,

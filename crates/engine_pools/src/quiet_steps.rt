@@ -20,7 +20,7 @@ use engine_world::engine::{Engine, StepKind};
 use engine_world::references::let_go_any;
 use std::alloc::AllocError;
 
-// What has floated longest, if something floats, floats no longer, where nothing else is left to do.
+// Sinks the object that has floated longest, if one floats. Nothing else is left to do.
 fn sink_first_floating(engine: &mut Engine, definition: &Definition) -> StepKind
     requires none { NoneUnheld definition.now (config_of definition.now engine.now) }
     requires idle { agenda_of definition.now engine.now ≡ [] }
@@ -40,7 +40,8 @@ fn sink_first_floating(engine: &mut Engine, definition: &Definition) -> StepKind
     StepKind::Uncounted
 }
 
-// Takes the first task, which asks no peer, and makes its step, or else that of what floats, where nothing is to be finalised.
+// Takes the first task off and makes its step, or sinks what floats if there is no task. The task asks no peer, and nothing is to be
+// finalised.
 fn take_first_task(engine: &mut Engine, definition: &Definition) -> Result<StepKind, AllocError>
     requires safe { IsSafeView definition.now (vec_capacity engine.now.stack.tasks) (config_of definition.now engine.now) }
     requires none { NoneUnheld definition.now (config_of definition.now engine.now) }
@@ -63,8 +64,8 @@ fn take_first_task(engine: &mut Engine, definition: &Definition) -> Result<StepK
     Ok(made)
 }
 
-// Makes the step of the first task, which asks no peer, or else of what floats, where nothing is to be finalised. A program's computation is made
-// where the program lies.
+// Makes the step of the first task, or sinks what floats if there is no task. The task asks no peer, and nothing is to be finalised. A
+// program's computation is made in place, without taking the program off.
 fn first_task(engine: &mut Engine, definition: &Definition) -> Result<StepKind, AllocError>
     requires safe { IsSafeView definition.now (vec_capacity engine.now.stack.tasks) (config_of definition.now engine.now) }
     requires none { NoneUnheld definition.now (config_of definition.now engine.now) }
@@ -82,12 +83,12 @@ fn first_task(engine: &mut Engine, definition: &Definition) -> Result<StepKind, 
     take_first_task(engine, definition)
 }
 
-/// Makes a step in which no peer is asked, if there is one to make: what nothing holds is finalised first, then comes the first task, and at
-/// last what floats. No run of the machine from there may be stuck.
+/// Makes a step in which no peer is asked, if there is one to make. It finalises what nothing holds first, then takes the first task, and
+/// at last sinks what floats. No run of the machine from there may be stuck.
 ///
 /// # Errors
 ///
-/// `AllocError` if no memory is found: nothing was said.
+/// `AllocError` if memory is refused. Nothing was said then.
 pub(crate) fn step_quietly(
     engine: &mut Engine,
     definition: &Definition,

@@ -20,7 +20,8 @@ use engine_world::engine::{Engine, StepKind};
 use native_peers::Peers;
 use std::alloc::AllocError;
 
-// Makes a step, if there is one to make. A call of an open peer asks it; the box of a peer that a step has closed is closed with it.
+// Makes a step, if there is one to make. A call of an open peer asks the peer, and the box of a peer that a step has closed is closed as
+// well.
 fn step<P: Peers>(
     engine: &mut Engine,
     definition: &Definition,
@@ -46,7 +47,7 @@ fn step<P: Peers>(
     Ok(made)
 }
 
-// Makes steps until a counted one is made or none is left, and answers whether one was made.
+// Makes steps until a counted one is made or none is left, and returns whether a counted one was made.
 fn advance<P: Peers>(
     engine: &mut Engine,
     definition: &Definition,
@@ -75,7 +76,7 @@ fn advance<P: Peers>(
 ///
 /// # Errors
 ///
-/// `AllocError` if no memory is found.
+/// `AllocError` if memory is refused.
 pub(crate) fn run<P: Peers>(
     engine: &mut Engine,
     definition: &Definition,
@@ -98,12 +99,12 @@ pub(crate) fn run<P: Peers>(
     }
 }
 
-/// Makes at most so many counted steps. Where none is left to make before that, answers how many more it would have made. No run of the
-/// machine from there may be stuck.
+/// Makes at most `most` counted steps. If none is left to make before that, returns how many more it would have made, and otherwise None.
+/// No run of the machine from there may be stuck.
 ///
 /// # Errors
 ///
-/// `AllocError` if no memory is found.
+/// `AllocError` if memory is refused.
 pub(crate) fn run_for<P: Peers>(
     engine: &mut Engine,
     definition: &Definition,

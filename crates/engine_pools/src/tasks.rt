@@ -1,4 +1,4 @@
-//! What each task does, as the machine's.
+//! The step of each task, as the machine makes it.
 
 ghost use Rattle.std.specs.Prelude.{◌+◌, ◌≤◌, ◌∷◌, length, OnOk, OnErr, IfOk};
 ghost use Rattle.ui_machine.specs.Rules.Build.{to_connect, to_make};
@@ -36,12 +36,12 @@ use engine_world::references::never_full;
 use engine_world::task::Task;
 use std::alloc::AllocError;
 
-/// Does what a task says, and answers whether that was counted. An emission passes over handlers that are blocked, and bindings that set or
-/// have ended. The machine is not stuck there: a call is of a peer that is closed.
+/// Carries out a task, and returns whether that was a counted step. An emission passes over handlers that are blocked, and bindings that
+/// set or have ended. The machine must not be stuck there, and a call has to be of a peer that is closed.
 ///
 /// # Errors
 ///
-/// `AllocError` if no memory is found.
+/// `AllocError` if memory is refused.
 pub(crate) fn act(
     engine: &mut Engine,
     definition: &Definition,

@@ -13,11 +13,12 @@ use engine_world::engine::Engine;
 use engine_world::lines::Line;
 use main_context::{Batch, TurnError};
 
-/// Begins a turn at a moment: takes the sources that are to run, and says its line.
+/// Begins a turn at a moment, says its line, and returns the sources that are to run.
 ///
 /// # Errors
 ///
-/// `ClockBack` if the moment is before the latest one: nothing has changed. `OutOfMemory` after that.
+/// Returns `ClockBack` if the moment is before the latest one, and changes nothing then. After that test, `OutOfMemory` if memory is
+/// refused.
 pub fn begin_turn(
     engine: &mut Engine,
     definition: &Definition,

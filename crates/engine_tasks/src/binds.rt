@@ -1,4 +1,4 @@
-//! The bindings of the definition: they are made once all objects are there (GTK manual, GtkBuilder: the attribute `bind-source`).
+//! The bindings of the definition, which are made once all objects are there (GTK manual, GtkBuilder: the attribute `bind-source`).
 
 ghost use Rattle.std.specs.Prelude.{◌≡◌, ◌<◌, ◌≤◌, ◌+◌, ◌||◌, ◌++◌, ℕ, Ok, false, option_map, string_bytes, IfOk, OnOk, OnErr};
 ghost use Rattle.ui_machine.specs.Definition as machine;
@@ -33,14 +33,14 @@ use instance_tables::Table;
 use std::alloc::{AllocError, Global};
 use ui_machine::ObjectId;
 
-/// The objects that a binding is between.
+/// The two objects of a binding.
 #[derive(Clone, Copy, Debug)]
 struct Ends {
     source: ObjectId,
     target: ObjectId,
 }
 
-// The objects that the builder has for a binding of the definition.
+// Returns the objects that the builder holds for a binding of the definition.
 fn ends_of(engine: &Engine, bind: &Bind) -> Ends
     requires able { Able (ends_at (world_of engine.now.world) (bind_view bind.now)) }
     ensures { ends_at (world_of engine.now.world) (bind_view bind.now) ≡ Ok (ends_of result) }
@@ -50,14 +50,14 @@ fn ends_of(engine: &Engine, bind: &Bind) -> Ends
     Ends { source, target }
 }
 
-// Whether one of them is disposed.
+// Returns whether one of the two objects is disposed.
 fn is_any_disposed(table: &Table, ends: Ends) -> bool
     ensures { result ≡ (is_disposed (living table.now.objects ends.source.0) || is_disposed (living table.now.objects ends.target.0)) }
 {
     table.is_disposed(ends.source) || table.is_disposed(ends.target)
 }
 
-// A name once more, if there is one.
+// Returns a copy of a name, if there is one.
 fn copied_name(alloc: Global, name: &Option<String>) -> Result<Option<String>, AllocError>
     ensures { IfOk result (λ copy. option_map (λ text. string_bytes text) copy ≡ option_map (λ text. string_bytes text) name.now) }
 {
@@ -68,7 +68,7 @@ fn copied_name(alloc: Global, name: &Option<String>) -> Result<Option<String>, A
     Ok(Some(copy))
 }
 
-// What is bound by a binding of the definition, between these objects.
+// Returns the binding that the definition describes, between these objects.
 fn new_binding(alloc: Global, bind: &Bind, ends: Ends) -> Result<Binding, AllocError>
     ensures { IfOk result (λ b. (number : ℕ) → binding_of number false b ≡ new_binding number (bind_view bind.now) ends.source.0 ends.target.0) }
 {
@@ -83,7 +83,7 @@ fn new_binding(alloc: Global, bind: &Bind, ends: Ends) -> Result<Binding, AllocE
     })
 }
 
-// With SYNC_CREATE the binding is to set its target at once.
+// Makes the binding set its target at once, if it has SYNC_CREATE.
 fn push_first_transfer(engine: &mut Engine, number: usize, bind: &Bind)
     requires room { HasRoom 1 engine.now }
     ensures agenda { (d : machine.Definition) → agenda_of d engine.new ≡ first_transfer number (bind_view bind.now) ++ agenda_of d engine.old }
@@ -104,7 +104,7 @@ fn push_first_transfer(engine: &mut Engine, number: usize, bind: &Bind)
     );
 }
 
-// A binding of the definition is made, under its number there.
+// Makes a binding of the definition, under its number there.
 fn bind(
     engine: &mut Engine,
     definition: &Definition,
@@ -129,12 +129,12 @@ fn bind(
     }
 }
 
-/// The next binding of the definition is made, unless one of its objects is disposed, or the first signal is connected where none is left.
-/// Numbers have to be left for the handlers of all signals.
+/// Makes the next binding of the definition, unless one of its objects is disposed, or connects the first signal if no binding is left.
+/// Handler numbers have to be left for all signals.
 ///
 /// # Errors
 ///
-/// `AllocError` if no memory is found.
+/// `AllocError` if memory is refused.
 #[tactic(auto, unfolding(ui_machine::specs::Rules::Build::building_binding))]
 pub fn bind_from_build(
     engine: &mut Engine,

@@ -1,4 +1,4 @@
-//! The build: how objects are made one after the other, and how their construction goes on and ends.
+//! The build, which makes the objects one after the other, and the steps and the end of their construction.
 
 ghost use Rattle.std.specs.Prelude.{◌≡◌, ◌<◌, ◌≤◌, ◌+◌, List, true, ℕ, Some, [], ◌∷◌, IfSome, OnOk, OnErr, length, IsSome};
 ghost use Rattle.ui_machine.specs.Definition.Values as machine_values;
@@ -38,7 +38,7 @@ use g_values::Value;
 use std::alloc::AllocError;
 use ui_machine::{ObjectId, Place, ProgramId, Slot};
 
-// The builder holds an object that it has made, which no longer floats.
+// Makes the builder hold an object that it has made. The object floats no longer.
 #[tactic(auto, unfolding(ui_machine::specs::Rules::Construction::constructed))]
 fn hold_made(
     engine: &mut Engine,
@@ -68,7 +68,7 @@ fn hold_made(
     Ok(())
 }
 
-// A construction ends: what the builder made is held by it from now on.
+// Ends a construction. If `held`, the builder holds the object from then on.
 #[tactic(auto, unfolding(ui_machine::specs::Rules::Construction::constructed))]
 fn end_construction(
     engine: &mut Engine,
@@ -91,7 +91,7 @@ fn end_construction(
     Ok(())
 }
 
-// The thaw that ends a construction.
+// Thaws an object at the end of its construction. The notifications that waited come before the rest of the construction.
 #[tactic(auto, unfolding(ui_machine::specs::Rules::Construction::thawing_made))]
 fn thaw_constructed(
     engine: &mut Engine,
@@ -128,7 +128,7 @@ fn thaw_constructed(
     );
 }
 
-// A set of a construction.
+// Sets a property as a step of a construction, before the rest of the construction.
 #[tactic(auto, unfolding(ui_machine::specs::Rules::Construction::apply_construct_property))]
 fn apply_construct_property(
     engine: &mut Engine,
@@ -168,7 +168,7 @@ fn apply_construct_property(
     );
 }
 
-// A program of a construction begins, which is given the object alone.
+// Begins a program as a step of a construction. The program is given the object alone.
 fn run_constructed(
     engine: &mut Engine,
     definition: &Definition,
@@ -201,11 +201,11 @@ fn run_constructed(
     begin_program(engine, definition, program, registers)
 }
 
-/// The next step of a construction.
+/// Takes the next step of a construction, or ends the construction if no step is left.
 ///
 /// # Errors
 ///
-/// `AllocError` if no memory is found.
+/// `AllocError` if memory is refused.
 pub fn construct(
     engine: &mut Engine,
     definition: &Definition,
@@ -245,7 +245,7 @@ pub fn construct(
     }
 }
 
-// An object of the build is made, and gets this peer. The builder holds it at the end of its construction.
+// Makes an object of the build, which gets this peer. The builder holds it at the end of its construction.
 fn make_from_build(
     engine: &mut Engine,
     definition: &Definition,
@@ -269,11 +269,11 @@ fn make_from_build(
     Ok(())
 }
 
-/// The next object of the build, with the peer that it has for its own, or the next forward reference where all objects are made.
+/// Makes the next object of the build, with the peer that it has for its own, or sets the next forward reference if all objects are made.
 ///
 /// # Errors
 ///
-/// `AllocError` if no memory is found.
+/// `AllocError` if memory is refused.
 #[tactic(auto, unfolding(ui_machine::specs::Rules::Build::building_object))]
 pub fn build(
     engine: &mut Engine,
@@ -305,7 +305,7 @@ pub fn build(
     make_from_build(engine, definition, place, peer)
 }
 
-// What the build does behind the making of an object: the object becomes its parent's child, if it is one, and then the next place comes.
+// Returns the task that follows the making of an object: the object is adopted by its parent, if it has one, and then the next place comes.
 fn behind(definition: &Definition, place: Place, forwards: ForwardReferences) -> Task
     requires within { place.0 < object_count definition.now }
     ensures task { (hs : List Handler) → task_of definition.now hs result ≡ Building (build_behind definition.now place.0 forwards) }

@@ -1,4 +1,4 @@
-//! Calls of peers: what is asked of one that is open, and what comes of its answer. A peer that is closed is not called.
+//! The calls of peers: the question to a peer that is open, and the conclusion from its answer. A peer that is closed is not called.
 
 ghost use Rattle.std.specs.Prelude.{◌≡◌, List, None, Ok, Option, Some, IfOk, IfSome, OnErr, OnOk, false, option_map, string_bytes};
 ghost use Rattle.ui_machine.specs.Definition as machine;
@@ -32,7 +32,7 @@ use g_values::{Value, zero_of};
 use peer_shapes::MethodRef;
 use std::alloc::AllocError;
 
-/// What is asked of an open peer: a method of its shape, by number, with arguments.
+/// A question to an open peer: a method of its shape, by number, with arguments.
 #[derive(Clone, Copy)]
 pub struct PeerQuestion<'a> {
     pub peer: usize,
@@ -40,14 +40,14 @@ pub struct PeerQuestion<'a> {
     pub args: &'a [Value],
 }
 
-/// What a call comes to: the line that reports it, and the value that the program is given.
+/// The conclusion of a call: the line that reports it, and the value that is given to the program.
 #[derive(Drop)]
 pub struct Conclusion {
     line: String,
     value: Value,
 }
 
-/// Whether the peer of a number is there and open, so that it is asked.
+/// Returns whether there is a peer with this number and it is open, so that it is asked.
 pub fn is_asked(engine: &Engine, peer: usize) -> bool
     ensures { result ≡ is_asked (world_of engine.now.world) peer }
 {
@@ -57,7 +57,7 @@ pub fn is_asked(engine: &Engine, peer: usize) -> bool
     }
 }
 
-/// What the first task asks of a peer, if it asks one.
+/// Returns the question that the first task asks a peer, if it asks one.
 pub fn question(engine: &Engine) -> Option<PeerQuestion<'_>>
     ensures { (d : machine.Definition) → option_map (question_view (world_of engine.now.world)) result
         ≡ asked_first (world_of engine.now.world) (agenda_of d engine.now) }
@@ -78,14 +78,14 @@ pub fn question(engine: &Engine) -> Option<PeerQuestion<'_>>
     })
 }
 
-// A method of a peer, under the peer's name.
+// A method of a peer, with the peer's name.
 #[derive(Clone, Copy)]
 struct NamedMethod<'a> {
     peer: &'a str,
     method: MethodRef<'a>,
 }
 
-// The method that a call asks for. Its kinds are known whatever the types are.
+// Returns the method that a call asks for, if there are the peer and the method. Its kinds are known whatever the types are.
 fn method_called<'a>(engine: &'a Engine, call: &DueCall) -> Option<NamedMethod<'a>>
     ensures named { known arms.Call (option_map named_view result) ≡ method_called (world_of engine.now.world) (call_of call.now) }
     ensures known { (types : List GType) → IfSome result (λ called. HasKnownKinds types called.method) }
@@ -102,7 +102,8 @@ fn method_called<'a>(engine: &'a Engine, call: &DueCall) -> Option<NamedMethod<'
     })
 }
 
-// What a call comes to as its peer answers, or faults: after a fault the program is given the zero value.
+// Returns the conclusion of a call whose peer has answered, or has faulted if there is no answer. After a fault the program is given the
+// zero value.
 fn answered<'a>(
     engine: &'a Engine,
     definition: &Definition,
@@ -140,7 +141,7 @@ fn answered<'a>(
     }
 }
 
-// What a call comes to as its peer is closed: the program is given the zero value.
+// Returns the conclusion of a call whose peer is closed. The program is given the zero value.
 fn unanswered<'a>(
     engine: &'a Engine,
     definition: &Definition,
@@ -163,7 +164,7 @@ fn unanswered<'a>(
     Ok(Conclusion { line, value })
 }
 
-// A call is done: its line is said, the program is given the value, and the arguments are let go.
+// Ends a call: gives the value to the program, says the line, and lets the arguments go.
 fn conclude(
     engine: &mut Engine,
     definition: &Definition,
@@ -189,12 +190,12 @@ fn conclude(
     Ok(())
 }
 
-/// A peer that was asked has answered, or has faulted where there is no value: a line reports it, and the program that called is given the
-/// value. Where the peer is closed it has not been asked, and the program is given the zero value.
+/// Carries on after a peer was asked, which has answered, or has faulted if there is no value. A line reports it, and the value is given to
+/// the program that called. If the peer is closed it was not asked, and the program is given the zero value.
 ///
 /// # Errors
 ///
-/// `AllocError` if no memory is found.
+/// `AllocError` if memory is refused.
 pub fn answer(
     engine: &mut Engine,
     definition: &Definition,
@@ -221,11 +222,11 @@ pub fn answer(
     conclude(engine, definition, call, conclusion)
 }
 
-/// A call is due, and its peer has not been asked: where it is closed a line says so, and the program is given the zero value.
+/// Ends a call whose peer was not asked, since it is closed. A line says so, and the program is given the zero value.
 ///
 /// # Errors
 ///
-/// `AllocError` if no memory is found.
+/// `AllocError` if memory is refused.
 pub fn pass_over(
     engine: &mut Engine,
     definition: &Definition,

@@ -1,4 +1,4 @@
-//! Children: an object that the build has made becomes its parent's child.
+//! The adoption of objects by their parents as the build makes them.
 
 ghost use Rattle.std.specs.Prelude.{◌≡◌, Ok, suc, OnOk, OnErr};
 ghost use Rattle.ui_machine.specs.Steps.{uncounted};
@@ -22,7 +22,7 @@ use engine_world::task::{ForwardReferences, Task};
 use std::alloc::AllocError;
 use ui_machine::Place;
 
-// What the builder holds of a place and of its parent's.
+// Returns the objects that the builder holds at a place and at the place of its parent.
 fn kin_at(engine: &Engine, definition: &Definition, place: Place) -> Kin
     requires able { Able (kin_at definition.now (world_of engine.now.world) place.0) }
     ensures { kin_at definition.now (world_of engine.now.world) place.0 ≡ Ok (kin_of result) }
@@ -38,11 +38,11 @@ fn kin_at(engine: &Engine, definition: &Definition, place: Place) -> Kin
     Kin { parent, child }
 }
 
-/// The object at a place becomes its parent's child, and then the build goes on behind it.
+/// Makes the object at a place the child of its parent, and then goes on with the build behind it.
 ///
 /// # Errors
 ///
-/// `AllocError` if no memory is found.
+/// `AllocError` if memory is refused.
 pub fn adopt_from_build(
     engine: &mut Engine,
     definition: &Definition,

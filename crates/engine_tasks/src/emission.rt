@@ -1,4 +1,4 @@
-//! Emissions: how one begins, takes its turns and ends (GObject manual, Signals: `g_signal_emit`).
+//! Emissions: their beginning, their turns and their end (GObject manual, Signals: `g_signal_emit`).
 
 ghost use Rattle.std.specs.Prelude.{◌≡◌, ◌≤◌, ◌+◌, ◌∷◌, [], ℕ, None, map, option_map, string_bytes, true, IfSome, IfOk, MatchOption, OnOk, OnErr};
 ghost use Rattle.ui_machine.specs.Definition as machine;
@@ -49,7 +49,8 @@ use std::alloc::{AllocError, Global};
 use type_tree::TypeTree;
 use ui_machine::ObjectId;
 
-// What an emission results in: the value that it has accumulated, or else the zero value of the kind.
+// Returns the result of an emission: the value that it has accumulated, or else the zero value of the kind. Without a kind there is no
+// result.
 fn result_of(definition: &Definition, kind: Option<Kind>, value: Option<Value>) -> Option<Value>
     requires known { IfSome (option_map kind_view kind) (IsKnownKind definition.now.types) }
     ensures { option_map value_view result ≡ result_of definition.now (option_map kind_view kind) (option_map value_view value) }
@@ -61,7 +62,7 @@ fn result_of(definition: &Definition, kind: Option<Kind>, value: Option<Value>) 
     }
 }
 
-// The next transfer that comes before all turns that are left. What is left has none where there is none.
+// Takes the next transfer that comes before all turns that are left. If it returns None, none is left that comes before them.
 fn next_transfer(bindings: &Bindings, transfers: &mut Transfers) -> Option<DueTransfer>
     ensures next { MatchOption result
         ((from_ready bindings.now.bindings (due_now transfers.old) ≡ []) × (due_now transfers.new ≡ []))
@@ -74,7 +75,7 @@ fn next_transfer(bindings: &Bindings, transfers: &mut Transfers) -> Option<DueTr
     }
 }
 
-// The bindings have their turn: their transfers come before all other turns.
+// Gives the bindings their turn: their transfers come before all other turns.
 fn begin_transfers(transfers: Transfers) -> Transfers
     requires { due_now transfers ≡ [] }
     ensures { result ≡ at.Due (due_later transfers) }
@@ -85,7 +86,7 @@ fn begin_transfers(transfers: Transfers) -> Transfers
     }
 }
 
-// The line with which an emission of a signal begins.
+// Returns the line with which an emission of a signal begins.
 fn emission_line(
     alloc: Global,
     types: &TypeTree,
@@ -106,7 +107,7 @@ fn emission_line(
     told.text(alloc, types)
 }
 
-// Puts the rest of an emission before the other tasks. It goes on to hold what it was given, and holds its object from then on.
+// Puts the rest of an emission before the other tasks. What the emission was given stays held, and its object is held from then on.
 fn push_rest(
     engine: &mut Engine,
     cursor: Cursor,
@@ -138,7 +139,7 @@ fn push_rest(
     });
 }
 
-/// An emission begins that is counted already, with the transfers that it is to make. Its line is said, and what is connected later has no
+/// Begins an emission that is counted already, with the transfers that it is to make, and says its line. What is connected later has no
 /// turn in it.
 pub(crate) fn start_emission(
     engine: &mut Engine,
@@ -167,11 +168,11 @@ pub(crate) fn start_emission(
     Ok(())
 }
 
-/// An emission that is due begins. It is counted and reported. Its arguments fit the signal.
+/// Begins an emission that is due, as a counted step, and says its line. Its arguments have to fit the signal.
 ///
 /// # Errors
 ///
-/// `AllocError` if no memory is found.
+/// `AllocError` if memory is refused.
 #[tactic(auto, unfolding(ui_machine::specs::Rules::EmissionPlan::beginning_emission))]
 pub fn begin_emission(
     engine: &mut Engine,
@@ -215,7 +216,7 @@ pub fn begin_emission(
     Ok(())
 }
 
-// An event reports its emission's result, if there is one.
+// Says the result of an event's emission, if there is one, and keeps it as the result of the event.
 fn say_result(
     engine: &mut Engine,
     definition: &Definition,
@@ -236,7 +237,7 @@ fn say_result(
     Ok(())
 }
 
-// The same of an emission that may not be an event's.
+// Says the result like `say_result`, if the emission is an event's.
 fn say_result_if(
     engine: &mut Engine,
     definition: &Definition,
@@ -255,7 +256,7 @@ fn say_result_if(
     say_result(engine, definition, value)
 }
 
-// Gives back the list of an object's emission in which its transfers were.
+// Gives back the list in which the transfers of an object's emission were.
 fn give_back_list(engine: &mut Engine, object: ObjectId, transfers: Transfers)
     ensures { engine.new ≡ engine.old }
 {
@@ -263,7 +264,7 @@ fn give_back_list(engine: &mut Engine, object: ObjectId, transfers: Transfers)
     engine.world.bindings.give_back(object, due);
 }
 
-// An emission ends. A program that waits for its result takes it, what it was given is let go, and its lists are given back.
+// Ends an emission. A program that waits for its result takes it, what the emission was given is let go, and its lists are given back.
 #[tactic(auto, unfolding(ui_machine::specs::Rules::Accumulation::ending, ui_machine::specs::Rules::Accumulation::resulting, ui_machine::specs::Rules::EmissionPlan::signal_at, ui_machine::specs::Steps::left))]
 fn end_emission(
     engine: &mut Engine,
@@ -302,7 +303,7 @@ fn end_emission(
     Ok(())
 }
 
-// The program of a turn begins, in front of the rest of the emission.
+// Begins the program of a turn, before the rest of the emission.
 fn take_turn(
     engine: &mut Engine,
     definition: &Definition,
@@ -338,7 +339,7 @@ fn take_turn(
     begin_program(engine, definition, runs.program, registers)
 }
 
-// A transfer is due, in front of the rest of the emission. Its binding has not ended, and does not set.
+// Makes a transfer due before the rest of the emission. Its binding has not ended, and does not set.
 fn take_transfer(
     engine: &mut Engine,
     definition: &Definition,
@@ -374,8 +375,8 @@ fn take_transfer(
     );
 }
 
-// An emission whose bindings have their turn makes the next of their transfers, and behind them takes the next turn of a program, or ends
-// where there is none.
+// Goes on with an emission whose bindings have their turn: makes the next of their transfers, or takes the next turn of a program if none
+// is left, or ends the emission if there is no turn either.
 fn emit_transfers(
     engine: &mut Engine,
     definition: &Definition,
@@ -413,11 +414,12 @@ fn emit_transfers(
     take_turn(engine, definition, turn, cursor, args, by_event, transfers)
 }
 
-/// An emission takes its next turn, or ends where there is none. Handlers that are blocked have none, and bindings that set or have ended.
+/// Takes the next turn of an emission, or ends the emission if none is left. Handlers that are blocked have no turn, and bindings that set
+/// or have ended have none either.
 ///
 /// # Errors
 ///
-/// `AllocError` if no memory is found.
+/// `AllocError` if memory is refused.
 pub fn emit(
     engine: &mut Engine,
     definition: &Definition,

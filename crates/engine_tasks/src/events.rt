@@ -1,4 +1,4 @@
-//! What events do.
+//! The requests of events: sets, gets, emissions and releases.
 
 ghost use Rattle.std.specs.Prelude.{map, option_map, OnOk, OnErr, ◌≡◌, Ok};
 ghost use Rattle.ui_machine.specs.Steps.{uncounted};
@@ -28,7 +28,7 @@ use std::alloc::AllocError;
 use std::rc::RcStr;
 use ui_machine::{Place, SignalId, Slot};
 
-// A set by an event.
+// Sets a property for an event.
 #[tactic(auto, unfolding(ui_machine::specs::Rules::Events::set_from_event, ui_machine::specs::Rules::Events::set_given))]
 fn set_from_event(
     engine: &mut Engine,
@@ -58,7 +58,7 @@ fn set_from_event(
     );
 }
 
-// A get by an event.
+// Reads a property for an event, says its value, and keeps it as the result of the event.
 #[tactic(auto, unfolding(ui_machine::specs::Rules::Events::get_from_event))]
 fn get_from_event(
     engine: &mut Engine,
@@ -88,7 +88,7 @@ fn get_from_event(
     Ok(())
 }
 
-// An emission by an event.
+// Begins an emission for an event.
 #[tactic(auto, unfolding(ui_machine::specs::Rules::Events::emit_from_event))]
 fn emit_from_event(
     engine: &mut Engine,
@@ -126,7 +126,7 @@ fn emit_from_event(
     Ok(())
 }
 
-// The builder lets an object go.
+// Makes the builder let an object go, and says the line.
 #[tactic(auto, unfolding(ui_machine::specs::Rules::Events::release_from_event))]
 fn release_from_event(
     engine: &mut Engine,
@@ -153,11 +153,11 @@ fn release_from_event(
     Ok(())
 }
 
-/// What an event asks for.
+/// Carries out the request of an event.
 ///
 /// # Errors
 ///
-/// `AllocError` if no memory is found.
+/// `AllocError` if memory is refused.
 pub fn handle_event(
     engine: &mut Engine,
     definition: &Definition,

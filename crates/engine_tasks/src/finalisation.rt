@@ -1,4 +1,4 @@
-//! Finalisation: what nothing holds is disposed and taken out before anything else is done.
+//! Finalisation: an object that nothing holds is disposed and taken out before anything else is done.
 
 ghost use Rattle.std.specs.Prelude.{◌≡◌, ◌<◌, List, map, suc, IsSome, OnOk, OnErr};
 ghost use Rattle.ui_machine.specs.Prefix.{IsPrefix};
@@ -25,12 +25,13 @@ use engine_world::lines::Line;
 use std::alloc::AllocError;
 use ui_machine::ObjectId;
 
-/// An object that nothing holds is disposed, again if it was, and taken out. Its peer is closed, if it has one that is open. Its handlers go, and have no more turns in the emissions that
-/// go on, and its bindings end. It is a counted step.
+/// Finalises an object that nothing holds, as a counted step. The object is disposed, once more if it was before, and taken out. Its peer
+/// is closed, if it has an open one. Its handlers are disconnected and have no more turns in the emissions that are under way, and its
+/// bindings end.
 ///
 /// # Errors
 ///
-/// `AllocError` if no memory is found.
+/// `AllocError` if memory is refused.
 pub fn finalise(
     engine: &mut Engine,
     definition: &Definition,

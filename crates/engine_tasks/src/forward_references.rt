@@ -1,4 +1,4 @@
-//! Forward references: objects that are given to properties before they are built. They are set once all objects are made.
+//! Forward references, which give an object to a property before the object is built. They are set once all objects are made.
 
 ghost use Rattle.std.specs.Prelude.{◌≡◌, ◌≤◌, ◌+◌, ◌++◌, map, OnOk, OnErr, IfOk};
 ghost use Rattle.std.specs.List.{flat_map};
@@ -26,7 +26,7 @@ use engine_world::task::{ForwardReference, ForwardReferences, Task};
 use std::alloc::{AllocError, Global};
 use ui_machine::Place;
 
-// Puts what an entry gives before these, where it is a forward reference.
+// Puts what an entry gives before these references, if it is a forward reference.
 fn add_forward(
     forwards: &mut Vec<ForwardReference>,
     object: Place,
@@ -48,7 +48,7 @@ fn add_forward(
     Ok(())
 }
 
-// Puts the forward references of an object before these, in the given order.
+// Puts the forward references of an object before these references, in the given order.
 fn add_forwards(
     forwards: &mut Vec<ForwardReference>,
     object: Place,
@@ -64,7 +64,7 @@ fn add_forwards(
     Ok(())
 }
 
-// The same of the object at a place of a definition.
+// Adds the forward references of the object at a place of the definition like `add_forwards`.
 fn add_forwards_of(
     forwards: &mut Vec<ForwardReference>,
     definition: &Definition,
@@ -78,7 +78,7 @@ fn add_forwards_of(
     add_forwards(forwards, place, entry.given)
 }
 
-/// The forward references of a definition's objects, in document order.
+/// Returns the forward references of a definition's objects, in document order.
 ///
 /// # Errors
 ///
@@ -100,7 +100,7 @@ pub fn forward_references(
     Ok(ForwardReferences::new(forwards))
 }
 
-/// The next forward reference is set, where all objects are made, or else the first binding is made.
+/// Sets the next forward reference once all objects are made, or makes the first binding if none is left.
 #[tactic(auto, unfolding(ui_machine::specs::Rules::Build::building_forward, ui_machine::specs::Rules::Build::set_forward))]
 pub(crate) fn set_forward_reference(
     engine: &mut Engine,

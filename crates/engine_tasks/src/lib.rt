@@ -1,4 +1,4 @@
-//! Tasks: what each one does, as the machine's, but for a program's, which takes an instruction.
+//! The tasks of a run, each carried out as the machine does it. The exception is the task of a program, which takes an instruction.
 #![tactic(auto)]
 
 pub mod binds;

@@ -1,4 +1,4 @@
-//! Notifications: how one begins, and those of a thaw.
+//! The beginning of a notification, and the notifications of a thaw.
 
 ghost use Rattle.std.specs.Prelude.{IfOk, OnOk, OnErr, IsSome, ◌≡◌, Ok, map};
 ghost use Rattle.ui_machine.specs.Rules.EmissionPlan.{notifying};
@@ -29,7 +29,7 @@ use ui_machine::{ObjectId, SignalId, Slot};
 // The number of the signal `notify`.
 const NOTIFY: SignalId = 0;
 
-// The transfers of the bindings that listen at a property.
+// Returns the transfers of the bindings that listen at a property.
 fn due_transfers(
     engine: &mut Engine,
     object: ObjectId,
@@ -41,7 +41,7 @@ fn due_transfers(
     engine.world.bindings.due(engine.alloc, object, slot)
 }
 
-// A due notification begins, with these transfers.
+// Begins a due notification with these transfers, as a counted step, and says its line.
 #[tactic(auto, unfolding(ui_machine::specs::Rules::EmissionPlan::notifying))]
 fn notify_with(
     engine: &mut Engine,
@@ -85,11 +85,11 @@ fn notify_with(
     Ok(())
 }
 
-/// A due notification begins, with the transfers of the bindings that listen at the property. It is counted and reported.
+/// Begins a due notification with the transfers of the bindings that listen at the property. It is a counted step, and a line reports it.
 ///
 /// # Errors
 ///
-/// `AllocError` if no memory is found.
+/// `AllocError` if memory is refused.
 pub fn notify(
     engine: &mut Engine,
     definition: &Definition,
@@ -110,7 +110,7 @@ pub fn notify(
     notify_with(engine, definition, object, slot, due)
 }
 
-/// The next of the notifications that are left of a thaw.
+/// Makes the next of the notifications that are left of a thaw due. Does nothing if none is left.
 pub fn notify_thawed(
     engine: &mut Engine,
     definition: &Definition,

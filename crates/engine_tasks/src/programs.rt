@@ -1,4 +1,4 @@
-//! Programs: how one begins (GObject manual, Closures: `g_closure_invoke`).
+//! The beginning of a program (GObject manual, Closures: `g_closure_invoke`).
 
 ghost use Rattle.std.specs.Prelude.{◌≡◌, OnOk, OnErr};
 ghost use Rattle.ui_machine.specs.Rules.Programs.{beginning_program};
@@ -25,8 +25,8 @@ use g_values::Value;
 use std::alloc::AllocError;
 use ui_machine::ProgramId;
 
-/// The program of a number begins before the other tasks. The values that its parameters are given are in its first registers already. Its line
-/// is said, and what its registers name is held from then on.
+/// Begins the program with this number before the other tasks, and says its line. Its first registers have the values of its parameters
+/// already. What its registers name is held from then on.
 pub(crate) fn begin_program(
     engine: &mut Engine,
     definition: &Definition,

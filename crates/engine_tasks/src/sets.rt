@@ -31,21 +31,21 @@ use param_specs::{Spec, validate};
 use std::alloc::AllocError;
 use ui_machine::{ObjectId, Slot};
 
-// Whether a write of a property is notified.
+// Returns whether a write of a property is notified.
 fn notifies(spec: &Spec, old: &Value, new: &Value) -> bool
     ensures { result ≡ notifies (spec_view spec.now) (value_view old.now) (value_view new.now) }
 {
     spec.is_readable() && (!spec.is_explicit_notify() || !is_same(old, new))
 }
 
-// Whether a set is refused, whose value validation changes or not.
+// Returns whether a set is refused, given whether validation changes the value.
 fn refuses(spec: &Spec, is_changed: bool) -> bool
     ensures { result ≡ (is_changed && not (is_lax (spec_view spec.now))) }
 {
     is_changed && !spec.is_lax()
 }
 
-// A value by the class of the object that it names, which lives.
+// Returns a value with the class of the object that it names, which has to live.
 fn with_own_class(table: &Table, value: Value) -> Value
     requires lives { lives table.now.objects (value_view value) ≡ true }
     ensures value { value_view result ≡ value_view value }
@@ -57,7 +57,7 @@ fn with_own_class(table: &Table, value: Value) -> Value
     Value::Object(table.class_of(id), Some(id))
 }
 
-// Null in place of a disposed object.
+// Returns a value, with null in place of a disposed object.
 fn unless_disposed(table: &Table, value: Value) -> Value
     ensures { value_view result ≡ unless_disposed table.now.objects (value_view value) }
 {
@@ -71,7 +71,8 @@ fn unless_disposed(table: &Table, value: Value) -> Value
     value
 }
 
-// The value that is written: a weak property takes no disposed object.
+// Returns the value that is written to a property: null in place of a disposed object if the property is weak, and otherwise the value as
+// it is.
 fn without_disposed(table: &Table, spec: &Spec, value: Value) -> Value
     ensures { value_view result ≡ without_disposed table.now.objects (spec_view spec.now) (value_view value) }
 {
@@ -81,7 +82,7 @@ fn without_disposed(table: &Table, spec: &Spec, value: Value) -> Value
     unless_disposed(table, value)
 }
 
-// Says a line, and raises the notification of a property if it is to be reported.
+// Says a line, and raises the notification of a property if `is_told` is set.
 #[tactic(auto, unfolding(ui_machine::specs::Rules::Sets::raising))]
 fn say_and_raise(
     engine: &mut Engine,
@@ -116,7 +117,7 @@ fn say_and_raise(
     Ok(())
 }
 
-// Writes a property, and answers what it was.
+// Writes a property, and returns its value from before.
 fn write(
     engine: &mut Engine,
     definition: &Definition,
@@ -141,7 +142,7 @@ fn write(
     world.table.write(&world.weak, object, slot, value)
 }
 
-// Writes a value and reports it, and raises the notification.
+// Writes a value, says its line, and raises the notification if the write is notified.
 #[tactic(auto, unfolding(ui_machine::specs::Rules::Sets::written))]
 fn write_and_notify(
     engine: &mut Engine,
@@ -173,7 +174,7 @@ fn write_and_notify(
     say_and_raise(engine, definition, object, slot, line, is_told)
 }
 
-// Tells of a value that the property does not take.
+// Says the line that a property refuses a value. The world is unchanged after an error.
 fn refuse(
     engine: &mut Engine,
     definition: &Definition,
@@ -197,11 +198,12 @@ fn refuse(
     Ok(())
 }
 
-/// A set writes the value. Where validation would change it, the set is refused with a line, unless the property is lax.
+/// Validates a value and writes it to a property. If validation would change the value, the set is refused with a line, unless the property
+/// is lax.
 ///
 /// # Errors
 ///
-/// `AllocError` if no memory is found.
+/// `AllocError` if memory is refused.
 pub fn validate_and_set(
     engine: &mut Engine,
     definition: &Definition,

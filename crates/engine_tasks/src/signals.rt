@@ -1,4 +1,4 @@
-//! The signals of the definition's objects: they are connected once all objects are made (GTK manual, GtkBuilder: the element `signal`).
+//! The signals of the definition's objects, which are connected once all objects are made (GTK manual, GtkBuilder: the element `signal`).
 
 ghost use Rattle.std.specs.Prelude.{◌≡◌, ◌∷◌, ◌+◌, ◌≤◌, [], Ok, false, suc, ◌<◌, IfOk, IfSome, MatchOption, OnOk, OnErr};
 ghost use Rattle.ui_machine.specs.Rules.Build.{building, held_data, is_connecting};
@@ -30,14 +30,14 @@ use signal_core::Connection;
 use std::alloc::AllocError;
 use ui_machine::{ObjectId, Place};
 
-/// A signal of an object of the definition: the object's place, and the signal's number there.
+/// The position of a signal in the definition: the place of its object, and its number there.
 #[derive(Clone, Copy, Debug)]
 struct Position {
     place: Place,
     number: usize,
 }
 
-// The first signal of an object from one on, or else of the objects behind it.
+// Returns the position of the first signal from signal `number` of an object on, or else of the objects behind it.
 fn next_signal(definition: &Definition, place: Place, number: usize) -> Option<Position>
     ensures next { MatchOption result (connects_from definition.now place.0 number ≡ [])
         (λ at. connects_from definition.now place.0 number ≡ connects at.place.0 at.number ∷ connects_from definition.now at.place.0 (suc at.number)) }
@@ -58,7 +58,7 @@ fn next_signal(definition: &Definition, place: Place, number: usize) -> Option<P
     None
 }
 
-// The object that is the data of a signal, if it has some.
+// Returns the data object of a signal, if it has one.
 #[tactic(auto, unfolding(ui_machine::specs::Rules::Build::held_data))]
 fn data_of(engine: &Engine, with: Option<Place>) -> Option<ObjectId>
     requires able { Able (held_data (world_of engine.now.world) (place_number with)) }
@@ -67,7 +67,7 @@ fn data_of(engine: &Engine, with: Option<Place>) -> Option<ObjectId>
     Some(held_object(engine, with?))
 }
 
-// What a signal of the definition is connected with.
+// Returns the connection that a signal of the definition asks for.
 fn attached(
     engine: &Engine,
     definition: &Definition,
@@ -102,11 +102,12 @@ fn attached(
     })
 }
 
-/// The next signal of the definition's objects is connected, from one of an object on. Numbers have to be left for all of them.
+/// Connects the next signal of the definition's objects, from signal `number` of an object on. Handler numbers have to be left for all of
+/// them.
 ///
 /// # Errors
 ///
-/// `AllocError` if no memory is found.
+/// `AllocError` if memory is refused.
 pub fn connect_from_build(
     engine: &mut Engine,
     definition: &Definition,

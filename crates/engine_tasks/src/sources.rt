@@ -1,4 +1,4 @@
-//! Sources: how a due one runs (GLib manual, The Main Event Loop: `g_main_context_dispatch`).
+//! The run of a source that is due (GLib manual, The Main Event Loop: `g_main_context_dispatch`).
 
 ghost use Rattle.std.specs.Prelude.{◌≡◌, [], map, Some, OnOk, OnErr};
 ghost use Rattle.ui_machine.specs.Rules.MainLoop.{source_data, sourcing};
@@ -23,7 +23,7 @@ use g_values::Value;
 use std::alloc::AllocError;
 use ui_machine::ObjectId;
 
-// Gives the program of a source its data, if it has some, in registers of which none is there yet.
+// Gives the program of a source its data, if it has some, in registers that have to be empty.
 fn give_data(registers: &mut Vec<Option<Value>>, arg: Option<ObjectId>) -> Result<(), AllocError>
     requires none { registers.now.items ≡ [] }
     ensures given { OnOk result (registers_of registers.new.items ≡ map (λ v. Some v) (source_data (id_of arg))) }
@@ -35,11 +35,11 @@ fn give_data(registers: &mut Vec<Option<Value>>, arg: Option<ObjectId>) -> Resul
     Ok(())
 }
 
-/// A due source runs: its program begins, with the source's data.
+/// Runs a due source: its program begins, with the source's data.
 ///
 /// # Errors
 ///
-/// `AllocError` if no memory is found.
+/// `AllocError` if memory is refused.
 pub fn run_source(
     engine: &mut Engine,
     definition: &Definition,

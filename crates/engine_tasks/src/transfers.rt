@@ -1,4 +1,4 @@
-//! Transfers of bindings: a property's value is set at another property (GObject manual, GBinding).
+//! Transfers of bindings, which set the value of a property at another property (GObject manual, GBinding).
 
 ghost use Rattle.std.specs.Prelude.{◌≡◌, Ok, option_map, IfOk, OnOk, OnErr, IsSome};
 ghost use Rattle.ui_machine.specs.Rules.Transfers.{set_by, transferring, unsetting};
@@ -25,7 +25,8 @@ use engine_world::transformations::{inverted, transformed};
 use g_values::Value;
 use std::alloc::AllocError;
 
-// What a transfer sets: the value of its source, transformed and inverted. Nothing where the transformation fails.
+// Returns the value that a transfer sets: the value of its source, transformed, and inverted if the binding says so. Returns None if the
+// transformation fails.
 fn carried_value(
     engine: &Engine,
     definition: &Definition,
@@ -44,7 +45,7 @@ fn carried_value(
     Ok(inverted(transfer.invert, value))
 }
 
-// The value is set at the target, and the binding sets until all that this raises has ended. Without a value nothing is set.
+// Sets the value at the target. The binding sets until all that this raises has ended. Without a value nothing is set.
 fn set_by(engine: &mut Engine, definition: &Definition, transfer: Transfer, value: Option<Value>)
     requires able { Able (uncounted (agenda_of definition.now engine.now) engine.now.counted (set_by (world_of engine.now.world) transfer.number (to_end transfer) (option_map value_view value))) }
     requires live { IsSome (living engine.now.world.table.objects transfer.target.0) }
@@ -77,11 +78,11 @@ fn set_by(engine: &mut Engine, definition: &Definition, transfer: Transfer, valu
     );
 }
 
-/// A due transfer is made. It is counted. A binding that has ended makes none.
+/// Makes a due transfer, as a counted step. A binding that has ended makes none.
 ///
 /// # Errors
 ///
-/// `AllocError` if no memory is found.
+/// `AllocError` if memory is refused.
 pub fn transfer(
     engine: &mut Engine,
     definition: &Definition,
@@ -107,7 +108,7 @@ pub fn transfer(
     Ok(())
 }
 
-/// What a binding set has ended: it sets no longer.
+/// Marks a binding as no longer setting, since what it set has ended.
 pub fn unset(engine: &mut Engine, definition: &Definition, number: u64)
     ensures step { uncounted (agenda_of definition.now engine.old) engine.old.counted (unsetting (world_of engine.old.world) number) ≡ Ok (config_of definition.now engine.new) }
     ensures counted { KeepsCounts definition.now engine.old engine.new }

@@ -1,4 +1,5 @@
-//! Turns of emissions: which program each runs, and what it is given (GObject manual, Closures: `g_cclosure_new_swap`).
+//! The turns of emissions: the program that each runs, and the values that the program is given (GObject manual, Closures:
+//! `g_cclosure_new_swap`).
 
 ghost use Rattle.std.specs.Prelude.{◌≡◌, ◌++◌, [], map, Some, OnOk};
 ghost use Rattle.ui_machine.specs.State.Tasks as config;
@@ -18,13 +19,13 @@ use ui_machine::{ObjectId, ProgramId};
 #[derive(Clone, Copy, Debug)]
 pub(crate) struct Invocation {
     pub(crate) program: ProgramId,
-    /// What comes before the arguments.
+    /// The object that comes before the arguments.
     pub(crate) before: Option<ObjectId>,
-    /// What comes after them.
+    /// The object that comes after the arguments.
     pub(crate) behind: Option<ObjectId>,
 }
 
-// Adds registers with the same values once more.
+// Adds a register with a copy of each of these values.
 fn add_copies(registers: &mut Vec<Option<Value>>, values: &[Value]) -> Result<(), AllocError>
     ensures { OnOk result (registers_of registers.new.items ≡ registers_of registers.old.items ++ map (λ v. Some v) (map value_view values.now)) }
 {
@@ -49,7 +50,7 @@ fn add_object(
 }
 
 impl Invocation {
-    // What a handler runs: with `swapped` the data comes first and the object last.
+    // Creates the invocation of a handler: with `swapped` the data comes first and the object last.
     fn of_handler(
         program: ProgramId,
         swapped: bool,
@@ -73,7 +74,7 @@ impl Invocation {
         }
     }
 
-    /// What a turn runs in an emission by an object.
+    /// Creates the invocation for a turn in an emission by an object.
     pub(crate) fn new(turn: Turn, instance: ObjectId) -> Self
         requires runs { RunsProgram turn }
         ensures program { result.program ≡ program_of_turn turn }
@@ -94,7 +95,7 @@ impl Invocation {
         }
     }
 
-    /// Gives the program its values, in registers of which none is there yet.
+    /// Gives the program its values, in registers that have to be empty.
     pub(crate) fn give(
         &self,
         registers: &mut Vec<Option<Value>>,

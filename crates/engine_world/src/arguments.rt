@@ -1,4 +1,4 @@
-//! The arguments of emissions that an event gives, and the details of signals.
+//! The arguments that an event gives to an emission, and the details of signals.
 
 ghost use Rattle.std.specs.Prelude.{◌≡◌, [], Ok, map, option_map, string_bytes, IfOk, OnOk};
 ghost use Rattle.std.specs.Rc.{rc_str_bytes};
@@ -19,11 +19,12 @@ use std::rc::RcStr;
 use type_tree::TypeId;
 use ui_machine::{ObjectId, SignalId};
 
-/// Adds the values that an event gives, and the objects of the builder, which it has, to an empty list.
+/// Adds the values that an event gives to `values`, which has to be empty. A given place becomes the object that the builder holds there,
+/// and the builder has to hold one.
 ///
 /// # Errors
 ///
-/// `AllocError` if no memory is found.
+/// `AllocError` if memory is refused.
 pub fn add_operands(
     engine: &Engine,
     given: &[Given],
@@ -42,7 +43,7 @@ pub fn add_operands(
     Ok(())
 }
 
-// The name of the property that a detail of a notification names.
+// Returns the name, as its spec has it, of the property that a detail of `notify` names. The class has to have that property.
 fn property_named<'a>(definition: &'a Definition, class: TypeId, name: &str) -> &'a RcStr
     requires able { Able (detail_named definition.now class name.now) }
     ensures { detail_named definition.now class name.now ≡ Ok (rc_str_bytes result.now) }
@@ -56,11 +57,12 @@ fn property_named<'a>(definition: &'a Definition, class: TypeId, name: &str) -> 
     &spec.name
 }
 
-/// A detail as it is at a signal of a class, by the signal's number. The signal is detailed, and a detail of `notify` names a property.
+/// Returns a detail as it is kept for the signal of `class` with this number: for `notify` the name of the property as its spec has it, and
+/// for any other signal the text itself. The signal has to be detailed, and a detail of `notify` has to name a property.
 ///
 /// # Errors
 ///
-/// `AllocError` if no memory is found.
+/// `AllocError` if memory is refused.
 pub fn detail_for(
     engine: &Engine,
     definition: &Definition,
@@ -81,11 +83,11 @@ pub fn detail_for(
     Ok(Some(String::from_str(engine.alloc, name.as_str())?))
 }
 
-/// The same at a signal of an object.
+/// Returns a detail as [`detail_for`] does, for a signal of an object.
 ///
 /// # Errors
 ///
-/// `AllocError` if no memory is found.
+/// `AllocError` if memory is refused.
 pub fn detail_in(
     engine: &Engine,
     definition: &Definition,
@@ -100,7 +102,7 @@ pub fn detail_in(
     detail_for(engine, definition, class, signal, detail)
 }
 
-// The detail of an emission as it is at a signal of a class.
+// Returns the detail of an emission as `detail_for` does, with a text that is shared.
 fn shared_detail_for(
     definition: &Definition,
     class: TypeId,
@@ -120,11 +122,11 @@ fn shared_detail_for(
     Ok(Some(name.clone()?))
 }
 
-/// The detail of an emission as it is at a signal of an object. Its text is shared, so that no memory is asked for.
+/// Returns the detail of an emission as it is kept for a signal of an object. Its text is shared, so that no memory is asked for.
 ///
 /// # Errors
 ///
-/// `AllocError` where a text has 2^64 - 1 sharers.
+/// `AllocError` if the text has 2^64 - 1 sharers.
 pub fn shared_detail_in(
     engine: &Engine,
     definition: &Definition,
@@ -139,7 +141,7 @@ pub fn shared_detail_in(
     shared_detail_for(definition, class, signal, detail)
 }
 
-/// The text of a detail, if there is one.
+/// Returns the text of a detail, if there is one.
 pub fn as_text(detail: &Option<String>) -> Option<&str>
     ensures { option_map (λ text. text.now) result ≡ option_map (λ text. string_bytes text) detail.now }
 {
@@ -149,7 +151,7 @@ pub fn as_text(detail: &Option<String>) -> Option<&str>
     }
 }
 
-/// The text of a detail that is shared, if there is one.
+/// Returns the text of a shared detail, if there is one.
 pub fn shared_text(detail: &Option<RcStr>) -> Option<&str>
     ensures { option_map (λ text. text.now) result ≡ shared_detail_of detail.now }
 {

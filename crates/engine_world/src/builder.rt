@@ -1,4 +1,4 @@
-//! What the builder holds of a definition's objects, by place.
+//! The builder's entries for the objects of a definition, by place.
 
 ghost use Rattle.std.specs.Prelude.{◌≡◌, OnOk, map};
 ghost use Rattle.ui_machine.specs.Seq.{write};
@@ -11,19 +11,19 @@ ghost use Rattle.engine_world.specs.View.{held_of};
 use std::alloc::AllocError;
 use ui_machine::{ObjectId, Place};
 
-/// What the builder has of a place.
+/// The builder's entry for one place.
 #[derive(Clone, Copy, Debug, PartialEq, Eq)]
 pub enum BuilderEntry {
-    /// It has not come to the place yet.
+    /// The builder has not come to the place yet.
     Unbuilt,
-    /// It holds the object that it built.
+    /// The builder holds the object that it built.
     Built(ObjectId),
-    /// It has let the object go.
+    /// The builder has let the object go.
     Released,
 }
 
 impl BuilderEntry {
-    /// The object that it holds.
+    /// Returns the object that the builder holds, if it holds one.
     pub fn object(self) -> Option<ObjectId>
         ensures { id_of result ≡ identity_held (held_of self) }
     {
@@ -33,7 +33,7 @@ impl BuilderEntry {
         }
     }
 
-    /// Whether it has not come to the place yet.
+    /// Returns whether the builder has not come to the place yet.
     pub fn is_unbuilt(self) -> bool
         ensures { result ≡ is_unbuilt (held_of self) }
     {
@@ -43,7 +43,7 @@ impl BuilderEntry {
         }
     }
 
-    /// Whether it has let the object go.
+    /// Returns whether the builder has let the object go.
     pub fn is_released(self) -> bool
         ensures { result ≡ is_released (held_of self) }
     {
@@ -54,7 +54,7 @@ impl BuilderEntry {
     }
 }
 
-/// The builder has this of a place from now on. A place that it has not come to yet has nothing.
+/// Sets the builder's entry for a place. Places before it that have no entry yet become unbuilt.
 ///
 /// # Errors
 ///
@@ -69,7 +69,7 @@ pub fn set_builder_entry(
     put_at(builder, usize::from(place.0), held)
 }
 
-// The same by the place's number.
+// Sets the entry like `set_builder_entry`, for the number of a place.
 fn put_at(
     builder: &mut Vec<BuilderEntry>,
     place: usize,

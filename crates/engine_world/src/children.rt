@@ -1,4 +1,4 @@
-//! Children: an object becomes another's child, or a limit's line says that it does not.
+//! The adoption of a child by its parent, and the line that reports a limit.
 
 ghost use Rattle.std.specs.Prelude.{◌≡◌, None, OnOk, OnErr};
 ghost use Rattle.engine_world.specs.Able.{Able, Leads};
@@ -19,14 +19,14 @@ use instance_tables::AdoptError;
 use std::alloc::AllocError;
 use ui_machine::ObjectId;
 
-/// An object, and the one whose child it is to be.
+/// An object, and the parent that is to adopt it.
 #[derive(Clone, Copy)]
 pub struct Kin {
     pub parent: ObjectId,
     pub child: ObjectId,
 }
 
-/// A limit was reached, of what the word says.
+/// Says the line that a limit was reached. The word names what is limited. The world is unchanged after an error.
 ///
 /// # Errors
 ///
@@ -43,7 +43,7 @@ pub fn say_limit(engine: &mut Engine, definition: &Definition, word: &str) -> Re
     Ok(())
 }
 
-// An object becomes another's child, which nothing forbids.
+// Makes an object the child of another one, and says its line. The table must not refuse the pair.
 fn adopt(engine: &mut Engine, definition: &Definition, kin: Kin) -> Result<(), AllocError>
     requires free { refusal_in engine.now.world.table kin.parent.0 kin.child.0 ≡ None }
     requires counted { IsCounted definition.now engine.now }
@@ -68,11 +68,11 @@ fn adopt(engine: &mut Engine, definition: &Definition, kin: Kin) -> Result<(), A
     Ok(())
 }
 
-/// An object becomes another's child, or does not, by a limit's line.
+/// Makes an object the child of another one, or says the line `limit adopt` if the table refuses the pair.
 ///
 /// # Errors
 ///
-/// `AllocError` if no memory is found.
+/// `AllocError` if memory is refused.
 pub fn join(engine: &mut Engine, definition: &Definition, kin: Kin) -> Result<(), AllocError>
     requires able { Able (joined definition.now (world_of engine.now.world) kin.parent.0 kin.child.0) }
     requires counted { IsCounted definition.now engine.now }
@@ -92,11 +92,11 @@ pub fn join(engine: &mut Engine, definition: &Definition, kin: Kin) -> Result<()
     Ok(())
 }
 
-/// An object becomes another's child, or does not, by a limit's line.
+/// Makes an object the child of another one as [`join`] does, with the two as separate arguments.
 ///
 /// # Errors
 ///
-/// `AllocError` if no memory is found.
+/// `AllocError` if memory is refused.
 pub fn join_objects(
     engine: &mut Engine,
     definition: &Definition,

@@ -27,11 +27,12 @@ pub struct Closing {
     pub line: String,
 }
 
-/// The peer that is closed as an object is disposed: the object's, if it has one that is open.
+/// Returns the peer that the dispose of an object closes, with its line: the object's own peer, or None if it has none or the peer is
+/// closed.
 ///
 /// # Errors
 ///
-/// `AllocError` if no memory is found.
+/// `AllocError` if memory is refused.
 pub fn closing_with(
     engine: &Engine,
     definition: &Definition,
@@ -57,7 +58,7 @@ pub fn closing_with(
     Ok(Some(Closing { peer, line }))
 }
 
-/// The line that reports the dispose of an object, unless it was disposed before.
+/// Returns the line that reports the dispose of an object, or None if the object was disposed before.
 ///
 /// # Errors
 ///
@@ -78,7 +79,7 @@ pub fn dispose_line(
     Ok(Some(line))
 }
 
-// One line more, if there is one.
+// Appends a line, if there is one.
 fn push_if(lines: &mut Vec<String>, line: Option<String>) -> Result<(), AllocError>
     ensures { OnOk result (map string_bytes lines.new.items ≡ map string_bytes lines.old.items ++ line_if line) }
 {
@@ -88,7 +89,7 @@ fn push_if(lines: &mut Vec<String>, line: Option<String>) -> Result<(), AllocErr
     Ok(())
 }
 
-// The lines of a dispose in their order, those that there are.
+// Returns the lines of a dispose in their order, as far as there are any.
 fn lines_of(
     alloc: Global,
     first: Option<String>,
@@ -104,7 +105,8 @@ fn lines_of(
     Ok(lines)
 }
 
-// A peer may not be called from now on, if one is to be closed. Its number is left for whoever has the peers.
+// Marks a peer as closed, if there is one to close, so that it is not called from then on. Leaves its number in `engine.closing` for
+// whoever has the peers.
 fn close(engine: &mut Engine, peer: Option<usize>)
     requires { IfSome peer (λ number. number < length engine.now.world.seats) }
     ensures closed { engine.new ≡ record engine.old {
@@ -120,8 +122,8 @@ fn close(engine: &mut Engine, peer: Option<usize>)
     engine.closing = Some(number);
 }
 
-/// Says the lines of a dispose, if it has them, and between them closes a peer, if one is to be closed. Nothing has happened where memory is
-/// refused.
+/// Says the lines of a dispose, if it has them, and closes a peer, if there is one to close, whose line comes between them. Nothing has
+/// changed if memory is refused.
 ///
 /// # Errors
 ///

@@ -1,4 +1,4 @@
-//! Handlers that are connected (GObject manual, Signals: `g_signal_connect_data`).
+//! The connection of handlers, by programs and by the builder (GObject manual, Signals: `g_signal_connect_data`).
 
 ghost use Rattle.std.specs.Prelude.{◌≡◌, ◌<◌, ◌↔◌, false, true, OnOk, OnErr, IfOk, ◌+◌, List, length, nat_lt};
 ghost use Rattle.ui_machine.specs.Rules.Build.{to_connect, with_signal, is_connecting, of_items};
@@ -24,18 +24,18 @@ use signal_core::{ConnectError, Connection};
 use std::alloc::AllocError;
 use ui_machine::{ObjectId, Place};
 
-/// What came of a connection by a program.
+/// The outcome of a connection by a program.
 #[derive(Clone, Copy, Debug)]
 pub enum Outcome {
     Connected,
-    /// One of its objects is disposed.
+    /// The object or the data object is disposed.
     TooLate,
-    /// As many are connected as may be.
+    /// The limit of handlers is reached, or no number is left for one more.
     Full,
 }
 
 impl Outcome {
-    /// Whether the handler is connected.
+    /// Returns whether the handler was connected.
     pub fn is_connected(self) -> bool
         ensures { result ≡ is_connected self }
     {
@@ -46,7 +46,7 @@ impl Outcome {
         }
     }
 
-    /// Whether a line reports it: as many are connected as may be.
+    /// Returns whether a line reports that a limit was reached.
     pub fn is_full(self) -> bool
         ensures { result ≡ is_full self }
     {
@@ -58,7 +58,7 @@ impl Outcome {
     }
 }
 
-// Whether the data object is disposed, if there is one.
+// Returns whether there is a data object and it is disposed.
 fn is_disposed_data(table: &Table, object: Option<ObjectId>) -> bool
     ensures { result ≡ is_disposed_data table.now.objects (id_of object) }
 {
@@ -68,14 +68,14 @@ fn is_disposed_data(table: &Table, object: Option<ObjectId>) -> bool
     }
 }
 
-// Whether a connection comes too late: one of its objects is disposed.
+// Returns whether a connection comes too late, because its object or its data object is disposed.
 fn is_too_late(table: &Table, connection: &Connection) -> bool
     ensures { result ≡ is_too_late table.now.objects (connection_of connection.now).object (connection_of connection.now).arg }
 {
     table.is_disposed(connection.object) || is_disposed_data(table, connection.data)
 }
 
-// One more handler is connected, which has no turn in the emissions that go on.
+// Connects one more handler. It has no turn in the emissions that are under way. Nothing has changed after an error.
 fn add_handler(
     engine: &mut Engine,
     definition: &Definition,
@@ -98,7 +98,7 @@ fn add_handler(
     }
 }
 
-/// A signal of the definition is connected, unless one of its objects is disposed. A number has to be left for it.
+/// Connects a handler for the builder, unless its object or its data object is disposed. A handler number has to be left for it.
 ///
 /// # Errors
 ///
@@ -128,7 +128,7 @@ pub fn connect_signal(
     }
 }
 
-/// A program's handler is connected, unless one of its objects is disposed, or as many are connected as may be.
+/// Connects a handler for a program, unless its object or its data object is disposed or a limit is reached. Returns which of these it was.
 ///
 /// # Errors
 ///
@@ -162,7 +162,7 @@ pub fn connect_handler(
     }
 }
 
-/// How many signals the object at a place has.
+/// Returns how many signals of the object at a place the builder connects, or 0 if nothing is at the place.
 pub fn signal_count(definition: &Definition, place: usize) -> usize
     ensures { result ≡ length (signals_of (place_at definition.now place)) }
 {
@@ -172,8 +172,8 @@ pub fn signal_count(definition: &Definition, place: usize) -> usize
     }
 }
 
-// The number of the last handler with so many more as the builder is to connect from a signal of an object on: at most the greatest that there
-// is.
+// Returns the number that the last handler has once the builder has connected all signals from signal `number` of the object at `place` on,
+// where `last` is the last handler's number now. The result is at most `u64::MAX`.
 fn taken_from(definition: &Definition, last: u64, place: Place, number: usize) -> u64
     ensures { Takes last (total is_connecting (connects_from definition.now place.0 number)) result }
 {
@@ -190,7 +190,7 @@ fn taken_from(definition: &Definition, last: u64, place: Place, number: usize) -
 }
 
 impl Task {
-    // The same with those that the builder is to connect by a task.
+    // Returns the number that the last handler has once the builder has connected the signals that this task leaves to connect.
     fn taken_by(&self, definition: &Definition, last: u64) -> u64
         ensures { (hs : List Handler) → Takes last (of_items is_connecting (task_of definition.now hs self.now)) result }
     {
@@ -204,7 +204,7 @@ impl Task {
     }
 }
 
-/// Whether a number is left for one more handler, beside those that the builder is still to connect.
+/// Returns whether a number is left for one more handler, beside those that the builder is still to connect.
 fn has_handler_number(engine: &Engine, definition: &Definition) -> bool
     ensures { result ≡ nat_lt (engine.now.world.handlers.last + to_connect (agenda_of definition.now engine.now)) greatest_handler }
 {

@@ -1,4 +1,5 @@
-//! Constructions: what is done once an object is made (GObject manual, `g_object_new_with_properties` and `GObjectClass.constructed`).
+//! The steps of a construction, which follow once an object is made (GObject manual, `g_object_new_with_properties` and
+//! `GObjectClass.constructed`).
 
 ghost use Rattle.std.specs.Prelude.{◌≡◌, [], nat_eq, not, ◌&&◌, None, Some, option_copied, option_map, ◌++◌, OnOk, IfOk};
 ghost use Rattle.std.specs.List.{find};
@@ -22,7 +23,7 @@ use std::alloc::AllocError;
 use type_tree::TypeId;
 use ui_machine::{Place, Slot};
 
-/// What the object at a place is given, as the builder comes to it.
+/// The properties that the object at a place is given, with the world in which the builder comes to it.
 #[derive(Clone, Copy)]
 pub(crate) struct GivenAt<'a> {
     pub(crate) world: &'a World,
@@ -30,7 +31,7 @@ pub(crate) struct GivenAt<'a> {
     pub(crate) entries: &'a [GivenValue],
 }
 
-// Whether an object is given that is not there before this place.
+// Returns whether what is given at a place is an object that is not built before the place is.
 fn is_forward(place: Place, given: &Given) -> bool
     ensures { result ≡ is_forward place.0 (given_view given.now) }
 {
@@ -40,14 +41,14 @@ fn is_forward(place: Place, given: &Given) -> bool
     }
 }
 
-// What is given to a slot, if something is, and not a forward reference.
+// Returns the first entry for a slot that is not a forward reference, if there is one.
 fn entry_for(place: Place, entries: &[GivenValue], slot: Slot) -> Option<&GivenValue>
     ensures { option_copied result ≡ find (λ g. not (is_forward place.0 (given_view g.given)) && nat_eq g.slot slot) entries.now }
 {
     entries.iter().find(|entry| !is_forward(place, &entry.given) && entry.slot == slot)
 }
 
-// The value that is given to a slot, if one is.
+// Returns the value that is given to a slot, if there is one. Forward references are left out.
 fn value_given(given: GivenAt<'_>, slot: Slot) -> Result<Option<Value>, AllocError>
     ensures { IfOk result (λ v. option_map value_view v ≡ given_at (world_of given.entry.world.now) (early given.entry.place.0 given.entry.entries.now) slot) }
 {
@@ -57,7 +58,7 @@ fn value_given(given: GivenAt<'_>, slot: Slot) -> Result<Option<Value>, AllocErr
     }
 }
 
-// The value that is given to a slot, or else the default.
+// Returns the value that is given to a slot, or else the default.
 fn value_for(given: GivenAt<'_>, spec: &Spec, slot: Slot) -> Result<Value, AllocError>
     ensures { IfOk result (λ v. value_view v ≡ or_default (given_at (world_of given.entry.world.now) (early given.entry.place.0 given.entry.entries.now) slot) (spec_view spec.now).default) }
 {
@@ -67,7 +68,7 @@ fn value_for(given: GivenAt<'_>, spec: &Spec, slot: Slot) -> Result<Value, Alloc
     }
 }
 
-// Puts the set of a construct property before what a construction does.
+// Adds the set of a construct property before the steps that are in the list. Does nothing for any other property.
 fn add_construct_set(
     steps: &mut Vec<ConstructStep>,
     definition: &Definition,
@@ -88,7 +89,7 @@ fn add_construct_set(
     Ok(())
 }
 
-// Puts the sets of the construct properties before what a construction does, in the order of their slots.
+// Adds the sets of all construct properties before the steps that are in the list, in the order of their slots.
 fn add_construct_sets(
     steps: &mut Vec<ConstructStep>,
     definition: &Definition,
@@ -106,7 +107,7 @@ fn add_construct_sets(
     Ok(())
 }
 
-// Whether a construction sets the property of a slot in any case.
+// Returns whether every construction sets the property of a slot.
 fn is_at_construction(definition: &Definition, class: TypeId, slot: Slot) -> bool
     ensures { result ≡ is_at_construction (read no_spec (specs_of definition.now class) slot) }
 {
@@ -116,7 +117,7 @@ fn is_at_construction(definition: &Definition, class: TypeId, slot: Slot) -> boo
     }
 }
 
-// Puts the set of a value before what a construction does, if there is one.
+// Adds the set of a value, if there is one, before the steps that are in the list.
 fn add_set(
     steps: &mut Vec<ConstructStep>,
     slot: Slot,
@@ -131,7 +132,7 @@ fn add_set(
     Ok(())
 }
 
-// Puts the set of what is given to a property before what a construction does, where the property is not set in any case.
+// Adds the set of what a property is given before the steps that are in the list, unless every construction sets the property.
 fn add_later_set(
     steps: &mut Vec<ConstructStep>,
     definition: &Definition,
@@ -147,7 +148,7 @@ fn add_later_set(
     add_set(steps, entry.slot, world.given(&entry.given)?)
 }
 
-// The same of an entry that may be a forward reference, which a construction leaves out.
+// Adds a set like `add_later_set`, for an entry that may be a forward reference. A forward reference is left out.
 fn add_early_set(
     steps: &mut Vec<ConstructStep>,
     definition: &Definition,
@@ -164,7 +165,7 @@ fn add_early_set(
     add_later_set(steps, definition, class, given.world, entry)
 }
 
-// Puts the sets of what is given before what a construction does, in the given order.
+// Adds the sets of what is given before the steps that are in the list, in the given order.
 fn add_later_sets(
     steps: &mut Vec<ConstructStep>,
     definition: &Definition,
@@ -182,7 +183,7 @@ fn add_later_sets(
     Ok(())
 }
 
-// Puts the run of the program that a class itself names before what a construction does, if it names one.
+// Adds the run of the program that the class itself names, if it names one, before the steps that are in the list.
 fn add_run(
     steps: &mut Vec<ConstructStep>,
     definition: &Definition,
@@ -197,7 +198,7 @@ fn add_run(
     Ok(())
 }
 
-// Puts the runs of the programs that a class and its ancestors name before what a construction does, the root's first.
+// Adds the runs of the programs that a class and its ancestors name before the steps that are in the list, the root's first.
 fn add_runs(
     steps: &mut Vec<ConstructStep>,
     definition: &Definition,
@@ -213,9 +214,9 @@ fn add_runs(
     Ok(())
 }
 
-/// What a construction does: the sets of the construct properties by slot, each to what is given or its default, then the programs of the
-/// class and its ancestors, the root's first, then the other given values in the given order, then the thaw. Forward references are left out.
-/// The steps are put together from the last one on, in a list that is empty yet.
+/// Returns the steps of a construction: the sets of the construct properties by slot, each to the given value or its default, then the
+/// programs of the class and its ancestors, the root's first, then the sets of the other given values in the given order, then the thaw.
+/// Forward references are left out. The steps are put together from the last one on, in the given list, which has to be empty.
 pub(crate) fn construction(
     mut steps: Vec<ConstructStep>,
     definition: &Definition,

@@ -5,7 +5,7 @@ ghost use Rattle.ui_machine.specs.Steps.{most_steps};
 
 use crate::engine::Engine;
 
-/// One more counted step. A dispatch has only so many, and here it has had fewer.
+/// Counts one more step. The dispatch must have counted fewer steps than a dispatch may have.
 pub fn count(engine: &mut Engine)
     requires few { engine.now.counted < most_steps }
     ensures { engine.new ≡ record engine.old { counted = suc engine.old.counted } }

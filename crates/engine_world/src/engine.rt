@@ -1,4 +1,4 @@
-//! The engine: the world, and the tasks that are left.
+//! The engine of a run: its world and the tasks that are left.
 
 ghost use Rattle.std.specs.Prelude.{◌≡◌, None, [], vec_capacity, IfOk};
 ghost use Rattle.ui_machine.specs.Definition as machine;
@@ -22,42 +22,43 @@ use signal_core::Handlers;
 use std::alloc::{AllocError, Global};
 use ui_machine::Limits;
 
-/// What a run changes.
+/// The state that a run changes.
 #[derive(Drop)]
 pub struct Engine {
     pub world: World,
     pub stack: Stack,
-    /// What the names in programs mean.
+    /// The meanings of the names in programs.
     pub links: Links,
-    /// Registers for the programs that are to begin.
+    /// Vectors for the registers of programs that begin later.
     pub spare_registers: Spare<Option<Value>>,
-    /// Lists for the arguments of the emissions that are to begin.
+    /// Vectors for the arguments of emissions that begin later.
     pub spare_args: Spare<Value>,
-    /// Lists for the steps of the constructions that are to begin.
+    /// Vectors for the steps of constructions that begin later.
     pub spare_steps: Spare<ConstructStep>,
-    /// The counted steps of the dispatch.
+    /// How many counted steps the dispatch has had.
     pub counted: u64,
-    /// The peer that a step closed, by its number, for whoever has the peers to take.
+    /// The number of the peer that a step closed, for whoever has the peers to take.
     pub closing: Option<usize>,
     pub alloc: Global,
 }
 
-/// What a step was.
+/// The sort of a step.
 #[derive(Clone, Copy, Debug, PartialEq, Eq)]
 pub enum StepKind {
-    /// None was left to make.
+    /// No step was left to take.
     Nothing,
     Uncounted,
     Counted,
 }
 
 impl Engine {
-    /// Nothing is built yet, the names in programs mean this, there are these peers, those of each place have these numbers,
-    /// so many of them are known not to be left, and there is nothing to do, with so much room for what comes.
+    /// Creates an engine with nothing built and nothing to do. The names in programs mean what `links` says, `seats` are the peers, and
+    /// `peer_numbers` has the numbers of the peers of each place. For each place, `got_peers` says how many of these are known not to
+    /// be left. Reserves `room` for what comes.
     ///
     /// # Errors
     ///
-    /// `AllocError` if no memory is found for that room.
+    /// `AllocError` if memory for that room is refused.
     pub fn new(
         alloc: Global,
         weak: WeakSlots,

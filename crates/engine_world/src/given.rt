@@ -1,4 +1,4 @@
-//! What is given: values, and objects that the builder has.
+//! Given values, and objects that the builder holds.
 
 ghost use Rattle.std.specs.Prelude.{◌≡◌, Ok, Some, option_map, IfOk};
 ghost use Rattle.ui_machine.specs.Definition.Values as values;
@@ -22,10 +22,10 @@ use std::alloc::AllocError;
 use type_tree::TypeId;
 use ui_machine::{ObjectId, Place};
 
-// The type that every object is.
+// The number of the type `GObject`, which every object is.
 const G_OBJECT: u16 = 0;
 
-/// An object as a value.
+/// Returns an object as a value.
 pub fn object_value(object: ObjectId) -> Value
     ensures { value_view result ≡ values.object (Some object.0) }
 {
@@ -33,7 +33,7 @@ pub fn object_value(object: ObjectId) -> Value
 }
 
 impl World {
-    /// A given value once more, or the object of the builder, if it has it.
+    /// Returns a copy of a given value, or the object that the builder holds at a given place, None if it holds none there.
     ///
     /// # Errors
     ///
@@ -48,7 +48,7 @@ impl World {
     }
 }
 
-/// The object that the builder has of a place, which it has.
+/// Returns the object that the builder holds at a place. It has to hold one.
 pub fn held_object(engine: &Engine, place: Place) -> ObjectId
     requires able { Able (held_object (world_of engine.now.world) place.0) }
     ensures { held_object (world_of engine.now.world) place.0 ≡ Ok result.0 }
@@ -59,7 +59,7 @@ pub fn held_object(engine: &Engine, place: Place) -> ObjectId
     object
 }
 
-/// The same as a value.
+/// Returns the object that the builder holds at a place as a value. It has to hold one.
 pub fn held_value(engine: &Engine, place: Place) -> Value
     requires able { Able (held_value (world_of engine.now.world) place.0) }
     ensures { held_value (world_of engine.now.world) place.0 ≡ Ok (value_view result) }
@@ -67,7 +67,7 @@ pub fn held_value(engine: &Engine, place: Place) -> Value
     object_value(held_object(engine, place))
 }
 
-/// A given value, or the object of the builder, which it has.
+/// Returns a given value, or the object that the builder holds at a given place, where it has to hold one.
 pub fn operand(engine: &Engine, given: Given) -> Value
     requires able { Able (known arms.Operand (given_value (world_of engine.now.world) (given_view given))) }
     ensures { given_value (world_of engine.now.world) (given_view given) ≡ Some (value_view result) }
@@ -78,7 +78,7 @@ pub fn operand(engine: &Engine, given: Given) -> Value
     }
 }
 
-/// An object as a value, or the null object.
+/// Returns an object as a value, or the null object.
 pub fn object_or_null(object: Option<ObjectId>) -> Value
     ensures { value_view result ≡ values.object (id_of object) }
 {

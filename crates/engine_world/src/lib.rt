@@ -1,6 +1,6 @@
-//! What a run changes, and what tasks and instructions do to it in common.
+//! The state that a run changes, and the operations on it that tasks and instructions share.
 //!
-//! An [`engine::Engine`] has a world and the tasks that are left. It is seen as a configuration of the abstract machine.
+//! An [`engine::Engine`] has a world and the tasks that are left. Contracts see it as a configuration of the abstract machine.
 #![tactic(auto)]
 
 pub mod arguments;

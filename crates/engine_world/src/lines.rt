@@ -30,7 +30,7 @@ pub enum Line<'a> {
         property: &'a str,
         value: &'a Value,
     },
-    /// A value is not taken by its property.
+    /// A property refuses a value.
     Refused {
         object: ObjectId,
         property: &'a str,
@@ -65,7 +65,7 @@ pub enum Line<'a> {
         args: &'a [Value],
         answer: &'a Value,
     },
-    /// A peer that is called answers no value.
+    /// A peer answers a call with a fault.
     Fault {
         peer: &'a str,
         method: &'a str,
@@ -77,7 +77,7 @@ pub enum Line<'a> {
         method: &'a str,
         args: &'a [Value],
     },
-    /// A limit was reached, of what the word says.
+    /// A limit was reached. The word names what is limited.
     Limit {
         word: &'a str,
     },
@@ -90,7 +90,7 @@ pub enum Line<'a> {
     Orphan {
         child: ObjectId,
     },
-    /// The builder lets go of an object, which goes by this id.
+    /// The builder lets go of the object that has this id.
     Release {
         id: &'a str,
     },
@@ -106,7 +106,7 @@ pub enum Line<'a> {
     Close {
         peer: &'a str,
     },
-    /// An object is taken out.
+    /// An object is finalised.
     Final {
         object: ObjectId,
     },
@@ -120,13 +120,13 @@ pub enum Line<'a> {
     },
 }
 
-// Room for a line with a number and a name of this length. A text in it may take more.
+// Returns how many bytes to reserve for a line with a number and a name of this length. A text in it may take more.
 fn room(name: &str) -> usize {
     name.len().saturating_add(64)
 }
 
 impl Line<'_> {
-    /// Its text, without the LF.
+    /// Returns the text of the line, without the LF.
     ///
     /// # Errors
     ///
@@ -186,7 +186,7 @@ impl Line<'_> {
     }
 }
 
-// `construct #1 CLASS`
+// Returns `construct #1 CLASS`.
 fn construct_line(alloc: Global, object: u64, class: &str) -> Result<String, AllocError>
     ensures { IfOk result (λ line. string_bytes line ≡ codes "construct #" ++ (decimal object ++ (codes " " ++ class.now))) }
 {
@@ -198,7 +198,7 @@ fn construct_line(alloc: Global, object: u64, class: &str) -> Result<String, All
     Ok(line)
 }
 
-// `notify #1.p`
+// Returns `notify #1.p`.
 fn notify_line(alloc: Global, object: u64, property: &str) -> Result<String, AllocError>
     ensures { IfOk result (λ line. string_bytes line ≡ codes "notify #" ++ (decimal object ++ (codes "." ++ property.now))) }
 {
@@ -210,7 +210,7 @@ fn notify_line(alloc: Global, object: u64, property: &str) -> Result<String, All
     Ok(line)
 }
 
-// `release a`, or with another word in front
+// Returns `release a`, or the same with another word in front.
 fn named_line(alloc: Global, word: &str, name: &str) -> Result<String, AllocError>
     ensures { IfOk result (λ line. string_bytes line ≡ word.now ++ name.now) }
 {
@@ -220,7 +220,7 @@ fn named_line(alloc: Global, word: &str, name: &str) -> Result<String, AllocErro
     Ok(line)
 }
 
-// `adopt #1 #2`
+// Returns `adopt #1 #2`.
 fn adopt_line(alloc: Global, parent: u64, child: u64) -> Result<String, AllocError>
     ensures { IfOk result (λ line. string_bytes line ≡ codes "adopt #" ++ (decimal parent ++ (codes " #" ++ decimal child))) }
 {
@@ -232,7 +232,7 @@ fn adopt_line(alloc: Global, parent: u64, child: u64) -> Result<String, AllocErr
     Ok(line)
 }
 
-// `dispose #1`, or with another word in front
+// Returns `dispose #1`, or the same with another word in front.
 fn object_line(alloc: Global, word: &str, object: u64) -> Result<String, AllocError>
     ensures { IfOk result (λ line. string_bytes line ≡ word.now ++ decimal object) }
 {
@@ -242,7 +242,7 @@ fn object_line(alloc: Global, word: &str, object: u64) -> Result<String, AllocEr
     Ok(line)
 }
 
-// `emit #1.s::d(V,V)`
+// Returns `emit #1.s::d(V,V)`.
 fn emit_line(
     alloc: Global,
     types: &TypeTree,
@@ -267,7 +267,7 @@ fn emit_line(
     Ok(line)
 }
 
-// `fault p.m(V,V)`, or with another word in front
+// Returns `fault p.m(V,V)`, or the same with another word in front.
 fn call_line(
     alloc: Global,
     types: &TypeTree,
@@ -289,7 +289,7 @@ fn call_line(
     Ok(line)
 }
 
-// `call p.m(V,V) = V`
+// Returns `call p.m(V,V) = V`.
 fn answered_line(
     alloc: Global,
     types: &TypeTree,
@@ -307,7 +307,7 @@ fn answered_line(
     Ok(line)
 }
 
-// `::d`, where there is a detail
+// Appends `::d` if there is a detail.
 fn push_detail(line: &mut String, detail: Option<&str>) -> Result<(), AllocError>
     ensures { OnOk result (string_bytes line.new ≡ string_bytes line.old ++ detail_text (option_map (λ d. d.now) detail.entry)) }
 {
@@ -318,7 +318,7 @@ fn push_detail(line: &mut String, detail: Option<&str>) -> Result<(), AllocError
     line.push_str(detail)
 }
 
-// Values, joined by commas.
+// Appends values, joined by commas.
 fn push_values(
     alloc: Global,
     line: &mut String,
@@ -338,7 +338,7 @@ fn push_values(
     Ok(())
 }
 
-// `result V`
+// Returns `result V`.
 fn result_line(alloc: Global, types: &TypeTree, value: &Value) -> Result<String, AllocError>
     ensures { IfOk result (λ line. string_bytes line ≡ codes "result " ++ text_of_value types.now (value_view value.now)) }
 {
@@ -348,7 +348,7 @@ fn result_line(alloc: Global, types: &TypeTree, value: &Value) -> Result<String,
     Ok(line)
 }
 
-// `end N`
+// Returns `end N`.
 fn end_line(alloc: Global, steps: u64) -> Result<String, AllocError>
     ensures { IfOk result (λ line. string_bytes line ≡ codes "end " ++ decimal steps) }
 {
@@ -358,7 +358,7 @@ fn end_line(alloc: Global, steps: u64) -> Result<String, AllocError>
     Ok(line)
 }
 
-// `set #1.p V`, or with another word in front
+// Returns `set #1.p V`, or the same with another word in front.
 fn value_line(
     alloc: Global,
     types: &TypeTree,
@@ -380,8 +380,8 @@ fn value_line(
     Ok(line)
 }
 
-// A value as it is printed: `TRUE` or `FALSE`, decimal, a text as a compact JSON string, `null`, an enum's nick, flags as a number, `#`
-// and the identity of an object.
+// Appends a value as it is printed: `TRUE` or `FALSE`, a number in decimal, a text as a compact JSON string, an enum as its nick, flags as
+// a number, an object as `#` and its identity, and a null text or object as `null`.
 fn push_value(
     alloc: Global,
     line: &mut String,
@@ -427,7 +427,7 @@ fn push_identity(line: &mut String, object: ObjectId) -> Result<(), AllocError>
     push_unsigned(line, object.0)
 }
 
-// A text as a compact JSON string.
+// Appends a text as a compact JSON string.
 #[tactic(auto, using(crate::proofs::Strings::quoted_json))]
 fn push_quoted(alloc: Global, line: &mut String, text: &str) -> Result<(), AllocError>
     ensures { OnOk result (string_bytes line.new ≡ string_bytes line.old ++ json_string text.now) }

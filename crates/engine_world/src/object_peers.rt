@@ -1,4 +1,4 @@
-//! Which peer an object gets as it is made.
+//! The peer that an object gets as it is made.
 
 ghost use Rattle.std.specs.Prelude.{◌≡◌, ◌<◌, ◌||◌, ℕ, IfOk, IfSome, List, None, Ok, Some, drop, is_some, length, not, slice_get, take};
 ghost use Rattle.ui_machine.specs.Rules.Build.{first_peer};
@@ -22,19 +22,19 @@ use std::alloc::{AllocError, Global};
 use type_tree::TypeId;
 use ui_machine::Place;
 
-/// The peer for a new object of a prototype.
+/// The peer that a new object of a prototype gets.
 #[derive(Clone, Copy, Debug, PartialEq, Eq)]
 pub enum NewPeer {
     /// The object's class has no shape.
     NotWanted,
-    /// The first of the prototype's that no object has got, by its number.
+    /// The number of the first of the prototype's peers that no object has got.
     Left(usize),
-    /// Objects have got all of the prototype's.
+    /// Objects have got all of the prototype's peers.
     NoneLeft,
 }
 
 impl NewPeer {
-    /// Whether there is a peer for the object, if it wants one.
+    /// Returns whether there is a peer for the object, or it wants none.
     pub fn is_there(self) -> bool
         ensures { result ≡ is_there self }
     {
@@ -44,7 +44,7 @@ impl NewPeer {
         }
     }
 
-    /// The peer that the object takes.
+    /// Returns the number of the peer that the object takes, if it takes one.
     pub fn number(self) -> Option<usize>
         ensures { result ≡ taken self }
     {
@@ -55,14 +55,14 @@ impl NewPeer {
     }
 }
 
-// Whether an object of the class has a peer.
+// Returns whether objects of the class have peers.
 fn has_shape(definition: &Definition, class: TypeId) -> bool
     ensures { result ≡ has_shape definition.now class }
 {
     definition.shape_number(class).is_some()
 }
 
-// The numbers of the peers that a place names.
+// Returns the numbers of the peers that a place names, or no numbers if none are kept for the place.
 pub(crate) fn numbers_at(numbers: &[Vec<Option<usize>>], place: Place) -> &[Option<usize>]
     ensures { IfSome (slice_get numbers.now place.0) (λ kept. result.now ≡ kept.items) }
 {
@@ -72,7 +72,7 @@ pub(crate) fn numbers_at(numbers: &[Vec<Option<usize>>], place: Place) -> &[Opti
     }
 }
 
-// The first of these numbers.
+// Returns the first of these numbers, if there is one.
 fn first_number(numbers: &[Option<usize>]) -> Option<usize>
     ensures { (peers : List Peer) (names : List (List ℕ)) → Numbered peers names numbers.now → result ≡ first_peer peers names }
 {
@@ -82,7 +82,7 @@ fn first_number(numbers: &[Option<usize>]) -> Option<usize>
     }
 }
 
-/// The peer that the object at a place of the build has for its own: it has one where its class has a shape.
+/// Returns the number of the peer that the object at a place of the build has for its own. It has one if its class has a shape.
 pub fn own_peer(engine: &Engine, definition: &Definition, place: Place) -> Option<usize>
     requires able { Able (own_peer definition.now (world_of engine.now.world) place.0) }
     requires numbered { AreNumbered definition.now engine.now.world.seats engine.now.world.peer_numbers.items }
@@ -94,7 +94,7 @@ pub fn own_peer(engine: &Engine, definition: &Definition, place: Place) -> Optio
     first_number(numbers_at(&engine.world.peer_numbers, place))
 }
 
-// The number that is kept of a place, and 0 where none is.
+// Returns the number that is kept for a place, or 0 if none is.
 fn number_at(numbers: &[usize], place: Place) -> usize
     ensures { result ≡ read 0 numbers.now place.0 }
 {
@@ -106,7 +106,7 @@ fn number_at(numbers: &[usize], place: Place) -> usize
     }
 }
 
-// The numbers from one on.
+// Returns the numbers from index `from` on, or no numbers if there are fewer.
 fn numbers_from(numbers: &[Option<usize>], from: usize) -> &[Option<usize>]
     ensures { result.now ≡ drop from numbers.now }
 {
@@ -116,7 +116,7 @@ fn numbers_from(numbers: &[Option<usize>], from: usize) -> &[Option<usize>]
     }
 }
 
-// The first of the peers of a place that no object has got.
+// Returns the first of the peers of a place that no object has got, if one is left.
 fn peer_left(engine: &Engine, place: Place) -> Option<usize>
     ensures left { (d : definition.Definition) (p : machine.Place) → slice_get d.places place.0 ≡ Some p → PassesIn d engine.now.world → result ≡ peer_left (world_of engine.now.world) p }
     ensures within { IfSome result (λ number. number < length engine.now.world.seats) }
@@ -126,8 +126,8 @@ fn peer_left(engine: &Engine, place: Place) -> Option<usize>
     engine.world.seats.first_left(numbers_from(numbers, got))
 }
 
-/// Counts anew how many peers of a place, whose numbers these are, are not left, from where the count ended before. So all that is made of a
-/// prototype goes through its peers once.
+/// Counts anew how many peers of a place are not left, from where the count ended before. So all objects that are made of a prototype go
+/// through its peers once. `numbers` are the numbers of the place's peers.
 pub(crate) fn count_got(
     got: &mut Vec<usize>,
     seats: &Seats,
@@ -147,7 +147,7 @@ pub(crate) fn count_got(
     }
 }
 
-/// The peer for a new object of the prototype at a place.
+/// Returns the peer for a new object of the prototype at a place.
 pub fn new_peer(
     engine: &Engine,
     definition: &Definition,
@@ -169,7 +169,7 @@ pub fn new_peer(
     }
 }
 
-// The numbers of the peers of these names.
+// Returns the numbers of the peers with these names, with None for a name that no peer has.
 fn numbers_of(
     alloc: Global,
     seats: &Seats,
@@ -184,7 +184,7 @@ fn numbers_of(
     Ok(numbers)
 }
 
-// The numbers of the peers that a place names.
+// Returns the numbers of the peers that a place names, or no numbers if nothing is at the place.
 fn numbers_for(
     alloc: Global,
     definition: &Definition,
@@ -199,7 +199,7 @@ fn numbers_for(
     }
 }
 
-/// The numbers of the peers that each place names.
+/// Returns the numbers of the peers that each place names, by place.
 ///
 /// # Errors
 ///

@@ -1,4 +1,4 @@
-//! Objects that are made: with their defaults, and with what their construction has still to do.
+//! The making of objects, with their defaults and with the steps of their construction.
 
 ghost use Rattle.std.specs.Prelude.{◌≡◌, ◌<◌, suc, length, ℕ, cond, [], ◌∷◌, ◌++◌, map, None, Some, OnOk, OnErr, IfOk, IfSome, IsSome, Bool};
 ghost use Rattle.engine_world.specs.Able.{Able};
@@ -34,10 +34,10 @@ use std::alloc::{AllocError, Global};
 use type_tree::TypeId;
 use ui_machine::{ObjectId, Place, Slot};
 
-// The type under which objects begin floating.
+// The number of the type `GInitiallyUnowned`, whose objects begin floating.
 const INITIALLY_UNOWNED: u16 = 1;
 
-/// An object that was made: what its construction has still to do, and what it begins with: the object gets its peer, and its line is said.
+/// A new object with the steps of its construction, and what the construction begins with: the object gets its peer, and its line is said.
 #[derive(Drop)]
 pub struct NewObject {
     pub object: ObjectId,
@@ -46,7 +46,7 @@ pub struct NewObject {
     pub line: String,
 }
 
-// One more object with these values, under the next identity, which floats if its class says so, and is to get this peer.
+// Makes an object with these values under the next identity. It floats if its class is a `GInitiallyUnowned`, and it is to get this peer.
 fn create_object(
     engine: &mut Engine,
     definition: &Definition,
@@ -73,11 +73,11 @@ fn create_object(
     Ok(id)
 }
 
-/// The object of a place is made. It gets this peer, and its line is said, as its construction begins.
+/// Makes the object of a place. It gets this peer, and its line is said, as its construction begins.
 ///
 /// # Errors
 ///
-/// `AllocError` if no memory is found.
+/// `AllocError` if memory is refused.
 #[tactic(auto, unfolding(ui_machine::specs::Rules::Construction::making))]
 pub fn make(
     engine: &mut Engine,
@@ -131,8 +131,8 @@ pub fn make(
     })
 }
 
-/// The construction of a new object begins: it gets its peer, its line is said, and what is to be done goes before the other tasks. At its end
-/// the builder holds the object, if it is to be held.
+/// Begins the construction of a new object: it gets its peer, its line is said, and the steps of the construction go before the other
+/// tasks. If `held`, the builder holds the object at the end.
 ///
 /// # Errors
 ///
@@ -167,7 +167,7 @@ pub fn begin_construction(engine: &mut Engine, new: NewObject, held: bool) -> Re
     Ok(())
 }
 
-// A new object gets a peer, if there is one for it.
+// Gives a peer to a new object, if there is one for it.
 fn lend(seats: &mut Seats, peer: Option<usize>, object: ObjectId)
     requires { IfSome peer (λ number. number < length seats.now) }
     ensures { seats.new ≡ lent peer object.0 seats.old }
@@ -177,7 +177,7 @@ fn lend(seats: &mut Seats, peer: Option<usize>, object: ObjectId)
     }
 }
 
-// One more object in a table, which begins floating or not.
+// Adds an object to a table, floating or not. The table is unchanged after an error.
 fn add(table: &mut Table, object: Object, floats: bool) -> Result<ObjectId, AllocError>
     requires identity { length table.now.objects < most_identities }
     requires childless { object.children ≡ [] }
@@ -192,7 +192,7 @@ fn add(table: &mut Table, object: Object, floats: bool) -> Result<ObjectId, Allo
     }
 }
 
-// The defaults of a class's properties, by slot.
+// Returns the defaults of the properties of a class, by slot.
 fn defaults(alloc: Global, definition: &Definition, class: TypeId) -> Result<Vec<Value>, AllocError>
     ensures { IfOk result (λ values. map value_view values.items ≡ map (λ (s : machine.Spec). s.default) (specs_of definition.now class)) }
 {

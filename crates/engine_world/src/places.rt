@@ -1,4 +1,4 @@
-//! The places of a definition: what is there, and how they are gone through.
+//! The places of a definition, what is at each, and their order.
 
 ghost use Rattle.std.specs.Prelude.{◌≡◌, ◌<◌, ◌≤◌, false, true, suc, map, option_map, slice_get};
 ghost use Rattle.definition_format.specs.Meaning.{object_count};
@@ -10,14 +10,14 @@ use ui_machine::Place;
 /// The first place.
 pub const FIRST_PLACE: Place = Place(0);
 
-/// The object or prototype at a place, if there is one.
+/// Returns the object or prototype at a place, if there is one.
 pub fn entry_at(definition: &Definition, place: Place) -> Option<ObjectEntry<'_>>
     ensures { option_map entry_view result ≡ slice_get definition.now.places place.0 }
 {
     definition.object(usize::from(place.0))
 }
 
-/// Whether an object is at a place: prototypes come after all objects.
+/// Returns whether an object is at a place. Prototypes come after all objects.
 pub fn is_object(definition: &Definition, place: Place) -> bool
     ensures within { result ≡ true → place.0 < object_count definition.now }
     ensures past { result ≡ false → object_count definition.now ≤ place.0 }
@@ -25,7 +25,7 @@ pub fn is_object(definition: &Definition, place: Place) -> bool
     usize::from(place.0) < definition.object_count()
 }
 
-/// The place of an object by its number among a definition's.
+/// Returns the place of the object with this number in the definition.
 pub fn place_numbered(definition: &Definition, number: usize) -> Place
     requires { number < object_count definition.now }
     ensures { result.0 ≡ number }
@@ -36,7 +36,7 @@ pub fn place_numbered(definition: &Definition, number: usize) -> Place
     Place(number as u16)
 }
 
-/// The place behind that of an object.
+/// Returns the place after `place`, which has to be the place of an object.
 pub fn next_place(definition: &Definition, place: Place) -> Place
     requires { place.0 < object_count definition.now }
     ensures { result.0 ≡ suc place.0 }

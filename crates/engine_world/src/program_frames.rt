@@ -1,4 +1,4 @@
-//! Programs that run: what their registers hold, and the results that they wait for.
+//! The frames of running programs: what their registers hold, and the results that they wait for.
 
 ghost use Rattle.std.specs.Prelude.{◌≡◌, ℕ, ◌+◌, ◌≤◌, List, [], ◌∷◌, None, Some, Ok, option_map, OnOk};
 ghost use Rattle.std.specs.Option.{IsSomeAnd};
@@ -29,7 +29,7 @@ use g_values::Value;
 use instance_tables::Table;
 use std::alloc::AllocError;
 
-/// Writes a register, or unsets it. What it names then is held, and what it named is let go.
+/// Writes a value to a register, or unsets it. The object that the register names then is held, and the one that it named before is let go.
 #[inline(always)]
 pub fn put(table: &mut Table, frame: &mut Frame, to: Register, value: Option<Value>)
     requires able { Able (with_register to.0 (option_map value_view value) (frame_view frame.now).registers) }
@@ -45,8 +45,8 @@ pub fn put(table: &mut Table, frame: &mut Frame, to: Register, value: Option<Val
     let_go_any(table, register_named(&held));
 }
 
-/// The program that is the first task takes its next instruction, and writes a register, or unsets it, where it lies. What the register names
-/// then is held, and what it named is let go.
+/// Takes the next instruction of the program that is the first task, and writes one of its registers in place, or unsets it. The object
+/// that the register names then is held, and the one that it named before is let go.
 #[inline(always)]
 pub fn put_first(
     engine: &mut Engine,
@@ -72,7 +72,7 @@ pub fn put_first(
     let_go_any(&mut engine.world.table, register_named(&held));
 }
 
-/// Puts the rest of a program before the other tasks, in the room that is there. It goes on to hold what its registers name.
+/// Puts the rest of a program before the other tasks, in the room that is there. The objects that its registers name stay held.
 #[inline(always)]
 pub fn push_frame(engine: &mut Engine, frame: Frame)
     requires room { HasRoom 1 engine.now }
@@ -85,7 +85,7 @@ pub fn push_frame(engine: &mut Engine, frame: Frame)
     engine.stack.push(Task::Running(frame));
 }
 
-// A program goes on with a result in the register that waited for it.
+// Writes a result to the register that waited for it, and puts the program before the other tasks.
 fn receive(engine: &mut Engine, mut frame: Frame, to: Register, value: Value)
     requires able { Able (with_register to.0 (Some (value_view value)) (frame_view frame).registers) }
     requires held { (o : ℕ) → in_frame o (frame_view frame) ≤ count_of engine.now.world.table.counts o }
@@ -102,7 +102,7 @@ fn receive(engine: &mut Engine, mut frame: Frame, to: Register, value: Value)
     push_frame(engine, frame);
 }
 
-// A program takes the result of the emission above it, if it waits for one.
+// Gives the result of the emission above it to a program, if the program waits for one, and puts the program before the other tasks.
 fn pass_to(engine: &mut Engine, frame: Frame, value: &Option<Value>) -> Result<(), AllocError>
     requires able { Able (taken (option_map number_of frame.into) (frame_view frame) [] (option_map value_view value.now)) }
     requires held { (o : ℕ) → in_frame o (frame_view frame) ≤ count_of engine.now.world.table.counts o }
@@ -125,7 +125,7 @@ fn pass_to(engine: &mut Engine, frame: Frame, value: &Option<Value>) -> Result<(
     Ok(())
 }
 
-/// The answer of a peer goes to the task below its call: the program that called takes it.
+/// Gives the answer of a peer to the task below its call, which is the program that called.
 pub fn pass_answer(engine: &mut Engine, definition: &Definition, to: Register, value: Value)
     requires able { Able (received (agenda_of definition.now engine.now) to.0 (Some (value_view value))) }
     requires held { HoldsTasks definition.now engine.now }
@@ -146,11 +146,11 @@ pub fn pass_answer(engine: &mut Engine, definition: &Definition, to: Register, v
     receive(engine, frame, to, value);
 }
 
-/// The result of an emission goes to the task below it: a program that waits for it takes it.
+/// Gives the result of an emission to the task below it, if that is a program that waits for it.
 ///
 /// # Errors
 ///
-/// `AllocError` if no memory is found.
+/// `AllocError` if memory is refused.
 pub fn pass_down(
     engine: &mut Engine,
     definition: &Definition,

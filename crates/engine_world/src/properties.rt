@@ -1,4 +1,4 @@
-//! What is looked up of living objects: the specs of their properties.
+//! The specs of the properties of living objects.
 
 ghost use Rattle.std.specs.Prelude.{◌≡◌, Ok};
 ghost use Rattle.ui_machine.specs.Rules.Sets.{spec_at};
@@ -12,7 +12,7 @@ use definitions::Definition;
 use param_specs::Spec;
 use ui_machine::{ObjectId, Slot};
 
-/// The spec of a living object's property.
+/// Returns the spec of a property of a living object.
 #[tactic(auto, unfolding(ui_machine::specs::Rules::Sets::spec_at))]
 pub fn spec_of<'a>(
     engine: &Engine,

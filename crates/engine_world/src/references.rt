@@ -1,8 +1,8 @@
-//! What holds an object.
+//! The references that hold objects.
 //!
-//! The table counts how often each object is held. A property and a parent hold by the table itself; the builder holds what it has
-//! built, and a task holds its object from when it comes before the others until it is done. An emission holds its arguments, and the value
-//! that it has accumulated, from its beginning to its end, and a program what its registers name.
+//! The table counts how often each object is held, and counts by itself what properties and parents hold. The builder holds what it has
+//! built. A task holds its object from when it comes before the others until it is done. An emission holds its arguments and the value that
+//! it has accumulated from its beginning to its end, and a program holds what its registers name.
 
 ghost use Rattle.std.specs.Prelude.{◌≡◌, ℕ, ◌+◌, ◌<◌, ◌≤◌, ◌^◌, List, ◌∷◌, map, option_map, None, true, IsSome};
 ghost use Rattle.ui_machine.specs.Definition as machine;
@@ -26,7 +26,7 @@ use instance_tables::Table;
 use signal_core::Cursor;
 use ui_machine::ObjectId;
 
-/// Holds an object, if there is one, once more. It lives, and may be held so.
+/// Holds an object once more, if there is one. It has to live, and its count must not be at its end.
 #[inline(always)]
 pub fn hold_any(table: &mut Table, id: Option<ObjectId>)
     requires may { MayHold table.now (λ o. in_option o (id_of id)) }
@@ -39,7 +39,7 @@ pub fn hold_any(table: &mut Table, id: Option<ObjectId>)
     table.hold(id);
 }
 
-/// Lets an object go, if there is one.
+/// Lets an object go once, if there is one.
 #[inline(always)]
 pub fn let_go_any(table: &mut Table, id: Option<ObjectId>)
     requires held { (o : ℕ) → in_option o (id_of id) ≤ count_of table.now.counts o }
@@ -52,7 +52,7 @@ pub fn let_go_any(table: &mut Table, id: Option<ObjectId>)
     table.let_go(id);
 }
 
-/// The object that a value names, if it names one.
+/// Returns the object that a value names, if it names one.
 pub fn named(value: &Value) -> Option<ObjectId>
     ensures { id_of result ≡ named_by (value_view value.now) }
 {
@@ -62,7 +62,7 @@ pub fn named(value: &Value) -> Option<ObjectId>
     }
 }
 
-/// Holds each object that one of these values names once more.
+/// Holds once more each object that one of these values names.
 fn hold_values(table: &mut Table, values: &[Value])
     requires may { MayHold table.now (λ o. total (in_value o) (map value_view values.now)) }
     ensures only { OnlyCounts table.old table.new }
@@ -73,7 +73,7 @@ fn hold_values(table: &mut Table, values: &[Value])
     }
 }
 
-/// Lets each object go that one of these values names.
+/// Lets go each object that one of these values names.
 pub fn let_go_values(table: &mut Table, values: &[Value])
     requires held { (o : ℕ) → total (in_value o) (map value_view values.now) ≤ count_of table.now.counts o }
     ensures only { OnlyCounts table.old table.new }
@@ -84,7 +84,7 @@ pub fn let_go_values(table: &mut Table, values: &[Value])
     }
 }
 
-/// The object that an emission's accumulated value names, if it names one.
+/// Returns the object that an emission's accumulated value names, if it names one.
 pub fn accumulated(cursor: &Cursor) -> Option<ObjectId>
     ensures { (o : ℕ) → in_option o (id_of result) ≡ in_register o cursor.now.value }
 {
@@ -95,7 +95,7 @@ pub fn accumulated(cursor: &Cursor) -> Option<ObjectId>
 }
 
 impl Task {
-    /// The object that a task holds, if it holds one. It is let go once the task is done.
+    /// Returns the object that a task holds, if it holds one. It is let go once the task is done.
     pub fn object(&self) -> Option<ObjectId>
         ensures { (d : machine.Definition) (hs : List Handler) (o : ℕ) → in_option o (id_of result) ≡ in_subject o (task_of d hs self.now) }
     {
@@ -121,7 +121,7 @@ impl Task {
     }
 }
 
-/// The object that a register names, if it names one.
+/// Returns the object that a register names, if it names one.
 pub(crate) fn register_named(register: &Option<Value>) -> Option<ObjectId>
     ensures { (o : ℕ) → in_option o (id_of result) ≡ in_register o (option_map value_view register.now) }
 {
@@ -131,7 +131,7 @@ pub(crate) fn register_named(register: &Option<Value>) -> Option<ObjectId>
     }
 }
 
-// Holds each object that one of these registers names once more.
+// Holds once more each object that one of these registers names.
 fn hold_registers(table: &mut Table, registers: &[Option<Value>])
     requires may { MayHold table.now (λ o. total (in_register o) (registers_of registers.now)) }
     ensures only { OnlyCounts table.old table.new }
@@ -142,7 +142,7 @@ fn hold_registers(table: &mut Table, registers: &[Option<Value>])
     }
 }
 
-/// Lets each object go that one of these registers names.
+/// Lets go each object that one of these registers names.
 pub fn let_go_registers(table: &mut Table, registers: &[Option<Value>])
     requires held { (o : ℕ) → total (in_register o) (registers_of registers.now) ≤ count_of table.now.counts o }
     ensures only { OnlyCounts table.old table.new }
@@ -153,7 +153,8 @@ pub fn let_go_registers(table: &mut Table, registers: &[Option<Value>])
     }
 }
 
-// Holds what an emission holds beside its object, and what the registers of a program name.
+// Holds what a task names beside its own object: the arguments and the accumulated value of an emission, the arguments of a call, and the
+// registers of a program.
 fn hold_given(table: &mut Table, task: &Task)
     requires may { (d : machine.Definition) (hs : List Handler) → MayHold table.now (λ o. in_given o (task_of d hs task.now)) }
     ensures only { OnlyCounts table.old table.new }
@@ -191,8 +192,9 @@ fn hold_emitted(table: &mut Table, cursor: &Cursor, args: &[Value])
     hold_any(table, accumulated(cursor));
 }
 
-/// Where each object is counted as often as it is mentioned, no count is at its end, so that what lives may be held once more: what is counted
-/// is kept in lists, and no list is longer than memory. What does not live is not counted. It looks at no object.
+/// Shows the prover that what lives may be held once more: where each object is counted as often as it is mentioned, no count is at its
+/// end, since what is counted is kept in lists, and no list is longer than memory. What does not live is not counted. It looks at no
+/// object.
 pub fn never_full(engine: &Engine)
     ensures may { (d : machine.Definition) → IsCounted d engine.now → (o : ℕ) → IsSome (living engine.now.world.table.objects o) → may_hold engine.now.world.table o ≡ true }
     ensures room { (d : machine.Definition) → IsCounted d engine.now → (o : ℕ) → count_of engine.now.world.table.counts o + 2 ^ 64 < 2 ^ 128 }
@@ -203,7 +205,7 @@ pub fn never_full(engine: &Engine)
     engine.world.table.next_unheld();
 }
 
-/// Puts a task before the others, in the room that is there. It holds its objects from then on: they live.
+/// Puts a task before the others, in the room that is there. From then on it holds its objects, which have to live.
 pub fn push_task(engine: &mut Engine, task: Task)
     requires begun { TakesKnownHandlers engine.now.world.handlers.last task }
     requires may { MayPush engine.now task }

@@ -1,4 +1,4 @@
-//! Which requests are refused: those that name an object that the builder has let go.
+//! The refusal of requests that name an object which the builder has let go.
 
 ghost use Rattle.std.specs.Prelude.{◌≡◌, map};
 ghost use Rattle.std.specs.List.{list_any};
@@ -12,14 +12,14 @@ use definition_format::{Given, Request};
 use ui_machine::Place;
 
 impl World {
-    // Whether the builder has let the object of a place go.
+    // Returns whether the builder has let the object of a place go.
     fn is_released(&self, place: Place) -> bool
         ensures { result ≡ is_released (builder_entry (world_of self.now) place.0) }
     {
         self.held(place).is_released()
     }
 
-    // Whether what is given names such an object.
+    // Returns whether what is given is an object that the builder has let go.
     fn gives_released(&self, given: &Given) -> bool
         ensures { result ≡ gives_released (world_of self.now) (given_view given.now) }
     {
@@ -29,7 +29,7 @@ impl World {
         }
     }
 
-    // Whether something of what is given names such an object.
+    // Returns whether something of what is given is an object that the builder has let go.
     fn any_released(&self, given: &[Given]) -> bool
         ensures { result ≡ list_any (gives_released (world_of self.now)) (map given_view given.now) }
     {
@@ -43,7 +43,7 @@ impl World {
         false
     }
 
-    /// Whether a request names an object that the builder has let go, in any position.
+    /// Returns whether a request names an object that the builder has let go, in any position.
     pub fn names_released(&self, request: &Request) -> bool
         ensures { result ≡ names_released (world_of self.now) (request_of request.now) }
     {

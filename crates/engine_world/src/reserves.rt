@@ -1,4 +1,4 @@
-//! The room that a run reserves for what is not done yet.
+//! The room that a run reserves before it begins, and the vectors that have it.
 
 ghost use Rattle.std.specs.Prelude.{◌≡◌, ◌<◌, [], length, IfSome};
 
@@ -6,8 +6,9 @@ use std::alloc::{AllocError, Global};
 use std::marker::Model;
 use std::mem;
 
-/// How much room a run has: for so many tasks; for so many programs and emissions at a time, with so many registers or arguments each; for so
-/// many constructions at a time, with so many steps each; and for one emission of each of these numbers of arguments, where that is more.
+/// The room that a run reserves: for `tasks` tasks, for `frames` programs and emissions at a time with `width` registers or arguments each,
+/// and for `constructions` constructions at a time with `steps` steps each. Beside these it has room for one emission of each number of
+/// arguments in `wide_emissions`, where that is more.
 #[derive(Debug, Drop)]
 pub struct Room {
     pub tasks: usize,
@@ -18,17 +19,17 @@ pub struct Room {
     pub wide_emissions: Vec<usize>,
 }
 
-// Vectors of one room, and of more.
+// Vectors that have the same room, and vectors that have more.
 #[derive(Drop)]
 struct Vectors<T> {
-    // Those of one room.
+    // The vectors that have `room` each.
     plain: Vec<Vec<T>>,
     room: usize,
-    // Those of more room each, and one without any at the place of each that is in use.
+    // The vectors that have more room each. At the place of one that is in use is a vector without room.
     wide: Vec<Vec<T>>,
 }
 
-/// Vectors that are not in use. They are empty, and keep their room. A contract sees nothing of them.
+/// A stock of vectors that are not in use. They are empty, and keep their room. Contracts see nothing of them.
 #[derive(Drop)]
 pub struct Spare<T> {
     vectors: Box<Vectors<T>>,
@@ -45,7 +46,7 @@ impl<T> Model for Spare<T> {
 }
 
 impl<T: Drop> Spare<T> {
-    /// So many vectors, each with so much room.
+    /// Creates a stock of `count` vectors, each with room for `room` values.
     ///
     /// # Errors
     ///
@@ -60,7 +61,7 @@ impl<T: Drop> Spare<T> {
         Ok(Spare { vectors })
     }
 
-    /// One vector more for each of these numbers, with so much room.
+    /// Adds a vector for each of these numbers, with room for so many values.
     ///
     /// # Errors
     ///
@@ -72,7 +73,7 @@ impl<T: Drop> Spare<T> {
         Ok(())
     }
 
-    /// Takes a vector. It has the reserved room, while fewer are in use than were made.
+    /// Takes a vector. It has the reserved room while fewer are in use than were made.
     pub fn take(&mut self, alloc: Global) -> Vec<T>
         ensures { result.items ≡ [] }
     {
@@ -82,7 +83,8 @@ impl<T: Drop> Spare<T> {
         }
     }
 
-    /// Takes a vector for so many values: where the others have not enough room, the one of the least room that has enough, if one is there.
+    /// Takes a vector for `count` values. If these need more than the usual room, it is the vector with the least room that is enough, if
+    /// there is one, and otherwise a new one without room.
     pub fn take_for(&mut self, alloc: Global, count: usize) -> Vec<T>
         ensures { result.items ≡ [] }
     {
@@ -95,7 +97,7 @@ impl<T: Drop> Spare<T> {
         }
     }
 
-    /// Gives a vector back. What it holds is dropped.
+    /// Gives a vector back, and drops its values. A vector for which the stock has no place is dropped.
     pub fn give_back(&mut self, mut vector: Vec<T>) {
         vector.clear();
         if vector.capacity() > self.vectors.room {
@@ -105,7 +107,7 @@ impl<T: Drop> Spare<T> {
         }
     }
 
-    // Puts a vector where one of more room is in use.
+    // Puts a vector of more than the usual room at the place of one that is in use.
     fn give_back_wide(&mut self, vector: Vec<T>)
         requires { vector.items ≡ [] }
     {
@@ -116,7 +118,7 @@ impl<T: Drop> Spare<T> {
     }
 }
 
-// Where the vector of the least room is that has room for so many values.
+// Returns the index of the vector with the least room that has room for `count` values, if there is one.
 fn narrowest<T>(vectors: &[Vec<T>], count: usize) -> Option<usize>
     ensures { IfSome result (λ at. at < length vectors.now) }
 {

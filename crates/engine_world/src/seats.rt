@@ -16,18 +16,18 @@ use std::collections::BTreeMap;
 use std::marker::Model;
 use ui_machine::ObjectId;
 
-// What the engine knows of a peer.
+// A peer of the pool, as far as the engine knows it.
 #[derive(Drop)]
 pub(crate) struct Seat {
     pub(crate) name: String,
     pub(crate) shape: Shape,
     // Whether the peer may be called.
     pub(crate) is_open: bool,
-    // The object that got the peer.
+    // The object that has got the peer.
     pub(crate) holder: Option<ObjectId>,
 }
 
-/// What the engine knows of a peer, lent.
+/// A borrowed view of a peer, as far as the engine knows it.
 #[derive(Clone, Copy)]
 pub struct SeatRef<'a> {
     pub name: &'a str,
@@ -36,12 +36,12 @@ pub struct SeatRef<'a> {
     pub holder: Option<ObjectId>,
 }
 
-/// The peers of a pool in their order, in which they go by number, each found by its name. The kinds of their methods are plain ones. A
-/// contract sees the machine's peers, of which no calls and no faults are known.
+/// The peers of a pool, numbered in their order and found by their names. The kinds of their methods are plain ones. Contracts see the
+/// machine's peers, of which no calls and no faults are known.
 #[derive(Drop)]
 pub struct Seats {
     seats: Vec<Seat>,
-    // The number of each name.
+    // The number of the peer of each name.
     numbers: BTreeMap<String, usize>,
 }
 
@@ -59,7 +59,7 @@ impl Model for Seats {
 }
 
 impl Seats {
-    /// No peers. It takes no memory.
+    /// Creates seats without any peer. It takes no memory.
     pub fn new(alloc: Global) -> Self
         ensures { result ≡ [] }
     {
@@ -69,18 +69,18 @@ impl Seats {
         }
     }
 
-    /// How many peers there are.
+    /// Returns how many peers there are.
     pub fn len(&self) -> usize
         ensures { result ≡ length self.now }
     {
         self.seats.len()
     }
 
-    /// Adds a peer that no object has got, under a new name.
+    /// Adds a peer that no object has got, under a name that no other peer has.
     ///
     /// # Errors
     ///
-    /// `AllocError` if memory is refused. The peers are as they were.
+    /// `AllocError` if memory is refused. The peers are unchanged then.
     pub fn add(&mut self, name: String, shape: Shape, is_open: bool) -> Result<(), AllocError>
         requires fresh { peer_number self.old (string_bytes name) ≡ None }
         requires plain { IsTrue (is_plain_shape shape) }
@@ -91,7 +91,7 @@ impl Seats {
         let key = String::from_str(alloc, name.as_str())?;
         self.seats.reserve(1)?;
         self.numbers.insert(key, self.seats.len())?;
-        // There is room.
+        // The room was reserved above.
         let Ok(()) = self.seats.push(Seat {
             name,
             shape,
@@ -104,7 +104,7 @@ impl Seats {
         Ok(())
     }
 
-    /// The number of the peer of a name.
+    /// Returns the number of the peer with this name, if there is one.
     pub fn find(&self, name: &str) -> Option<usize>
         ensures found { result ≡ peer_number self.now name.now }
         ensures within { IfSome result (λ number. number < length self.now) }
@@ -112,7 +112,7 @@ impl Seats {
         self.numbers.get(name).copied()
     }
 
-    /// The peer of a number, if there are so many.
+    /// Returns the peer with this number, if there is one.
     pub fn seat(&self, number: usize) -> Option<SeatRef<'_>>
         ensures found { option_map lent_view result ≡ slice_get self.now number }
         ensures plain { IfSome result (λ seat. IsTrue (is_plain_shape seat.shape.now)) }
@@ -126,7 +126,7 @@ impl Seats {
         })
     }
 
-    /// A method of the peer of a number, if they are there. Its kinds are known whatever the types are.
+    /// Returns a method of the peer with this number, if there are both. Its kinds are known whatever the types are.
     pub fn method(&self, number: usize, method: usize) -> Option<MethodRef<'_>>
         ensures found { option_map lent_method result ≡ option_and_then (λ (p : Peer). method_of p method) (slice_get self.now number) }
         ensures known { (types : List GType) → IfSome result (HasKnownKinds types) }
@@ -135,7 +135,7 @@ impl Seats {
         seat.shape.method(method)
     }
 
-    // Whether no object has got the peer of a number.
+    // Returns whether there is a peer with this number and no object has got it.
     fn is_left(&self, number: usize) -> bool
         ensures { result ≡ is_left (slice_get self.now number) }
     {
@@ -145,7 +145,7 @@ impl Seats {
         }
     }
 
-    // The peer of this number, if there is one and no object has got it.
+    // Returns this number if there is a peer with it and no object has got the peer.
     fn left(&self, number: Option<usize>) -> Option<usize>
         ensures found { result ≡ if_left self.now number None }
         ensures within { IfSome result (λ number. number < length self.now) }
@@ -158,7 +158,7 @@ impl Seats {
         }
     }
 
-    /// The first of the peers of these numbers that no object has got. It goes through the numbers from the first one on.
+    /// Returns the first of these numbers whose peer no object has got, if there is one.
     pub(crate) fn first_left(&self, numbers: &[Option<usize>]) -> Option<usize>
         ensures first { result ≡ first_of self.now numbers.now }
         ensures within { IfSome result (λ number. number < length self.now) }
@@ -171,7 +171,8 @@ impl Seats {
         None
     }
 
-    /// How many of these numbers from the first one on are not of peers that are left, where it is known of so many that they are not.
+    /// Returns how many of these numbers, from the first one on, are not of peers that are left. The first `known` of them are known to be
+    /// so, and are not looked at.
     pub(crate) fn got(&self, numbers: &[Option<usize>], known: usize) -> usize
         ensures got { first_of self.now (take known numbers.now) ≡ None → first_of self.now (take result numbers.now) ≡ None }
         ensures all { AreAllGot self.now numbers.now result }
@@ -184,7 +185,7 @@ impl Seats {
         numbers.len()
     }
 
-    /// The peer of a number becomes an object's.
+    /// Gives the peer with this number to an object.
     pub(crate) fn lend(&mut self, number: usize, object: ObjectId)
         requires { number < length self.now }
         ensures { self.new ≡ lent (Some number) object.0 self.old }
@@ -192,7 +193,7 @@ impl Seats {
         self.seats[number].holder = Some(object);
     }
 
-    /// The peer of a number may not be called from now on.
+    /// Marks the peer with this number as closed, so that it is not called from then on.
     pub(crate) fn close(&mut self, number: usize)
         requires { number < length self.now }
         ensures { self.new ≡ closed_at self.old number }

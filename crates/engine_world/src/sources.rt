@@ -20,13 +20,13 @@ use main_context::{AttachError, Context, Due};
 use std::alloc::AllocError;
 use ui_machine::{ObjectId, ProgramId};
 
-/// A source that is to be attached. An idle has no interval; that of a timeout is in milliseconds.
+/// A source that is to be attached. Without an interval it is an idle. The interval of a timeout is in milliseconds.
 #[derive(Clone, Copy, Debug)]
 pub struct NewSource {
     pub program: ProgramId,
     pub priority: i32,
     pub interval: Option<u32>,
-    /// The object that its program is given.
+    /// The object that is given to its program.
     pub arg: Option<ObjectId>,
 }
 
@@ -35,7 +35,7 @@ impl NewSource {
     ghost use Rattle.main_context.specs.Attached.{with_source};
     ghost use Rattle.main_context.specs.Dues.{identity_of};
 
-    // Attaches it to a context.
+    // Attaches the source to a context. The context is unchanged after an error.
     fn attach_to(self, context: &mut Context) -> Result<(), AttachError>
         ensures ok { OnOk result (context.new ≡ with_source context.old self.program self.priority self.interval (identity_of self.arg)) }
         ensures limit { (result ≡ Err AttachError.SourceLimit) ↔ (has_room context.old.sources context.old.last ≡ false) }
@@ -48,7 +48,7 @@ impl NewSource {
     }
 }
 
-/// Attaches a source, which holds its data from then on. It answers whether there was room for one more.
+/// Attaches a source, which holds its data from then on. Returns whether there was room for one more source.
 ///
 /// # Errors
 ///
@@ -94,7 +94,7 @@ pub fn remove_sources(engine: &mut Engine, program: ProgramId)
     remove_each(&mut engine.world.context, &mut engine.world.table, program);
 }
 
-// The data of a source, if it is there and has one.
+// Returns the data of a source, if the source is there and has data.
 fn data_of(due: Option<Due>) -> Option<ObjectId>
     ensures { id_of result ≡ option_and_then (λ d. identity_of d.arg) due }
 {
@@ -104,7 +104,7 @@ fn data_of(due: Option<Due>) -> Option<ObjectId>
     }
 }
 
-/// A source's program has answered whether the source stays. One that does not lets its data go; a timeout that does is due one interval
+/// Carries out what a source's program answered. A source that does not stay lets its data go. A timeout that stays is due one interval
 /// after the latest moment. A source that was removed while its program ran stays removed.
 pub fn answer_source(engine: &mut Engine, source: u64, keep: bool)
     requires held { HoldsSources engine.now }

@@ -16,11 +16,11 @@ use frames::Frame;
 use g_values::Value;
 use std::alloc::{AllocError, Global};
 
-/// The tasks that are left, the first on top, in room that is reserved once. Those of the build lie at the bottom.
+/// The tasks that are left, the first on top, in room that is reserved once. The tasks of the build lie at the bottom.
 #[derive(Drop)]
 pub struct Stack {
     pub tasks: Vec<Task>,
-    // So many from the bottom are looked through for the build's: none of the others is one.
+    // How many tasks from the bottom are looked through for those of the build. No task above them is one.
     pub(crate) lowest: usize,
     ghost within: { lowest ≤ length tasks.items },
     ghost above: { list_any is_of_build (drop lowest tasks.items) ≡ false },
@@ -35,7 +35,7 @@ impl Stack {
     ghost use Rattle.engine_world.specs.KnownHandlers.{AllTakeKnownHandlers, TakesKnownHandlers};
     ghost use Rattle.engine_world.specs.TaskView.{task_of, tasks_of};
 
-    /// Nothing to do, and room for so many tasks.
+    /// Creates an empty stack with room for `most` tasks.
     ///
     /// # Errors
     ///
@@ -64,7 +64,7 @@ impl Stack {
         }
     }
 
-    /// The first task.
+    /// Returns the first task, if there is one.
     pub fn first(&self) -> Option<&Task>
         ensures { (d : machine.Definition) (hs : List Handler) → MatchOption result (tasks_of d hs self.now ≡ [])
             (λ task. (rest : List config.Task) × (tasks_of d hs self.now ≡ task_of d hs task.now ∷ rest)) }
@@ -72,7 +72,7 @@ impl Stack {
         self.tasks.last()
     }
 
-    /// The first task, if it is a program.
+    /// Returns the first task, if it is a program.
     pub fn first_program(&self) -> Option<&Frame>
         ensures { option_map (λ f. f.now) result ≡ first_program self.now.tasks.items }
     {
@@ -85,7 +85,8 @@ impl Stack {
         }
     }
 
-    /// The program that is the first task takes its next instruction, and has another value in a register. Answers what the register held.
+    /// Takes the next instruction of the program that is the first task, and writes or unsets one of its registers. Returns what the
+    /// register held.
     pub fn write_first(
         &mut self,
         program: &Program,
@@ -112,7 +113,7 @@ impl Stack {
         frame.put(to, value)
     }
 
-    /// Takes the first task. Its room is there again.
+    /// Takes the first task off, if there is one. Its room is free again.
     pub fn pop(&mut self) -> Option<Task>
         ensures tasks { (d : machine.Definition) (hs : List Handler) → MatchOption result
             ((tasks_of d hs self.old ≡ []) × (tasks_of d hs self.new ≡ []))
@@ -128,7 +129,7 @@ impl Stack {
         task
     }
 
-    /// Leaves nothing to do.
+    /// Removes all tasks.
     pub fn clear(&mut self)
         ensures tasks { (d : machine.Definition) (hs : List Handler) → tasks_of d hs self.new ≡ [] }
         ensures begun { (last : ℕ) → AllTakeKnownHandlers last self.new }
@@ -139,7 +140,7 @@ impl Stack {
         self.lowest = 0;
     }
 
-    /// The lowest tasks, among which are all of the build: what the build has still to make and to connect is theirs.
+    /// Returns the lowest tasks, among which are all tasks of the build. So all that the build has still to make and to connect is theirs.
     pub fn of_build(&self) -> &[Task]
         ensures { (g : config.Item → ℕ) (d : machine.Definition) (hs : List Handler) → total (of_items g) (map (task_of d hs) result.now) ≡ total (of_items g) (tasks_of d hs self.now) }
     {

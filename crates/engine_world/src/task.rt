@@ -1,4 +1,4 @@
-//! Tasks.
+//! The tasks that a run has to do.
 
 ghost use Rattle.std.specs.Prelude.{◌≡◌, [], ◌∷◌, reverse, map, MatchOption};
 ghost use Rattle.engine_world.specs.TaskView.{making_of_code};
@@ -14,7 +14,7 @@ use std::marker::Model;
 use std::rc::RcStr;
 use ui_machine::{ObjectId, Place, ProgramId, SignalId, Slot};
 
-/// The notifications that are left of a thaw. They are kept the other way round: the last is made first.
+/// The notifications that are left of a thaw. The list is reversed: its last notification is made first.
 #[derive(Drop)]
 pub struct Slots {
     pub queue: Vec<Slot>,
@@ -29,14 +29,14 @@ impl Model for Slots {
 }
 
 impl Slots {
-    /// The notifications of a queue, from its end.
+    /// Creates the notifications of a queue, which are made from its end.
     pub fn new(queue: Vec<Slot>) -> Self
         ensures { result ≡ reverse queue.items }
     {
         Slots { queue }
     }
 
-    /// Takes the next one.
+    /// Takes the next notification, if one is left.
     pub fn take(&mut self) -> Option<Slot>
         ensures { MatchOption result ((self.old ≡ []) × (self.new ≡ [])) (λ slot. self.old ≡ slot ∷ self.new) }
     {
@@ -44,16 +44,16 @@ impl Slots {
     }
 }
 
-/// A step of a construction that is to come.
+/// A step that a construction has still to take.
 #[derive(Drop)]
 pub enum ConstructStep {
     Set { slot: Slot, value: Value },
-    /// A program runs that a class names for its objects.
+    /// Runs a program that a class names for its objects.
     Run { program: ProgramId },
     Thaw,
 }
 
-/// The steps of a construction that are to come, the last of the list first.
+/// The steps that a construction has still to take. The last of the list comes first.
 #[derive(Drop)]
 pub struct ConstructSteps {
     pub steps: Vec<ConstructStep>,
@@ -70,14 +70,14 @@ impl Model for ConstructSteps {
 }
 
 impl ConstructSteps {
-    /// The steps of a list, from its end.
+    /// Creates the steps of a list, which are taken from its end.
     pub fn new(steps: Vec<ConstructStep>) -> Self
         ensures { result ≡ reverse (map making_of_code steps.items) }
     {
         ConstructSteps { steps }
     }
 
-    /// Takes the next one.
+    /// Takes the next step, if one is left.
     pub fn take(&mut self) -> Option<ConstructStep>
         ensures { MatchOption result ((self.old ≡ []) × (self.new ≡ [])) (λ step. self.old ≡ making_of_code step ∷ self.new) }
     {
@@ -85,16 +85,16 @@ impl ConstructSteps {
     }
 }
 
-/// What is given to a property of an object of the builder: an object that comes later, or the object itself.
+/// A property of an object of the builder that is given an object which comes later, or the object itself.
 #[derive(Clone, Copy, Debug)]
 pub struct ForwardReference {
-    /// The place of the object whose property it is.
+    /// The place of the object that has the property.
     pub object: Place,
     pub slot: Slot,
     pub to: Place,
 }
 
-/// The forward references that are to be set, the last of the list first.
+/// The forward references that are still to be set. The last of the list comes first.
 #[derive(Drop)]
 pub struct ForwardReferences {
     pub references: Vec<ForwardReference>,
@@ -110,14 +110,14 @@ impl Model for ForwardReferences {
 }
 
 impl ForwardReferences {
-    /// The references of a list, from its end.
+    /// Creates the references of a list, which are taken from its end.
     pub fn new(references: Vec<ForwardReference>) -> Self
         ensures { result ≡ reverse references.items }
     {
         ForwardReferences { references }
     }
 
-    /// Takes the next one.
+    /// Takes the next reference, if one is left.
     pub fn take(&mut self) -> Option<ForwardReference>
         ensures { MatchOption result ((self.old ≡ []) × (self.new ≡ [])) (λ forward. self.old ≡ forward ∷ self.new) }
     {
@@ -132,17 +132,17 @@ pub struct NewEmission {
     pub object: ObjectId,
     /// The signal, by its number in the list of the object's class.
     pub signal: SignalId,
-    /// The detail, as it is at the signal.
+    /// The detail, as it is kept for the signal.
     pub detail: Option<RcStr>,
     pub args: Vec<Value>,
-    /// Whether an event emits, which reports the result.
+    /// Whether an event emits the signal and reports the result.
     pub by_event: bool,
 }
 
 /// The transfers of bindings that an emission has still to make. They are taken as a notification begins.
 #[derive(Drop)]
 pub enum Transfers {
-    /// Their turn is to come among the others.
+    /// Their turn among the others is still to come.
     Ahead(DueTransfers),
     /// They come before all turns that are left.
     Due(DueTransfers),
@@ -151,14 +151,14 @@ pub enum Transfers {
 impl Transfers {
     ghost use Rattle.engine_world.specs.declared.task.Transfers.TheVariants as at;
 
-    /// No transfers.
+    /// Creates an empty list of transfers.
     pub fn new(alloc: Global) -> Self
         ensures { result ≡ at.Due [] }
     {
         Transfers::Due(DueTransfers::new(alloc))
     }
 
-    /// No transfers, in the list of these.
+    /// Removes all transfers, and keeps the list for reuse.
     pub fn emptied(self) -> Self
         ensures { result ≡ at.Due [] }
     {
@@ -167,7 +167,7 @@ impl Transfers {
         Transfers::Due(due)
     }
 
-    /// Those that are left, whenever their turn is.
+    /// Returns the transfers that are left, whenever their turn is.
     pub fn into_due(self) -> DueTransfers {
         match self {
             Transfers::Ahead(due) => due,
@@ -176,7 +176,7 @@ impl Transfers {
     }
 }
 
-/// A call of a peer that is due: the object whose peer it is, the peer and its method by their numbers, the arguments, and the register that
+/// A call of a peer that is due: the object that has the peer, the numbers of the peer and its method, the arguments, and the register that
 /// waits for the answer.
 #[derive(Drop)]
 pub struct DueCall {
@@ -187,7 +187,7 @@ pub struct DueCall {
     pub to: Register,
 }
 
-/// What there is to do.
+/// A task that is to be done.
 #[derive(Drop)]
 pub enum Task {
     /// A set is due.
@@ -210,12 +210,12 @@ pub enum Task {
         by_event: bool,
         transfers: Transfers,
     },
-    /// A binding is to set one of its ends, by its number: its target, or back its source.
+    /// A binding, given by its number, is to set one of its ends: its target, or its source if `back`.
     Transferring {
         number: u64,
         back: bool,
     },
-    /// What a binding set has ended, so that it no longer sets.
+    /// The set that a binding made has ended, so that the binding no longer sets.
     Unsetting {
         number: u64,
     },
@@ -244,16 +244,16 @@ pub enum Task {
         place: Place,
         forwards: ForwardReferences,
     },
-    /// The bindings of the definition are made from one on, and then the signals are connected.
+    /// The bindings of the definition are made from this number on, and then the signals are connected.
     Binding {
         number: usize,
     },
-    /// The signals of an object are connected from one on, and then those of the objects behind it.
+    /// The signals of an object are connected from this number on, and then those of the objects behind it.
     Connecting {
         place: Place,
         number: usize,
     },
-    /// A source whose program runs. What the program answers says whether the source stays.
+    /// A source whose program runs. The answer of the program decides whether the source stays.
     Answering {
         source: u64,
     },
@@ -270,7 +270,7 @@ pub enum Task {
 impl Task {
     ghost use Rattle.engine_world.specs.BuildTasks.{is_of_build};
 
-    /// Whether it is the rest of the build.
+    /// Returns whether the task is the rest of the build.
     pub fn is_of_build(&self) -> bool
         ensures { result ≡ is_of_build self.now }
     {

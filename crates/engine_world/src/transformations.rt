@@ -1,4 +1,4 @@
-//! What a value becomes on its way from one property to another (GObject manual, GValue: `g_value_transform`; GBinding).
+//! The transformation of a value on its way from one property to another (GObject manual, GValue: `g_value_transform`, and GBinding).
 
 ghost use Rattle.std.specs.Prelude.{◌≡◌, option_map, IfOk};
 ghost use Rattle.ui_machine.specs.Rules.Transform.{converted, transformed};
@@ -10,7 +10,8 @@ use g_values::{Kind, TransformError, Value, transform, transformable};
 use std::alloc::{AllocError, Global};
 use type_tree::TypeTree;
 
-// The value as it is, where it is of the other kind, its type left aside. An object's class is that of the property, not its own.
+// Returns the value as it is if it and `to` are both objects, both enums or both flags, their types left aside, and None otherwise. The
+// class of an object is that of the property, not its own.
 fn kept_in(value: &Value, to: Kind) -> Option<Value>
     ensures { option_map value_view result ≡ kept_in (value_view value.now) (kind_view to) }
 {
@@ -22,7 +23,7 @@ fn kept_in(value: &Value, to: Kind) -> Option<Value>
     }
 }
 
-// What a value becomes in a kind that its own goes to. Nothing where there is no such member.
+// Returns what a value becomes in a kind that its own goes to, or None if there is no such member.
 fn converted(
     alloc: Global,
     types: &TypeTree,
@@ -43,12 +44,12 @@ fn converted(
     }
 }
 
-/// What a property's value becomes in the kind of another property. Nothing where the one kind does not go to the other, or where there is
-/// no such member. The kinds are those of the properties: a value that names an object knows its own class.
+/// Returns what a property's value becomes in the kind of another property, or None if the one kind does not go to the other or there is no
+/// such member. The kinds are those of the properties, as a value that names an object knows its own class.
 ///
 /// # Errors
 ///
-/// Where there is no memory for a text.
+/// `AllocError` if memory for a text is refused.
 pub fn transformed(
     alloc: Global,
     types: &TypeTree,
@@ -66,7 +67,7 @@ pub fn transformed(
     converted(alloc, types, value, to)
 }
 
-/// The opposite of a truth value, if it is asked for. What is no truth value has none.
+/// Returns the value as it is, or with `invert` the opposite of a truth value. What is no truth value has no opposite.
 pub fn inverted(invert: bool, value: Option<Value>) -> Option<Value>
     ensures { option_map value_view result ≡ inverted invert (option_map value_view value) }
 {

@@ -1,4 +1,4 @@
-//! Which properties of a definition are weak.
+//! The weak properties of a definition.
 
 ghost use Rattle.std.specs.Prelude.{◌≡◌, ◌<◌, length, map, IfOk};
 ghost use Rattle.ui_machine.specs.Seq.{read};
@@ -12,7 +12,7 @@ use std::alloc::{AllocError, Global};
 use type_tree::TypeId;
 use ui_machine::Slot;
 
-// Of each slot of a class, whether it is weak.
+// Returns for each slot of a class whether its property is weak.
 fn weak_of(alloc: Global, definition: &Definition, class: TypeId) -> Result<Vec<bool>, AllocError>
     ensures { IfOk result (λ marks. marks.items ≡ weak_of (specs_of definition.now class)) }
 {
@@ -29,7 +29,7 @@ fn weak_of(alloc: Global, definition: &Definition, class: TypeId) -> Result<Vec<
     }
 }
 
-/// The weak properties of each type.
+/// Returns the weak properties of each type.
 ///
 /// # Errors
 ///

@@ -1,4 +1,4 @@
-//! All but the tasks.
+//! The world of a run, which is all of its state but the tasks.
 
 ghost use Rattle.std.specs.Prelude.{◌≡◌, ◌∷◌, [], ◌++◌, OnOk, OnErr, map, slice_get, string_bytes};
 ghost use Rattle.ui_machine.specs.State.Config.{builder_entry};
@@ -16,32 +16,32 @@ use signal_core::Handlers;
 use std::alloc::AllocError;
 use ui_machine::{ObjectId, Place};
 
-/// The objects, which of their properties are weak, the handlers, the bindings, the sources, what the builder holds of the objects, the peers,
-/// the transcript, and what the event answered.
+/// All of a run's state but the tasks: the objects, which of their properties are weak, the handlers, the bindings, the sources, what the
+/// builder holds of the objects, the peers, the transcript, and what the event answered.
 #[derive(Drop)]
 pub struct World {
     pub table: Table,
     pub weak: WeakSlots,
-    /// What is connected to the objects' signals.
+    /// The handlers that are connected to the objects' signals.
     pub handlers: Handlers,
     /// The bindings that were made.
     pub bindings: Bindings,
     /// The sources of the main context.
     pub context: Context,
-    /// What the builder has of each place, as far as it has built.
+    /// The builder's entry for each place, as far as it has built.
     pub builder: Vec<BuilderEntry>,
     /// The peers of the pool.
     pub seats: Seats,
-    /// Of each place, how many of its peers from the first one on are known not to be left.
+    /// For each place, how many of its peers from the first one on are known not to be left.
     pub got_peers: Vec<usize>,
-    /// Of each place, the numbers of the peers that it names.
+    /// For each place, the numbers of the peers that it names.
     pub peer_numbers: Vec<Vec<Option<usize>>>,
     pub transcript: Vec<String>,
     pub result: Option<Value>,
 }
 
 impl World {
-    /// One more line.
+    /// Appends a line to the transcript. The world is unchanged after an error.
     ///
     /// # Errors
     ///
@@ -56,7 +56,7 @@ impl World {
         Ok(())
     }
 
-    /// These lines more, or none of them.
+    /// Appends these lines to the transcript, or none of them if memory is refused.
     ///
     /// # Errors
     ///
@@ -70,14 +70,14 @@ impl World {
         self.transcript.append(&mut lines)
     }
 
-    // What is at a place of the builder.
+    // Returns the entry that is kept for a place, if there is one.
     fn entry(&self, place: Place) -> Option<BuilderEntry>
         ensures { result ≡ slice_get self.now.builder.items place.0 }
     {
         self.builder.get(usize::from(place.0)).copied()
     }
 
-    /// What the builder has of a place.
+    /// Returns the builder's entry for a place, which is unbuilt if none is kept.
     pub fn held(&self, place: Place) -> BuilderEntry
         ensures { held_of result ≡ builder_entry (world_of self.now) place.0 }
     {
@@ -87,7 +87,7 @@ impl World {
         }
     }
 
-    /// The identity of what the builder holds of a place.
+    /// Returns the identity of the object that the builder holds at a place, if it holds one.
     pub fn built(&self, place: Place) -> Option<ObjectId>
         ensures { id_of result ≡ identity_held (builder_entry (world_of self.now) place.0) }
     {

@@ -1,4 +1,4 @@
-//! Bytes read ahead.
+//! The bytes of a reader that are read ahead.
 
 ghost use Rattle.std.specs.Prelude.{◌≡◌, ◌≤◌, ◌++◌, ◌⊎◌, [], ◌∷◌, ℕ, List, drop, take, length, IfOk, OnOk, OnErr, MatchOption, false};
 ghost use Rattle.std.specs.Io.KnownBytes.{Keeps, Consumes, IsAtEnd, prepend_known};
@@ -11,7 +11,7 @@ use crate::output_buffer::Gather;
 use std::marker::Model;
 use ui_machine::DeviceFault;
 
-/// The most bytes that are read ahead.
+/// The greatest number of bytes that are read ahead.
 pub const CHUNK_SIZE: usize = 4096;
 
 /// The bytes that were read and not yet taken.
@@ -31,7 +31,7 @@ impl Model for Chunk {
 }
 
 impl Chunk {
-    /// No bytes.
+    /// Creates a chunk without bytes.
     pub fn new() -> Chunk
         ensures { result ≡ [] }
     {
@@ -42,8 +42,8 @@ impl Chunk {
         }
     }
 
-    /// Takes the next byte, and reads where there is none; None at the end. Before a read all that was said is written. Neither a read
-    /// nor a write is tried again.
+    /// Takes the next byte, and reads more bytes first if none is left. Returns None at the end. Before a read all that was said is
+    /// written. Neither a read nor a write is tried again.
     ///
     /// # Errors
     ///
@@ -72,7 +72,7 @@ impl Chunk {
         Ok(next)
     }
 
-    // Reads where there is no byte.
+    // Reads more bytes if none is left, after writing all that is gathered.
     fn fill<R: Reader, W: Writer>(
         &mut self,
         reader: &mut R,

@@ -1,4 +1,4 @@
-//! A whole check: a definition in, its report or the one line of its refusal and a status out.
+//! A whole check of a definition, which writes its report or the one line of its refusal and returns a status.
 
 ghost use Rattle.std.specs.Prelude.{◌≡◌, ◌≢◌, ℕ, List, Ok, Err, true, false};
 ghost use Rattle.law_typing.specs.Verdict.Accepted.{Accepted};
@@ -16,20 +16,20 @@ use std::alloc::Global;
 use ui_verifier::{VerifyError, verify};
 use verified::{ReportFault, Verified};
 
-/// What the bytes of a definition were judged to be.
+/// The judgement of the bytes of a definition.
 #[derive(Drop)]
 pub enum Judgement {
-    /// Reading or the verdict refuses them: the fault as it is printed.
+    /// Reading or the verdict refuses them. The text is the fault as it is printed.
     Refused(String),
-    /// No memory was found.
+    /// Memory was refused.
     Unjudged,
     /// The definition is accepted.
     Accepted(Verified),
 }
 
-/// Judges a definition and writes what it came to: the report where it is accepted, else the one line of its refusal. It answers the
-/// status: 0; 1 where the definition is refused; 3 where memory was wanted; 4 where a write failed. Nothing is run. Where memory was
-/// wanted before the report the line `refused: OutOfMemory` is written; within it the report ends after whole lines.
+/// Judges a definition, and writes its report if it is accepted, or else the one line of its refusal. Returns the status: 0, or 1 if the
+/// definition is refused, 3 if memory is refused, and 4 if a write fails. Nothing is run. If memory is refused before the report the line
+/// `refused: OutOfMemory` is written. If it is refused within the report, the report ends after whole lines.
 pub fn check<W: Writer>(alloc: Global, definition: &[u8], writer: &mut W) -> u8
     requires writer { W.failed writer.old ≡ false }
     ensures checked { Checked definition.now result (W.failed writer.new) (W.sent writer.old).bytes (W.sent writer.new).bytes }
@@ -54,7 +54,7 @@ pub fn judge(alloc: Global, bytes: &[u8]) -> Judgement
     }
 }
 
-// The judgement of bytes that denote no definition.
+// Returns the judgement of bytes that denote no definition.
 fn unread(alloc: Global, fault: &DefinitionFault) -> Judgement
     ensures { (bytes : List ℕ) → denoted bytes ≡ Err (refusal fault.now) → IsJudged bytes result }
 {
@@ -64,7 +64,7 @@ fn unread(alloc: Global, fault: &DefinitionFault) -> Judgement
     }
 }
 
-// The judgement of a definition.
+// Verifies a definition, and returns its judgement.
 fn verdict(alloc: Global, definition: Definition) -> Judgement
     ensures { (bytes : List ℕ) → denoted bytes ≡ Ok definition → IsJudged bytes result }
 {
@@ -75,14 +75,14 @@ fn verdict(alloc: Global, definition: Definition) -> Judgement
     }
 }
 
-// Writes the report, and answers the status.
+// Writes the report, and returns the status.
 fn report<W: Writer>(alloc: Global, verified: &Verified, writer: &mut W) -> u8
     requires works { W.failed writer.old ≡ false }
     ensures accepted { Accepted verified.now }
     ensures reports { (a : Accepted verified.now) → IsReported (report_of verified.now a) result (W.failed writer.new) (W.sent writer.old).bytes (W.sent writer.new).bytes }
     ensures marks { IsMarked result (W.failed writer.new) }
 {
-    // By this a verified definition is known to be accepted.
+    // For the proof: a verified definition is accepted.
     let _ = verified.definition();
     match writer.write_report(alloc, verified) {
         Ok(()) => 0,

@@ -1,4 +1,4 @@
-//! The bytes of a definition, out of a feed.
+//! The bytes of a definition, read from a feed.
 
 ghost use Rattle.std.specs.Prelude.{◌≡◌, ◌≤◌, ◌+◌, take, length, IfOk, IfSome, MatchResult, false};
 ghost use Rattle.ui_machine.specs.Limits.{most_definition_bytes};
@@ -9,13 +9,13 @@ use builder_defs::MAX_BYTES;
 use std::alloc::{AllocError, AllocFailed, Global};
 use ui_machine::{DeviceFault, Feed};
 
-/// The most bytes that one read asks for.
+/// The greatest number of bytes that one read asks for.
 const PIECE_SIZE: usize = 4096;
 
-/// Why a definition's bytes were not had.
+/// The reason why the bytes of a definition were not read.
 #[derive(Clone, Copy, Debug, PartialEq, Eq)]
 pub enum FileFault {
-    /// No memory was found.
+    /// Memory was refused.
     OutOfMemory,
     /// A read failed, or there is no such file.
     Unreadable,
@@ -54,11 +54,12 @@ impl<T: Drop> From<AllocFailed<T>> for FileFault {
     }
 }
 
-/// All bytes of a feed, but no more than the limit of a definition and one, by which it is refused. No byte past that one is asked for.
+/// Returns all bytes of a feed, but at most one more than the limit of a definition, by which the definition is refused. No byte past that
+/// one is asked for.
 ///
 /// # Errors
 ///
-/// A device that fails, or want of memory.
+/// Returns `Unreadable` if the device fails, and `OutOfMemory` if memory is refused.
 pub fn definition_bytes<R: Feed>(alloc: Global, reader: &mut R) -> Result<Vec<u8>, FileFault>
     requires works { R.failed reader.old ≡ false }
     ensures bytes { IfOk result (λ bytes. IfSome (R.left reader.old) (λ input. bytes.items ≡ take (most_definition_bytes + 1) input)) }

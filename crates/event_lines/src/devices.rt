@@ -24,8 +24,8 @@ pub trait Reader {
     /// Whether a read has failed.
     ghost failed: { Self → Bool };
 
-    /// Reads some bytes into the front of `buf`, and answers how many: none only at the end, or into an empty slice.
-    /// A fault takes none and marks the reader as failed; after it no more reads may be made.
+    /// Reads some bytes into the front of `buf`, and returns how many. There are none only at the end, or if `buf` is empty. A fault takes
+    /// none and marks the reader as failed. After it no more reads may be made.
     fn read(&mut self, buf: &mut [u8]) -> Result<usize, DeviceFault>
         requires works { failed self.old ≡ false }
         ensures bound { ReadsAtMost result buf.new }
@@ -36,15 +36,15 @@ pub trait Reader {
 
 /// A sink that counts its writes.
 pub trait Writer {
-    /// The bytes that it has taken, where they are known, and how many writes there were, but for those that took only a part of
-    /// their bytes. Where a sink always takes all that it is given, these are all its writes.
+    /// The bytes that it has taken, where they are known, and how many writes there were. A write that took only a part of its bytes is not
+    /// counted. Where a sink always takes all that it is given, these are all its writes.
     ghost sent: { Self → Sent };
 
     /// Whether a write has failed.
     ghost failed: { Self → Bool };
 
-    /// Takes a front of `bytes`, and answers how long it is: at least 1, unless there are none. A fault takes none and marks
-    /// the writer as failed; after it no more writes may be made.
+    /// Takes a front of `bytes`, and returns how long it is: at least 1, unless `bytes` is empty. A fault takes none and marks the writer
+    /// as failed. After it no more writes may be made.
     fn write(&mut self, bytes: &[u8]) -> Result<usize, DeviceFault>
         requires works { failed self.old ≡ false }
         ensures bound { WritesAtMost result bytes.now }
@@ -57,15 +57,15 @@ pub trait Writer {
     ///
     /// # Errors
     ///
-    /// `WriteFault` where a write failed, after a front of the report's bytes; `OutOfMemory` where no memory is found for a line, after the
-    /// lines before that one.
+    /// Returns `WriteFault` if a write fails, after a front of the report's bytes, and `OutOfMemory` if memory for a line is refused, after
+    /// the lines before that one.
     fn write_report(&mut self, alloc: Global, verified: &Verified) -> Result<(), ReportFault>
         requires works { failed self.old ≡ false }
         ensures lines { (a : Accepted verified.now) → Reports result (sent self.old).bytes (sent self.new).bytes (report_of verified.now a) }
         ensures marks { reports.IsMarked result (failed self.new) };
 }
 
-/// A feed or a sink, and its calls so far. A call that can't be counted fails.
+/// A feed or a sink, with the number of its calls so far. A call that can't be counted fails.
 #[derive(Drop)]
 pub struct Counted<D: Drop> {
     pub device: D,
@@ -73,7 +73,7 @@ pub struct Counted<D: Drop> {
 }
 
 impl<D: Drop> Counted<D> {
-    /// A device that was not called.
+    /// Wraps a device that was not called.
     pub fn new(device: D) -> Counted<D>
         ensures same { result.device ≡ device }
         ensures uncalled { result.calls ≡ 0 }

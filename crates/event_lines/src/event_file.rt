@@ -24,7 +24,7 @@ use std::alloc::Global;
 use ui_engine::Session;
 use ui_machine::DeviceFault;
 
-// Hands the session the line that was found, and says what came of it.
+// Hands the line that was found to the session, and says what came of it.
 fn tell<P: Peers, W: Writer>(
     alloc: Global,
     session: &mut Session<P>,
@@ -55,9 +55,9 @@ fn tell<P: Peers, W: Writer>(
     }
 }
 
-/// Hands the lines of a reader to a session, says what comes of them, and answers the status: 0; 5 where a line was refused; 3 where
-/// the run stopped within one; 4 where a device failed. Before each read, and at the end, all that was said is written. After a fault
-/// nothing is read or written.
+/// Hands the lines of a reader to a session, and says what comes of them. Returns the status: 0, or 5 if a line was refused, 3 if the run
+/// stopped within a line, and 4 if a device failed. Before each read, and at the end, all that was said is written. After a fault nothing
+/// is read or written.
 pub fn handle_lines<P: Peers, R: Reader, W: Writer>(
     alloc: Global,
     session: &mut Session<P>,

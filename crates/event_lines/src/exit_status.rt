@@ -1,4 +1,4 @@
-//! How the program ends where it runs nothing: its one line, and its status.
+//! The one line and the status with which the program ends if it runs nothing.
 
 ghost use Rattle.std.specs.Prelude.{◌≡◌, [], true, false, MatchResult};
 ghost use Rattle.event_lines.specs.Endings.{ending_line, ending_status};
@@ -9,20 +9,20 @@ use crate::output_buffer::Gather;
 use crate::writing::put_parts;
 use ui_machine::DeviceFault;
 
-/// Why nothing is run.
+/// The reason why nothing is run.
 #[derive(Clone, Copy, Debug, PartialEq, Eq)]
 pub enum Ending {
-    /// The words of the command line ask for nothing.
+    /// The words of the command line make no request.
     Usage,
     /// The definition can't be read, or the events can't be opened.
     Unreadable,
-    /// No memory was found for the words or for the bytes of the definition.
+    /// Memory for the words or for the bytes of the definition was refused.
     OutOfMemory,
 }
 
 impl Ending {
-    /// Writes the line, with the name of the file that can't be read, and answers the status: 2 for the words of the command line and
-    /// 4 for a file, whether or not the line was lost; 3 for want of memory, and 4 where its line was lost.
+    /// Writes the line, with the name of the file that can't be read, and returns the status: 2 for the words of the command line and 4 for
+    /// a file, whether or not the line was lost. For want of memory it is 3, or 4 if the line was lost.
     pub fn tell<W: Writer>(self, writer: &mut W, name: &str) -> u8
         requires works { W.failed writer.old ≡ false }
         ensures text { IsTold (W.failed writer.new) (W.sent writer.old).bytes (W.sent writer.new).bytes (ending_line self name.now) }

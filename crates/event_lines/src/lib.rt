@@ -1,9 +1,8 @@
-//! Runs a definition with a pool of peers over event lines, from the bytes of a reader to those of a writer, and checks one before anything
-//! runs.
+//! The program as a library: a run of a definition with a pool of peers over event lines, and a check of a definition before anything runs.
 //!
-//! [`run`] is the whole of a run, and [`check`] that of a check. What they are made of: the bytes of a reader in chunks, the lines in
-//! them, what each line comes to, and text that is gathered and written in large pieces. A program that embeds the runtime without files
-//! uses `ui_engine` instead.
+//! [`run`] is a whole run, from the bytes of a reader to those of a writer, and [`check`] is a whole check. Their parts are the bytes of a
+//! reader in chunks, the lines in them, the outcome of each line, and text that is gathered and written in large pieces. A program that
+//! embeds the runtime without files uses `ui_engine` instead.
 #![tactic(auto)]
 
 mod chunk;
@@ -32,8 +31,8 @@ pub use refusal::LineRefusal;
 pub use session_start::{Opening, open};
 pub use whole_runs::{Over, run, run_with};
 
-/// The most bytes of an event line, without its LF.
+/// The greatest number of bytes of an event line, without its LF.
 pub const MAX_LINE_BYTES: usize = 65_536;
 
-/// The most event lines.
+/// The greatest number of event lines.
 pub const MAX_LINES: u64 = 65_536;

@@ -1,4 +1,4 @@
-//! The lines of a run in its session, which carries out the events that they denote.
+//! The event lines of a run, whose events its session carries out.
 
 ghost use Rattle.std.specs.Prelude.{◌≡◌};
 ghost use Rattle.ui_machine.specs.Prefix.{IsPrefix};
@@ -10,12 +10,12 @@ use native_peers::Peers;
 use std::alloc::Global;
 use ui_engine::{Progress, Session, SessionFault};
 
-/// Why an event line was not carried out to its end.
+/// The reason why an event line was not carried out to its end.
 #[derive(Clone, Copy, Debug, PartialEq, Eq)]
 pub enum LineFault {
-    /// It is refused, and the run goes on.
+    /// The line is refused, and the run goes on.
     Refused(LineRefusal),
-    /// No memory was found, and the run ends there.
+    /// Memory was refused, or the session had stopped, and the run ends there.
     Stopped,
 }
 
@@ -39,7 +39,7 @@ impl From<SessionFault> for LineFault {
 
     ghost from_gives = { λ error fault. fault ≡ dispatch_fault error };
 
-    // A session that has stopped carries nothing out, as if it found no memory for it.
+    // A session that has stopped carries nothing out, as if memory were refused.
     fn from(fault: SessionFault) -> LineFault {
         match fault {
             SessionFault::OutOfMemory | SessionFault::Stopped => LineFault::Stopped,
@@ -49,11 +49,11 @@ impl From<SessionFault> for LineFault {
     }
 }
 
-/// Begins the event of one line, neither blank nor past the limit. What the reader of events read before makes no difference.
+/// Begins the event of one line, which is neither blank nor past the limit. What the reader of events read before makes no difference.
 ///
 /// # Errors
 ///
-/// `Refused` by the first refusal of the line or of its event, and `Stopped` where memory is refused or the session had stopped.
+/// Returns `Refused` with the first refusal of the line or of its event, and `Stopped` if memory is refused or the session had stopped.
 pub fn begin<P: Peers>(
     alloc: Global,
     session: &mut Session<P>,

@@ -1,4 +1,4 @@
-//! One line of the event file, handed to the session.
+//! The start of one line of the event file in the session, and its outcome.
 
 ghost use Rattle.std.specs.Prelude.{◌≡◌, ℕ, List};
 ghost use Rattle.ui_machine.specs.Prefix.{IsPrefix};
@@ -16,19 +16,19 @@ use native_peers::Peers;
 use std::alloc::Global;
 use ui_engine::{Progress, Session};
 
-/// What a line came to, beside the lines that were said.
+/// The outcome of a line, beside the lines that were said.
 #[derive(Clone, Copy, Debug, PartialEq, Eq)]
 pub enum LineOutcome {
     Said,
     Refused(LineRefusal),
-    /// It was refused, and the run ends.
+    /// The line was refused, and the run ends.
     CutOff(LineRefusal),
-    /// No memory was found for it, and the run ends.
+    /// Memory was refused or the session had stopped, and the run ends.
     Stopped,
 }
 
 impl LineOutcome {
-    /// Whether the run ends here.
+    /// Returns whether the run ends with this line.
     pub fn ends(self) -> bool
         ensures { (said : List (List ℕ)) → result ≡ ends (outcome_with self said) }
     {
@@ -38,7 +38,7 @@ impl LineOutcome {
         }
     }
 
-    /// The status of the run so far, from the one before.
+    /// Returns the status of the run after this line, from the status before it.
     pub fn status_after(self, status: u8) -> u8
         ensures { (said : List (List ℕ)) → result ≡ status_after status (outcome_with self said) }
     {
@@ -57,16 +57,16 @@ fn is_blank(line: &[u8]) -> bool
         .all(|b| *b == b' ' || *b == b'\t' || *b == b'\r')
 }
 
-/// How a line starts.
+/// The start of a line.
 #[derive(Drop)]
 pub enum LineStart {
-    /// It has come to this.
+    /// The line has ended with this outcome.
     Over(LineOutcome),
-    /// Its event has come so far.
+    /// The event of the line has begun, and has come so far.
     Begun(Progress),
 }
 
-/// Begins the line that was found in the session, unless the run refuses it or passes over it.
+/// Begins the event of the line that was found, unless the run refuses the line or passes over it.
 pub fn start_line<P: Peers>(
     alloc: Global,
     session: &mut Session<P>,

@@ -1,4 +1,4 @@
-//! Lines out of bytes.
+//! The lines in the bytes of a reader.
 
 ghost use Rattle.std.specs.Prelude.{◌≡◌, ◌≤◌, ◌⊎◌, length, IfOk, OnErr, OnOk, false};
 ghost use Rattle.std.specs.Io.KnownBytes.{prepend_known};
@@ -11,18 +11,18 @@ use crate::devices::{Reader, Writer};
 use crate::output_buffer::Gather;
 use ui_machine::DeviceFault;
 
-/// A line that was found.
+/// What was found as the next line.
 #[derive(Clone, Copy, Debug, PartialEq, Eq)]
 pub enum Found {
-    /// It is in the buffer.
+    /// The line is in the buffer.
     Whole,
-    /// It has more than `MAX_LINE_BYTES` bytes. No byte past the limit and one was read into the buffer.
+    /// The line has more than `MAX_LINE_BYTES` bytes. One byte past the limit was taken, and no more.
     TooLong,
-    /// The buffer found no memory for it.
+    /// Memory for the line was refused.
     NoMemory,
 }
 
-/// Reads a line after the other. Lines end by LF, the last one with or without.
+/// A reader of one line after the other. Each line ends with LF, which the last one may lack.
 #[derive(Drop)]
 pub struct LineReader {
     pub chunk: Chunk,
@@ -30,8 +30,8 @@ pub struct LineReader {
 }
 
 impl LineReader {
-    /// Reads the next line into the buffer; None at the end. It reads no further than a chunk past the line, and where a line is too
-    /// long no further than a chunk past the limit. Before each read all that was said is written.
+    /// Reads the next line into the buffer, or returns None at the end. It reads no further than a chunk past the line, or if the line is
+    /// too long, a chunk past the limit. Before each read all that was said is written.
     ///
     /// # Errors
     ///

@@ -1,4 +1,4 @@
-//! What a run says, on its way to a writer.
+//! The text that a run says, on its way to a writer.
 
 ghost use Rattle.std.specs.Prelude.{◌≡◌, ◌≤◌, ◌<◌, ◌+◌, [], ℕ, List, ◌≢◌, take, length, true, false, IfOk, OnOk, MatchResult};
 ghost use Rattle.event_lines.specs.Writing.{Writes, Passes, Tears, Puts, Finishes, IsMarked};
@@ -7,7 +7,7 @@ use crate::devices::Writer;
 use crate::output_buffer::Gather;
 use ui_machine::DeviceFault;
 
-// Writes all the bytes, or what comes before the first write that fails.
+// Writes all the bytes, or those before the first write that fails.
 fn write_all<W: Writer>(writer: &mut W, bytes: &[u8]) -> Result<(), DeviceFault>
     requires works { W.failed writer.old ≡ false }
     ensures writes { Writes result (W.sent writer.old).bytes (W.sent writer.new).bytes bytes.now }
@@ -25,8 +25,8 @@ fn write_all<W: Writer>(writer: &mut W, bytes: &[u8]) -> Result<(), DeviceFault>
 }
 
 impl Gather {
-    /// Says the bytes. They are gathered, and what is gathered is written each time that there is room for no more. A write that fails
-    /// is not tried again.
+    /// Says the bytes. They are gathered, and what is gathered is written each time that there is no room for more. A write that fails is
+    /// not tried again.
     ///
     /// # Errors
     ///
@@ -46,7 +46,7 @@ impl Gather {
         Ok(())
     }
 
-    // Gathers some of the bytes, at least 1.
+    // Gathers some of the bytes, at least 1, and returns how many.
     fn put_some<W: Writer>(&mut self, writer: &mut W, bytes: &[u8]) -> Result<usize, DeviceFault>
         requires works { W.failed writer.old ≡ false }
         requires some { 0 < length bytes.now }
@@ -63,7 +63,7 @@ impl Gather {
         Ok(count)
     }
 
-    // Writes what is gathered where there is room for no more.
+    // Writes what is gathered if there is no room for more.
     fn make_room<W: Writer>(&mut self, writer: &mut W) -> Result<(), DeviceFault>
         requires works { W.failed writer.old ≡ false }
         ensures room { OnOk result (length self.new < 4096) }
@@ -95,7 +95,7 @@ impl Gather {
         Ok(())
     }
 
-    /// Writes all that is gathered, and answers the status of the run: the one given, or 4 where a write failed.
+    /// Writes all that is gathered, and returns the status of the run: the one given, or 4 if a write failed.
     pub fn finish<W: Writer>(&mut self, writer: &mut W, status: u8) -> u8
         requires works { W.failed writer.old ≡ false }
         requires fine { status ≢ 4 }

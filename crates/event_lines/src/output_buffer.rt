@@ -5,7 +5,7 @@ ghost use Rattle.event_lines.specs.declared.output_buffer.TheConstants.{GATHER_S
 
 use std::marker::Model;
 
-/// The most bytes that are gathered.
+/// The greatest number of bytes that are gathered.
 pub const GATHER_SIZE: usize = 4096;
 
 /// The bytes that wait to be written.
@@ -24,7 +24,7 @@ impl Model for Gather {
 }
 
 impl Gather {
-    /// No bytes.
+    /// Creates a buffer without bytes.
     pub fn new() -> Gather
         ensures { result ≡ [] }
     {
@@ -34,14 +34,14 @@ impl Gather {
         }
     }
 
-    /// The bytes, in their order.
+    /// Returns the bytes, in their order.
     pub fn as_slice(&self) -> &[u8]
         ensures { result.now ≡ self.now }
     {
         &self.bytes[..self.len]
     }
 
-    /// Whether there is room for no more.
+    /// Returns whether there is no room for more.
     pub fn is_full(&self) -> bool
         ensures full { result ≡ true → length self.now ≡ GATHER_SIZE }
         ensures room { result ≡ false → length self.now < GATHER_SIZE }
@@ -49,14 +49,14 @@ impl Gather {
         self.len == GATHER_SIZE
     }
 
-    /// Gives the bytes up.
+    /// Removes all bytes.
     pub fn clear(&mut self)
         ensures { self.new ≡ [] }
     {
         self.len = 0;
     }
 
-    /// Takes as many of the bytes as there is room for, and answers how many.
+    /// Takes as many of the bytes as there is room for, and returns how many.
     pub fn push_front_of(&mut self, bytes: &[u8]) -> usize
         ensures count { result ≡ min (length bytes.now) (GATHER_SIZE - length self.old) }
         ensures grows { self.new ≡ self.old ++ take result bytes.now }

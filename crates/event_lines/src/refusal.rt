@@ -1,16 +1,16 @@
-//! Why an event line is refused.
+//! The refusals of event lines.
 
 ghost use Rattle.std.specs.Prelude.{◌≡◌};
 ghost use Rattle.event_lines.specs.Texts.{name_of};
 
 use builder_defs::EventFault;
 
-/// Why a line of the event file is refused. All but the first two end nothing.
+/// The reason why a line of the event file is refused. Only the first two end the run.
 #[derive(Clone, Copy, Debug, PartialEq, Eq)]
 pub enum LineRefusal {
     /// The line has more than `MAX_LINE_BYTES` bytes.
     TooLong,
-    /// It is a line past the first `MAX_LINES`.
+    /// The line comes after the first `MAX_LINES`.
     TooMany,
     NotJson,
     Shape,
@@ -45,7 +45,7 @@ impl From<EventFault> for LineRefusal {
 }
 
 impl LineRefusal {
-    /// The name that is printed.
+    /// Returns the name that is printed.
     pub fn name(self) -> &'static str
         ensures { result.now ≡ name_of self }
     {

@@ -1,4 +1,4 @@
-//! How a run opens: a definition that was read and verified is built, with the peers of a pool.
+//! The opening of a run: a definition that was read and verified is built, with the peers of a pool.
 
 ghost use Rattle.std.specs.Prelude.{◌≡◌, ◌++◌, codes, ℕ, List, None, Ok, Option, Some, string_bytes, IfSome};
 ghost use Rattle.ui_machine.specs.Definition.{Definition};
@@ -18,20 +18,22 @@ use std::alloc::{AllocError, Global};
 use ui_engine::{Refused, Session, StartFault, Started};
 use verified::Verified;
 
-/// What the bytes of a definition came to, with the pool.
+/// The outcome of opening a run with the bytes of a definition and a pool.
 #[derive(Drop)]
 pub enum Opening<P: Peers> {
-    /// Reading or the verdict refuses them, or the pool does not match them: the name of the fault and its fields; the pool is as it was.
+    /// Reading or the verdict refuses the bytes, or the pool does not match the definition. The text has the name of the fault and its
+    /// fields. The pool is as it was.
     Refused { text: String, pool: P },
-    /// No memory was found before the build; the pool is as it was.
+    /// Memory was refused before the build. The pool is as it was.
     Unbegun(P),
-    /// No memory was found in the build.
+    /// Memory was refused in the build.
     Stopped(Session<P>),
     /// The definition is built.
     Built(Session<P>),
 }
 
-/// Builds what some bytes were judged to be with the peers of a pool, if it is a definition.
+/// Builds the definition that was accepted with the peers of a pool. Bytes that were refused or not judged are not opened, and the pool is
+/// handed back.
 pub fn open<P: Peers>(alloc: Global, judgement: Judgement, pool: P) -> Opening<P>
     requires judged { (bytes : List ℕ) × IsJudged bytes judgement }
     ensures opened { (bytes : List ℕ) → IsJudged bytes judgement →
@@ -45,14 +47,14 @@ pub fn open<P: Peers>(alloc: Global, judgement: Judgement, pool: P) -> Opening<P
     }
 }
 
-// The name of a fault and that of its peer, as they are printed, if there is memory for them.
+// Returns the name of a fault and the name of its peer, as they are printed, or None if memory is refused.
 fn words(alloc: Global, fault: &str, name: &str) -> Option<String>
     ensures { IfSome result (λ s. string_bytes s ≡ fault.now ++ codes " " ++ name.now) }
 {
     format!(in alloc; "{fault} {name}").ok()
 }
 
-// The fault by which no session began, as it is printed; none for want of memory.
+// Returns the fault for which no session began, as it is printed, or None for want of memory.
 fn fault_text(alloc: Global, fault: &StartFault) -> Option<String>
     ensures { IfSome result (λ s. (lack : Option Mismatch) → IsWhy fault.now lack → (m : Mismatch) × (lack ≡ Some m) × (string_bytes s ≡ mismatch_text m)) }
 {
@@ -65,7 +67,7 @@ fn fault_text(alloc: Global, fault: &StartFault) -> Option<String>
     }
 }
 
-// The opening of a verified definition that no session began with.
+// Returns the opening of a verified definition with which no session began.
 fn unstarted<P: Peers>(alloc: Global, refused: Refused<P>) -> Opening<P>
     ensures opened { (bytes : List ℕ) (d : Definition) → denoted bytes ≡ Ok d → Judges d None → IsWhy refused.fault (mismatch d (as_peers (P.seen refused.pool))) →
         Opened P.seen (P.relations refused.pool) (as_peers (P.seen refused.pool)) refused.pool bytes result }
@@ -79,7 +81,7 @@ fn unstarted<P: Peers>(alloc: Global, refused: Refused<P>) -> Opening<P>
     }
 }
 
-// Builds a definition that is judged to be an accepted one.
+// Builds a definition that is accepted.
 fn build<P: Peers>(alloc: Global, verified: Verified, pool: P) -> Opening<P>
     requires judged { Judges verified None }
     ensures opened { (bytes : List ℕ) → denoted bytes ≡ Ok verified →

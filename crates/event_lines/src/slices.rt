@@ -16,10 +16,10 @@ use native_peers::Peers;
 use ui_engine::{Progress, Session};
 use ui_machine::DeviceFault;
 
-/// How many counted steps an event makes between the times that its lines are said.
+/// The number of counted steps that an event makes between two times that its lines are said.
 const SLICE_STEPS: u64 = 64;
 
-// Says the lines of a session behind the first so many, unless the writer has failed, and has the session forget all of them.
+// Says the lines of a session after the first `known`, unless the writer has failed, and makes the session forget all its lines.
 fn put_new<P: Peers, W: Writer>(
     session: &mut Session<P>,
     known: usize,
@@ -47,7 +47,7 @@ fn put_new<P: Peers, W: Writer>(
     }
 }
 
-// Says the lines with which an event stopped, and that it did.
+// Says the last lines of an event that stopped, and then that it stopped.
 fn stop<P: Peers, W: Writer>(
     session: &mut Session<P>,
     number: u64,
@@ -67,8 +67,8 @@ fn stop<P: Peers, W: Writer>(
     Ok(LineOutcome::Stopped)
 }
 
-/// Goes on with the event of a line until it has ended, and says its lines as they come: those of the session behind the first so many. Where
-/// the writer fails the event goes on to its end unsaid.
+/// Goes on with the event of a line until it has ended, and says its lines as they come, beginning with those of the session after the
+/// first `known`. If the writer fails the event goes on to its end unsaid.
 ///
 /// # Errors
 ///

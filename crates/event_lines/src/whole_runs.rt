@@ -1,4 +1,4 @@
-//! A whole run: a definition, a pool of peers and events in, a transcript and a status out.
+//! A whole run, which takes a definition, a pool of peers and events, and gives a transcript and a status.
 
 ghost use Rattle.std.specs.Prelude.{◌≡◌, ◌≢◌, codes, ℕ, List, map, string_bytes, [], ◌∷◌, ◌++◌, true, ◌||◌, IfSome, OnErr, MatchResult, false};
 ghost use Rattle.builder_defs.specs.Denoted.{denoted};
@@ -24,10 +24,10 @@ use std::mem;
 use ui_engine::Session;
 use ui_machine::DeviceFault;
 
-/// Verifies a definition and runs it with the peers of a pool over the event lines of a reader, writes the transcript as it grows, and answers
-/// the status: 0; 1 where the definition is refused or the pool does not match it; 3 where memory was wanted; 4 where a device failed; 5 where
-/// a line was refused. The first of 1, 3 and 4 ends the run. All that was said is written before anything is read. Nothing is read where the
-/// definition is refused or not built. At the end each peer is closed that an object has got; where nothing was begun the pool is left as it
+/// Verifies a definition, runs it with the peers of a pool over the event lines of a reader, and writes the transcript as it grows. Returns
+/// the status: 0, or 1 if the definition is refused or the pool does not match it, 3 if memory is refused, 4 if a device fails, and 5 if a
+/// line was refused. The first of 1, 3 and 4 ends the run. All that was said is written before anything is read. Nothing is read if the
+/// definition is refused or not built. At the end each peer that an object has got is closed. If nothing was begun the pool is left as it
 /// was.
 pub fn run<P: Peers + Vacant, R: Reader, W: Writer>(
     alloc: Global,
@@ -38,7 +38,7 @@ pub fn run<P: Peers + Vacant, R: Reader, W: Writer>(
 ) -> u8
     requires reader { R.failed reader.old ≡ false }
     requires writer { W.failed writer.old ≡ false }
-    // Where the reader's bytes are not known, there are bytes for which it holds.
+    // If the reader's bytes are not known, there are some bytes for which this holds.
     ensures ran { (input : List ℕ) × IfSome (R.left reader.old) (λ known. known ≡ input) × (text : List ℕ) ×
         Ran (P.relations pool.old) (as_peers (P.seen pool.old)) (P.seen pool.new)
         definition.now (lines_of input) result (W.failed writer.new)
@@ -55,14 +55,14 @@ pub fn run<P: Peers + Vacant, R: Reader, W: Writer>(
     status
 }
 
-/// What a run comes to: its status, and the pool that is left.
+/// The outcome of a run: its status, and the pool that is left.
 #[derive(Drop)]
 pub struct Over<P> {
     pub status: u8,
     pub pool: P,
 }
 
-/// The same as [`run`] with a pool that is handed over, and handed back with the status.
+/// Runs a definition as [`run`] does, with a pool that is handed over, and handed back with the status.
 pub fn run_with<P: Peers, R: Reader, W: Writer>(
     alloc: Global,
     definition: &[u8],
@@ -104,7 +104,7 @@ pub fn run_with<P: Peers, R: Reader, W: Writer>(
     }
 }
 
-/// Writes the one line of a definition that is refused, and answers 1, or 4 where a write failed.
+/// Writes the one line of a definition that is refused, and returns 1, or 4 if a write failed.
 pub(crate) fn refuse<W: Writer>(writer: &mut W, text: &str) -> u8
     requires works { W.failed writer.old ≡ false }
     ensures concludes { (out : List ℕ) × Concludes (joined (codes "refused: " ∷ text.now ∷ codes "\n" ∷ [])) 1 result (W.failed writer.new) out × Sends 0 0 (W.sent writer.old) (W.sent writer.new) out }
@@ -117,8 +117,8 @@ pub(crate) fn refuse<W: Writer>(writer: &mut W, text: &str) -> u8
     gather.finish(writer, 1)
 }
 
-/// Writes the one line of a run that found no memory before the build, or of a check that found none, and answers 3, or 4 where a write
-/// failed.
+/// Writes the one line of a run for which memory was refused before the build, or of a check for which it was refused, and returns 3, or 4
+/// if a write failed.
 pub(crate) fn refuse_for_memory<W: Writer>(writer: &mut W) -> u8
     requires works { W.failed writer.old ≡ false }
     ensures concludes { (out : List ℕ) × Concludes nothing_begun 3 result (W.failed writer.new) out × Sends 0 0 (W.sent writer.old) (W.sent writer.new) out }
@@ -131,7 +131,7 @@ pub(crate) fn refuse_for_memory<W: Writer>(writer: &mut W) -> u8
     gather.finish(writer, 3)
 }
 
-// The lines of a build that stopped.
+// Writes the lines of a build that stopped, and returns 3, or 4 if a write failed.
 fn stop<W: Writer>(writer: &mut W, lines: &[String]) -> u8
     requires works { W.failed writer.old ≡ false }
     ensures concludes { (out : List ℕ) × Concludes (lines_text (map string_bytes lines.now) ++ build_stopped) 3 result (W.failed writer.new) out × Sends 0 0 (W.sent writer.old) (W.sent writer.new) out }
@@ -159,7 +159,7 @@ fn put_build<W: Writer>(
     gather.put(writer, b"build stopped: OutOfMemory\n")
 }
 
-// The lines of the build, and those of the events.
+// Writes the lines of the build, and then those of the events, and returns the status.
 fn play<P: Peers, R: Reader, W: Writer>(
     alloc: Global,
     session: &mut Session<P>,

@@ -1,4 +1,4 @@
-//! Texts out to a sink.
+//! The texts that are said through a gather to a writer.
 
 ghost use Rattle.std.specs.Prelude.{◌≡◌, true, List, map, flat_map, MatchResult, string_bytes, false};
 ghost use Rattle.event_lines.specs.Writing.{Puts};
@@ -82,7 +82,7 @@ fn put_refused<W: Writer>(
     )
 }
 
-/// Says that no memory was found for a line.
+/// Says that a line stopped for want of memory.
 ///
 /// # Errors
 ///
@@ -105,7 +105,7 @@ pub fn put_stopped<W: Writer>(
     )
 }
 
-/// Says what a line came to, the lines that were said with it among them.
+/// Says the outcome of a line, with the lines that were said with it.
 ///
 /// # Errors
 ///

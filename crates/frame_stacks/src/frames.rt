@@ -1,4 +1,4 @@
-//! Frames in a list, the last one on top.
+//! A stack of frames, stored as a list with the last one on top.
 
 ghost use Rattle.std.specs.Prelude.{◌≡◌, ◌<◌, ◌≤◌, [], ◌∷◌, ◌++◌, length, map, option_map, vec_len, IfOk};
 ghost use Rattle.g_values.specs.View.{value_view};
@@ -9,7 +9,7 @@ use std::alloc::{AllocError, Global};
 use std::marker::Model;
 use ui_machine::{ObjectId, ProgramId};
 
-/// What a frame is: what is left of a program, of an emission or of a construction.
+/// The rest of a program, of an emission or of a construction.
 #[derive(Debug, Drop)]
 pub enum Frame {
     Program(ProgramId),
@@ -24,7 +24,7 @@ struct Framed {
     values: Vec<Value>,
 }
 
-/// A stack of frames, with the storage of those that may come.
+/// A stack of frames, with storage reserved for further ones.
 #[derive(Debug, Drop)]
 pub struct Frames {
     depth: usize,
@@ -51,11 +51,11 @@ impl Model for Frames {
 impl Frames {
     ghost use Rattle.frame_stacks.specs.Stack.{last, values_of_last, without_last};
 
-    /// No frames, and room for `depth` of them with `width` values each.
+    /// Creates a stack without frames, with room for `depth` frames of `width` values each.
     ///
     /// # Errors
     ///
-    /// `AllocError` where memory is refused. No other call asks for memory.
+    /// `AllocError` if memory is refused. No other call asks for memory.
     pub fn new(alloc: Global, depth: usize, width: usize) -> Result<Self, AllocError>
         ensures { IfOk result (λ f. f ≡ record { depth = depth; width = width; standing = [] }) }
     {
@@ -72,8 +72,8 @@ impl Frames {
         })
     }
 
-    /// Puts a frame on top. Its values are moved out of a vector of any capacity, which is empty afterwards, into a spare one that has room for
-    /// `width`, so that no memory is asked for.
+    /// Pushes a frame. Moves its values out of a vector of any capacity, which is empty afterwards, into a spare one that has room for
+    /// `width`. So no memory is asked for.
     pub fn push(&mut self, frame: Frame, values: &mut Vec<Value>)
         requires places { length self.old.standing < self.old.depth }
         requires few { vec_len values.old ≤ self.old.width }
@@ -94,7 +94,7 @@ impl Frames {
         });
     }
 
-    /// Takes the last frame off. Its values are dropped.
+    /// Pops the last frame and drops its values. Returns `None` if there is no frame.
     pub fn pop(&mut self) -> Option<Frame>
         ensures given { result ≡ option_map (λ f. f.frame) (last self.old.standing) }
         ensures left { self.new ≡ record self.old { standing = without_last self.old.standing } }
@@ -105,7 +105,7 @@ impl Frames {
         Some(frame)
     }
 
-    /// How many frames there are: at most `depth`.
+    /// Returns the number of frames, which is at most `depth`.
     pub fn len(&self) -> usize
         ensures count { result ≡ length self.now.standing }
         ensures few { length self.now.standing ≤ self.now.depth }
@@ -113,21 +113,21 @@ impl Frames {
         self.standing.len()
     }
 
-    /// How many frames there may be.
+    /// Returns the most frames that the stack may have.
     pub fn depth(&self) -> usize
         ensures { result ≡ self.now.depth }
     {
         self.depth
     }
 
-    /// How many values each may have.
+    /// Returns the most values that a frame may have.
     pub fn width(&self) -> usize
         ensures { result ≡ self.now.width }
     {
         self.width
     }
 
-    /// The values of the last frame, at most `width`; none where there is no frame.
+    /// Returns the values of the last frame, at most `width`. Empty if there is no frame.
     pub fn values(&self) -> &[Value]
         ensures lent { map value_view result.now ≡ values_of_last self.now.standing }
         ensures few { length result.now ≤ self.now.width }

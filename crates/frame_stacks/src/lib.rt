@@ -1,8 +1,8 @@
-//! A stack of frames, in room that is reserved once.
+//! A stack of frames, in memory that is reserved once.
 //!
-//! A frame is what is left of a program, of an emission or of a construction, and has values of its own. How many frames there may be and how
-//! many values each may have is said once, as the room for them is made: after that no call asks for memory. A contract sees the two numbers and
-//! the list of the frames.
+//! A frame is what is left of a program, of an emission or of a construction, and has values of its own. The most frames and the most
+//! values of each are fixed when the stack is created, and room is reserved for them. After that no call asks for memory. A contract sees
+//! the two numbers and the list of the frames.
 #![tactic(auto)]
 
 mod frames;

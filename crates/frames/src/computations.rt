@@ -1,4 +1,4 @@
-//! How a computation is carried out.
+//! Evaluation of the computations of programs.
 
 ghost use Rattle.std.specs.Prelude.{◌≡◌, ◌&&◌, ◌||◌, ◌++◌, not, true, false, None, Some, IfOk, IfSome, IsSome, OnErr};
 ghost use Rattle.std.specs.Option.{option_map};
@@ -25,12 +25,12 @@ use type_tree::TypeTree;
 /// The most bytes of a text that `join` makes.
 pub const MOST_TEXT_BYTES: usize = 4096;
 
-/// Computes the value for the register that is written, from the registers as they are. Those that it reads are set, with values of the kinds
-/// that the instruction asks for.
+/// Computes the value for the register that is written, from the current registers. The registers that it reads are set, to values of the
+/// kinds that the instruction asks for.
 ///
 /// # Errors
 ///
-/// `AllocError` where a text can't be made or shared; only `const`, `move`, `join` and `convert` do that. Nothing is changed.
+/// `AllocError` if a text can't be made or shared, which only `const`, `move`, `join` and `convert` do. Nothing is changed then.
 pub fn compute(
     alloc: Global,
     tree: &TypeTree,
@@ -61,7 +61,7 @@ pub fn compute(
     }
 }
 
-// The value that was computed of registers that are as they have to be.
+// Wraps a value that is always there, since the registers are as the instruction asks.
 fn known(value: Option<Value>) -> Computed
     requires { IsSome value }
     ensures { IsValue (option_map value_view value) result }
@@ -76,7 +76,7 @@ fn truth_value(truth: Option<bool>) -> Option<Value>
     Some(Value::Bool(truth?))
 }
 
-// The value of a register once more.
+// Copies the value of a register.
 fn moved(registers: &[Option<Value>], from: Register) -> Result<Computed, AllocError>
     requires { IsSome (read None (registers_of registers.now) from.0) }
     ensures { IfOk result (IsValue (read None (registers_of registers.now) from.0)) }
@@ -87,7 +87,7 @@ fn moved(registers: &[Option<Value>], from: Register) -> Result<Computed, AllocE
     Ok(Computed::Value(value.copied()?))
 }
 
-// The sum, the difference or the product of two registers.
+// Returns the sum, the difference or the product of two registers.
 fn reckoned(
     registers: &[Option<Value>],
     operation: Arithmetic,
@@ -106,7 +106,7 @@ fn reckoned(
     }
 }
 
-// Whether the comparison of two registers holds.
+// Returns whether the comparison of two registers holds.
 fn comparison_at(
     registers: &[Option<Value>],
     comparison: Comparison,
@@ -125,7 +125,7 @@ fn comparison_at(
     }
 }
 
-// Whether two registers have one value, where they are of one kind.
+// Returns whether two registers have the same value, or `None` if they are not of one kind.
 fn sameness_at(registers: &[Option<Value>], a: Register, b: Register) -> Option<bool>
     ensures { result ≡ of_two sameness_of (read None (registers_of registers.now) a.0) (read None (registers_of registers.now) b.0) }
 {
@@ -139,7 +139,7 @@ fn sameness_at(registers: &[Option<Value>], a: Register, b: Register) -> Option<
     }
 }
 
-// Whether two values are of one kind. All objects are.
+// Returns whether two values are of one kind. All objects are of one kind.
 fn is_of_one_kind(u: &Value, v: &Value) -> bool
     ensures { result ≡ has_kind (value_view v.now) (instructions.kind_of (value_view u.now)) }
 {
@@ -173,7 +173,7 @@ fn disjunction_at(registers: &[Option<Value>], a: Register, b: Register) -> Opti
     }
 }
 
-// The texts of two registers as one, unless it is too long.
+// Joins the texts of two registers, unless the result is too long.
 fn joined(
     alloc: Global,
     registers: &[Option<Value>],
@@ -189,7 +189,7 @@ fn joined(
     join(alloc, front, back)
 }
 
-// Two texts as one, unless it is too long.
+// Joins two texts, unless the result is too long.
 fn join(alloc: Global, front: &str, back: &str) -> Result<Computed, AllocError>
     ensures { IfOk result (λ c. Joins c (front.now ++ back.now)) }
 {
@@ -203,7 +203,7 @@ fn join(alloc: Global, front: &str, back: &str) -> Result<Computed, AllocError>
     Ok(Computed::Value(Value::Text(Some(joined))))
 }
 
-// The value of a register as one of the kind.
+// Converts the value of a register to a kind.
 fn converted(
     alloc: Global,
     tree: &TypeTree,
@@ -221,7 +221,7 @@ fn converted(
     Ok(Computed::Value(conversion(alloc, tree, value, kind)?))
 }
 
-// A value as one of the kind, or else the kind's zero value.
+// Converts a value to a kind, or returns the kind's zero value if the value can't be converted.
 fn conversion(
     alloc: Global,
     tree: &TypeTree,

@@ -1,7 +1,7 @@
-//! Frames: programs that run.
+//! The frames of running programs.
 //!
-//! A frame says to which instruction a program has come, and what its registers hold. It is the machine's frame. What the registers name is held
-//! by whoever keeps the frame: nothing is counted here, so that a register that is written gives back what it held.
+//! A frame says which instruction of a program comes next, and what its registers hold. A contract sees the machine's frame. The objects
+//! that the registers name are held by the owner of the frame. Nothing is counted here, so a write to a register returns what it held.
 
 ghost use Rattle.std.specs.Prelude.{◌≡◌, ◌<◌, List, length, None, Some, option_map, map, slice_get, IfOk, IsSome};
 ghost use Rattle.ui_machine.specs.Definition.Values as values;
@@ -19,22 +19,22 @@ use std::alloc::AllocError;
 use std::mem;
 use ui_machine::ProgramId;
 
-/// A program that runs.
+/// A running program.
 #[derive(Debug, Drop)]
 pub struct Frame {
-    /// The program, by its number.
+    /// The number of the program.
     pub program: ProgramId,
     pub block: BlockNumber,
-    /// The number of the instruction of the block that comes next.
+    /// The index of the next instruction in the block.
     pub at: usize,
-    /// How often the instructions before the block's last are still carried out, this time among them.
+    /// How many passes over the instructions before the block's last are left, including the current one.
     pub passes: u32,
     /// The register that waits for the result of an emission.
     pub into: Option<Register>,
     pub registers: Vec<Option<Value>>,
 }
 
-// The registers of a program that begins: beside those that are there, its others are unset.
+// Appends unset registers to those that are there, up to the number of a program's registers.
 fn first_registers(
     program: &Program,
     mut registers: Vec<Option<Value>>,
@@ -49,11 +49,11 @@ fn first_registers(
 }
 
 impl Frame {
-    /// A program at its first instruction. The values that its parameters are given are in its first registers already.
+    /// Creates a frame at the first instruction of a program. The values of the parameters are in the first registers already.
     ///
     /// # Errors
     ///
-    /// `AllocError` if the registers have no room for all of the program's, and memory is refused.
+    /// `AllocError` if the registers have no room for all those of the program, and memory is refused.
     pub fn new(
         number: ProgramId,
         program: &Program,
@@ -72,14 +72,14 @@ impl Frame {
         })
     }
 
-    // Whether the block's last instruction is due after its body, and the body is carried out again before that.
+    // Returns whether the block's last instruction is next, but the instructions before it are to be carried out again first.
     fn is_again(&self, block: &Block) -> bool
         ensures { result ≡ is_again (block_view block.now) (frame_view self.now) }
     {
         self.at > 0 && self.passes > 1 && block.is_last(self.at)
     }
 
-    /// Takes the next instruction of the frame's program. `None` where the program has none there.
+    /// Takes the next instruction of the frame's program, or returns `None` if the program has none there.
     pub fn take<'a>(&mut self, program: &'a Program) -> Option<&'a Instruction>
         ensures { Takes (option_map (λ i. instruction_view i.now) result) (taken_in (program_view program.now) (frame_view self.old)) (frame_view self.new) }
     {
@@ -93,7 +93,7 @@ impl Frame {
         Some(instruction)
     }
 
-    /// Goes on at the first instruction of a block of the frame's program.
+    /// Goes to the first instruction of a block of the frame's program.
     pub fn jump(&mut self, program: &Program, to: BlockNumber)
         requires block { IsSome (slice_get (program_view program.now).blocks to.0) }
         ensures { option_map (at_block to.0 (frame_view self.old)) (slice_get (program_view program.now).blocks to.0) ≡ Some (frame_view self.new) }
@@ -106,7 +106,7 @@ impl Frame {
         self.passes = block.passes();
     }
 
-    /// Writes a register that there is, or unsets it, and answers what it held.
+    /// Writes or unsets a register that exists, and returns what it held.
     pub fn put(&mut self, to: Register, value: Option<Value>) -> Option<Value>
         requires register { to.0 < length (frame_view self.now).registers }
         ensures written { (frame_view self.new).registers ≡ write None (frame_view self.old).registers to.0 (option_map value_view value) }

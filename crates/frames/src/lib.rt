@@ -1,8 +1,8 @@
-//! Frames: programs that run, and what their instructions compute of registers.
+//! Frames, which are running programs, and the computations of their instructions on registers.
 //!
-//! A frame takes the instructions of its program, jumps and writes registers. Eleven instructions touch registers alone: they compute a value
-//! from registers and constants. A contract ties each of them to the machine's instruction. Writing a register is left to the caller, who
-//! counts what registers hold.
+//! A frame takes the instructions of its program, jumps and writes registers. Eleven instructions touch registers alone: they compute a
+//! value from registers and constants. A contract ties each of them to the machine's instruction. The caller writes their results into
+//! registers, and counts what registers hold.
 #![tactic(auto)]
 
 mod computations;

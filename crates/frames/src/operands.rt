@@ -1,4 +1,4 @@
-//! The operands of instructions: registers that have to be set, with values of the kind that is asked for.
+//! The operands of instructions, which are registers that are set to values of the kinds that the instruction asks for.
 
 ghost use Rattle.std.specs.Prelude.{◌≡◌, All, [], IsOk, IsSome, None, Ok, OnOk, map, option_map};
 ghost use Rattle.ui_machine.specs.Instructions.Registers.{values_in};
@@ -15,7 +15,7 @@ use g_values::Value;
 use std::alloc::AllocError;
 use ui_machine::ObjectId;
 
-/// The value of a register, if it is set.
+/// Returns the value of a register, if it is set.
 pub fn value_at(registers: &[Option<Value>], at: Register) -> Option<&Value>
     ensures { option_map (λ v. value_view v.now) result ≡ read None (registers_of registers.now) at.0 }
 {
@@ -30,7 +30,7 @@ pub fn value_at(registers: &[Option<Value>], at: Register) -> Option<&Value>
 ///
 /// # Errors
 ///
-/// `AllocError` where the list has no room and gets none, or a text can't be shared.
+/// `AllocError` if the list has no room and memory is refused, or a text can't be shared.
 pub fn copy_values(
     registers: &[Option<Value>],
     from: &[Register],
@@ -49,7 +49,7 @@ pub fn copy_values(
     Ok(())
 }
 
-/// The truth value in a register, if it has one.
+/// Returns the boolean in a register, if it holds one.
 pub fn truth_at(registers: &[Option<Value>], at: Register) -> Option<bool>
     ensures { result ≡ truth_in (registers_of registers.now) at.0 }
 {
@@ -59,7 +59,7 @@ pub fn truth_at(registers: &[Option<Value>], at: Register) -> Option<bool>
     }
 }
 
-/// The text in a register, if it has one. Null is empty.
+/// Returns the text in a register, if it holds one. A null text is returned as an empty one.
 pub fn text_at(registers: &[Option<Value>], at: Register) -> Option<&str>
     ensures { option_map (λ s. s.now) result ≡ text_in (registers_of registers.now) at.0 }
 {
@@ -70,7 +70,7 @@ pub fn text_at(registers: &[Option<Value>], at: Register) -> Option<&str>
     }
 }
 
-/// The object that a register names, of which nothing says here whether it lives.
+/// Returns the object that a register names. Does not say whether the object lives.
 pub fn identity_at(registers: &[Option<Value>], at: Register) -> ObjectId
     requires { IsOk (identity_in (registers_of registers.now) at.0) }
     ensures { identity_in (registers_of registers.now) at.0 ≡ Ok result.0 }

@@ -16,7 +16,7 @@ enum Numbers {
     UInt64(u64, u64),
 }
 
-// The numbers of two values, where they are of one kind of whole numbers.
+// Returns the two numbers if both values are of the same integer kind.
 fn numbers_of(left: &Value, right: &Value) -> Option<Numbers>
     ensures { option_map pair_view result ≡ pair_of (value_view left.now) (value_view right.now) }
 {
@@ -29,7 +29,7 @@ fn numbers_of(left: &Value, right: &Value) -> Option<Numbers>
     }
 }
 
-/// The sum of two numbers of one kind, with the low bits alone where it is too large; nothing of other values.
+/// Returns the sum of two numbers of one integer kind, wrapped around on overflow. Returns `None` for other values.
 pub fn wrapping_sum(left: &Value, right: &Value) -> Option<Value>
     ensures { option_map value_view result ≡ calculated add (value_view left.now) (value_view right.now) }
 {
@@ -41,7 +41,7 @@ pub fn wrapping_sum(left: &Value, right: &Value) -> Option<Value>
     }
 }
 
-/// The difference of two numbers of one kind, with the low bits alone where the kind does not have it; nothing of other values.
+/// Returns the difference of two numbers of one integer kind, wrapped around on overflow. Returns `None` for other values.
 pub fn wrapping_difference(left: &Value, right: &Value) -> Option<Value>
     ensures { option_map value_view result ≡ calculated sub (value_view left.now) (value_view right.now) }
 {
@@ -53,7 +53,7 @@ pub fn wrapping_difference(left: &Value, right: &Value) -> Option<Value>
     }
 }
 
-/// The product of two numbers of one kind, with the low bits alone where it is too large; nothing of other values.
+/// Returns the product of two numbers of one integer kind, wrapped around on overflow. Returns `None` for other values.
 #[tactic(auto, using(crate::proofs::Products::product_of_32_bits, crate::proofs::Products::product_of_64_bits))]
 pub fn wrapping_product(left: &Value, right: &Value) -> Option<Value>
     ensures { option_map value_view result ≡ calculated mul (value_view left.now) (value_view right.now) }
@@ -66,7 +66,7 @@ pub fn wrapping_product(left: &Value, right: &Value) -> Option<Value>
     }
 }
 
-/// Whether two numbers of one kind are equal; nothing of other values.
+/// Returns whether two numbers of one integer kind are equal. Returns `None` for other values.
 pub fn is_equal(left: &Value, right: &Value) -> Option<bool>
     ensures { result ≡ compared eq (value_view left.now) (value_view right.now) }
 {
@@ -78,7 +78,7 @@ pub fn is_equal(left: &Value, right: &Value) -> Option<bool>
     }
 }
 
-/// Whether the first of two numbers of one kind is below the second; nothing of other values.
+/// Returns whether the first of two numbers of one integer kind is below the second. Returns `None` for other values.
 pub fn is_less(left: &Value, right: &Value) -> Option<bool>
     ensures { result ≡ compared lt (value_view left.now) (value_view right.now) }
 {
@@ -90,7 +90,7 @@ pub fn is_less(left: &Value, right: &Value) -> Option<bool>
     }
 }
 
-/// Whether the first of two numbers of one kind is at most the second; nothing of other values.
+/// Returns whether the first of two numbers of one integer kind is at most the second. Returns `None` for other values.
 pub fn is_at_most(left: &Value, right: &Value) -> Option<bool>
     ensures { result ≡ compared le (value_view left.now) (value_view right.now) }
 {

@@ -1,4 +1,4 @@
-//! Why a value does not become one of another kind, and why JSON denotes no value.
+//! Errors of transforming a value to another kind, and of reading a value from JSON.
 
 ghost use Rattle.std.specs.Prelude.{◌≡◌};
 ghost use Rattle.g_values.specs.declared.error.TransformError.TheVariants.{OutOfMemory};
@@ -6,21 +6,21 @@ ghost use Rattle.g_values.specs.declared.error.JsonError.TheVariants as json;
 
 use std::alloc::AllocError;
 
-/// Why a value does not become one of another kind, in the order in which the tests are made.
+/// The reason for which a value can't be transformed to another kind. The variants are in the order in which the tests are made.
 #[derive(Clone, Copy, Debug, PartialEq, Eq)]
 pub enum TransformFault {
-    /// No value of the one kind becomes a value of the other.
+    /// No value of the one kind can be transformed to the other.
     NoTransform,
-    /// No member of the enum has the number, or the number is not made of known bits of the flags type.
+    /// No member of the enum has the number, or the number is negative or has a bit that no member of the flags type has.
     NotAMember,
 }
 
-/// Why a transformation gave no value.
+/// The error of a transformation.
 #[derive(Clone, Copy, Debug, PartialEq, Eq)]
 pub enum TransformError {
-    /// No memory was found.
+    /// Memory was refused.
     OutOfMemory,
-    /// The value has no result in the kind.
+    /// The value can't be transformed to the kind.
     Refused(TransformFault),
 }
 
@@ -32,23 +32,23 @@ impl From<AllocError> for TransformError {
     }
 }
 
-/// Why JSON denotes no value of a kind.
+/// The reason for which JSON denotes no value of a kind.
 #[derive(Clone, Copy, Debug, PartialEq, Eq)]
 pub enum JsonFault {
-    /// JSON of this sort denotes no value of the kind.
+    /// JSON of this type never denotes a value of the kind.
     WrongJson,
-    /// The kind does not have the number.
+    /// The number is outside the range of the kind.
     OutOfRange,
-    /// No member is called so or has the number.
+    /// No member has the name, nick or number.
     UnknownMember,
     /// The text has more than 4,096 bytes.
     TextTooLong,
 }
 
-/// Why a read of JSON gave no value.
+/// The error of reading a value from JSON.
 #[derive(Clone, Copy, Debug, PartialEq, Eq)]
 pub enum JsonError {
-    /// No memory was found.
+    /// Memory was refused.
     OutOfMemory,
     /// The JSON denotes no value of the kind.
     Refused(JsonFault),

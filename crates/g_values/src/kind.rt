@@ -5,17 +5,17 @@ ghost use Rattle.g_values.specs.View.{IsKnown};
 
 use type_tree::{TypeId, TypeTree};
 
-/// What a property, an argument or a result may hold.
+/// The kind of value that a property, an argument or a result may hold.
 #[derive(Clone, Copy, Debug, PartialEq, Eq)]
 pub enum Kind {
     Bool,
-    /// A whole number of 32 bits, with a sign.
+    /// A signed integer of 32 bits.
     Int,
-    /// A whole number of 32 bits.
+    /// An unsigned integer of 32 bits.
     UInt,
-    /// A whole number of 64 bits, with a sign.
+    /// A signed integer of 64 bits.
     Int64,
-    /// A whole number of 64 bits.
+    /// An unsigned integer of 64 bits.
     UInt64,
     /// A text or null.
     Text,
@@ -27,7 +27,8 @@ pub enum Kind {
     Object(TypeId),
 }
 
-/// Whether an enum's kind names an enum of the tree, and a flags kind a flags type.
+/// Returns whether the type in an enum kind is an enum of the tree, and the type in a flags kind a flags type. Returns true for other
+/// kinds.
 pub fn is_known(tree: &TypeTree, kind: Kind) -> bool
     ensures { IsTrue result ↔ IsKnown tree.now kind }
 {

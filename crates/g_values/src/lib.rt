@@ -1,4 +1,4 @@
-//! Kinds and values: what a property, an argument or a result may hold, and how a value of one kind becomes one of another.
+//! Kinds and values: what a property, an argument or a result may hold, and how values are transformed from one kind to another.
 //!
 //! A contract sees a kind and a value as the pure ones of the abstract machine.
 #![tactic(auto)]

@@ -1,4 +1,4 @@
-//! The first number of an enum, and known bits of a flags type.
+//! The first number of an enum, and the known bits of a flags type.
 
 ghost use Rattle.std.specs.Prelude.{◌≡◌, map, Some, None, if◌then◌else◌, unsigned_abs};
 ghost use Rattle.ui_machine.specs.Definition.Types.{flags};
@@ -9,7 +9,7 @@ ghost use Rattle.type_tree.specs.Entry.{enum_member};
 
 use type_tree::{EnumMember, TypeId, TypeTree};
 
-/// The number of the first member, or 0 where there is none.
+/// Returns the number of the first member, or 0 if there are no members.
 pub fn first_number(members: &[EnumMember]) -> i32
     ensures { result ≡ first_number (map enum_member members.now) }
 {
@@ -19,7 +19,7 @@ pub fn first_number(members: &[EnumMember]) -> i32
     }
 }
 
-/// A number as bits of a flags type, if it is made of known bits.
+/// Returns the number as bits of a flags type, or `None` if it is negative or has a bit that no member has.
 pub fn known_flags(tree: &TypeTree, t: TypeId, number: i128) -> Option<u32>
     requires { sort_of tree.now t ≡ flags }
     ensures { result ≡ (if is_known (members_of tree.now t) number then Some (unsigned_abs number) else None) }

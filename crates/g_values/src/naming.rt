@@ -1,4 +1,4 @@
-//! Members of a flags type by words of a text.
+//! Bits of a flags type from a text that names its members.
 
 ghost use Rattle.std.specs.Prelude.{◌≡◌, ◌<◌, ◌≤◌, length, position, reverse, List, [], ◌∷◌, IfSome, MatchOption};
 ghost use Rattle.std.specs.List.{slice_split};
@@ -9,14 +9,14 @@ ghost use Rattle.g_values.specs.Naming.{is_no_blank, front_trimmed, back_trimmed
 
 use type_tree::{TypeId, TypeTree};
 
-// No space, tab or carriage return.
+// Returns whether a byte is none of space, tab and carriage return.
 fn is_no_blank(byte: u8) -> bool
     ensures { result ≡ is_no_blank byte }
 {
     !(byte == b' ' || byte == b'\t' || byte == b'\r')
 }
 
-// Where the first byte that is no blank is.
+// Returns the index of the first byte that is not blank.
 fn first_of_word(text: &[u8]) -> Option<usize>
     ensures place { result ≡ position is_no_blank text.now }
     ensures within { IfSome result (λ i. i < length text.now) }
@@ -24,7 +24,7 @@ fn first_of_word(text: &[u8]) -> Option<usize>
     text.iter().position(|byte| is_no_blank(*byte))
 }
 
-// Where the last byte that is no blank is, counted from the end.
+// Returns the index of the last byte that is not blank, counted from the end.
 fn last_of_word(text: &[u8]) -> Option<usize>
     ensures place { result ≡ position is_no_blank (reverse text.now) }
     ensures within { IfSome result (λ i. i < length text.now) }
@@ -32,7 +32,7 @@ fn last_of_word(text: &[u8]) -> Option<usize>
     text.iter().rev().position(|byte| is_no_blank(*byte))
 }
 
-// Where the first bar is.
+// Returns the index of the first bar.
 fn first_bar(text: &[u8]) -> Option<usize>
     ensures place { result ≡ position is_bar text.now }
     ensures within { IfSome result (λ i. i < length text.now) }
@@ -40,7 +40,7 @@ fn first_bar(text: &[u8]) -> Option<usize>
     text.iter().position(|byte| *byte == b'|')
 }
 
-// What comes before the first bar, and what comes after it.
+// Splits a text at its first bar. Returns `None` if it has no bar.
 #[tactic(auto, using(crate::proofs::Bars::split_at_bar, crate::proofs::Bars::split_nowhere))]
 fn split_at_bar(text: &[u8]) -> Option<(&[u8], &[u8])>
     ensures parts { MatchOption result (slice_split is_bar text.now ≡ text.now ∷ []) (λ r. slice_split is_bar text.now ≡ r.0.now ∷ slice_split is_bar r.1.now) }
@@ -50,7 +50,7 @@ fn split_at_bar(text: &[u8]) -> Option<(&[u8], &[u8])>
     Some((&text[..bar], &text[bar + 1..]))
 }
 
-// A text without the blanks at its front.
+// Removes the blanks at the front of a text.
 fn front_trimmed(text: &[u8]) -> &[u8]
     ensures { result.now ≡ front_trimmed text.now }
 {
@@ -60,7 +60,7 @@ fn front_trimmed(text: &[u8]) -> &[u8]
     }
 }
 
-// A text without the blanks at its back.
+// Removes the blanks at the back of a text.
 fn back_trimmed(text: &[u8]) -> &[u8]
     ensures { result.now ≡ back_trimmed text.now }
 {
@@ -70,7 +70,7 @@ fn back_trimmed(text: &[u8]) -> &[u8]
     }
 }
 
-// The bits that a word names, with blanks around it; no word names none.
+// Returns the bits that a word names, with blanks around it. Blanks alone name no bits, and a word that names no member gives `None`.
 fn part_bits(tree: &TypeTree, t: TypeId, part: &[u8]) -> Option<u32>
     requires { sort_of tree.now t ≡ flags }
     ensures { result ≡ bits_called (members_of tree.now t) (trimmed part.now) }
@@ -82,7 +82,7 @@ fn part_bits(tree: &TypeTree, t: TypeId, part: &[u8]) -> Option<u32>
     tree.bits_called(t, word)
 }
 
-// The bits that the words of a text name, each between bars and with blanks around it.
+// Returns the union of the bits that the words between bars name, or `None` if one of them names no member.
 fn bits_of_words(tree: &TypeTree, t: TypeId, text: &[u8]) -> Option<u32>
     requires { sort_of tree.now t ≡ flags }
     ensures { result ≡ bits_named (members_of tree.now t) text.now }
@@ -96,7 +96,8 @@ fn bits_of_words(tree: &TypeTree, t: TypeId, text: &[u8]) -> Option<u32>
     Some(bits | part_bits(tree, t, rest)?)
 }
 
-/// The bits that a text names by words between bars, each with blanks around it.
+/// Returns the union of the bits that a text names by names or nicks between bars, with blanks around them. Returns `None` if one of them
+/// names no member.
 pub fn bits_named(tree: &TypeTree, t: TypeId, text: &str) -> Option<u32>
     requires { sort_of tree.now t ≡ flags }
     ensures { result ≡ bits_named (members_of tree.now t) text.now }

@@ -21,13 +21,14 @@ use type_tree::{TypeId, TypeTree};
 /// The most bytes of a text.
 pub const MOST_TEXT_BYTES: usize = 4_096;
 
-/// The value of a kind that JSON denotes: true or false; a whole number; a text or null; an enum's member by name, nick or number; flags as
-/// a number, or by names and nicks between bars; of objects, null alone.
+/// Reads a value of a kind from JSON: true or false, a whole number, a text or null, an enum member by its name, nick or number, flags as a
+/// number or as names and nicks between bars. For an object only null can be read.
 ///
 /// # Errors
 ///
-/// `WrongJson` where JSON of this sort denotes no value of the kind, `OutOfRange` for a number that the kind does not have,
-/// `UnknownMember` for what no member is called and no member's number is, `TextTooLong` past 4,096 bytes.
+/// Returns `WrongJson` if JSON of this type never denotes a value of the kind, `OutOfRange` if the number is outside the kind's range,
+/// `UnknownMember` if no member has the name, nick or number, `TextTooLong` if the text has more than 4,096 bytes, and `OutOfMemory` if
+/// memory is refused.
 pub fn from_json(
     alloc: Global,
     tree: &TypeTree,
@@ -66,28 +67,28 @@ pub fn from_json(
     }
 }
 
-// A truth value.
+// Reads a boolean.
 fn truth_in(json: &serde_json::Value) -> Result<bool, JsonFault>
     ensures { result ≡ expected (as_bool (view json.now)) }
 {
     json.as_bool().ok_or(JsonFault::WrongJson)
 }
 
-// Null.
+// Reads null.
 fn null_in(json: &serde_json::Value) -> Result<(), JsonFault>
     ensures { result ≡ expected (as_null (view json.now)) }
 {
     json.as_null().ok_or(JsonFault::WrongJson)
 }
 
-// A whole number of 64 bits, with or without a sign.
+// Reads a whole number of 64 bits, signed or unsigned.
 fn whole_number(json: &serde_json::Value) -> Option<i128>
     ensures { result ≡ whole_number (view json.now) }
 {
     json.as_number()?.as_i128()
 }
 
-// A whole number between two others, both included.
+// Reads a whole number from `low` to `high`, both included.
 fn number_in(json: &serde_json::Value, low: i128, high: i128) -> Result<i128, JsonFault>
     ensures number { result ≡ number_between low high (whole_number (view json.now)) }
     ensures low { IfOk result (λ n. low ≤ℤ n) }
@@ -102,7 +103,7 @@ fn number_in(json: &serde_json::Value, low: i128, high: i128) -> Result<i128, Js
     Ok(number)
 }
 
-// A text that is not too long, or null.
+// Reads null or a text of at most `MOST_TEXT_BYTES` bytes.
 fn text_in(alloc: Global, json: &serde_json::Value) -> Result<Option<RcStr>, JsonError>
     ensures { Means (option_map rc_str_bytes) result (text_or_null (view json.now)) }
 {
@@ -119,7 +120,7 @@ fn text_in(alloc: Global, json: &serde_json::Value) -> Result<Option<RcStr>, Jso
     Ok(Some(text))
 }
 
-// The number of a member of an enum, which is called or given itself.
+// Reads the number of an enum member, given by its name or nick or as the number itself.
 fn enum_number_in(tree: &TypeTree, t: TypeId, json: &serde_json::Value) -> Result<i32, JsonFault>
     requires { sort_of tree.now t ≡ enum }
     ensures { result ≡ enum_number (members_of tree.now t) (as_str (view json.now)) (whole_number (view json.now)) }
@@ -135,7 +136,7 @@ fn enum_number_in(tree: &TypeTree, t: TypeId, json: &serde_json::Value) -> Resul
     }
 }
 
-// Bits that are named, or any number of 32 bits that is given itself.
+// Reads bits of a flags type, given by names and nicks or as any number of 32 bits.
 fn bits_in(tree: &TypeTree, t: TypeId, json: &serde_json::Value) -> Result<u32, JsonFault>
     requires { sort_of tree.now t ≡ flags }
     ensures { result ≡ flags_bits (members_of tree.now t) (as_str (view json.now)) (whole_number (view json.now)) }

@@ -9,7 +9,8 @@ ghost use Rattle.g_values.specs.View.{value_view};
 use crate::value::Value;
 use std::rc::RcStr;
 
-/// Whether two values are one: of one kind with one content. Objects are one by their identity alone, however they are declared.
+/// Returns whether two values are of one kind and have the same content. Objects are compared by their identity alone, whatever their
+/// declared types.
 pub fn is_same(left: &Value, right: &Value) -> bool
     ensures { result ≡ same_value (value_view left.now) (value_view right.now) }
 {
@@ -27,7 +28,7 @@ pub fn is_same(left: &Value, right: &Value) -> bool
     }
 }
 
-// Whether two texts are one, or both are null.
+// Returns whether two texts are equal or both null.
 #[tactic(auto, using(crate::proofs::Texts::same_bytes))]
 fn is_same_text(left: &Option<RcStr>, right: &Option<RcStr>) -> bool
     ensures { result ≡ same_text (option_map rc_str_bytes left.now) (option_map rc_str_bytes right.now) }

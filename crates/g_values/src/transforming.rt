@@ -1,4 +1,4 @@
-//! How values of one kind become values of another.
+//! Transformations of values from one kind to another.
 
 ghost use Rattle.std.specs.Prelude.{◌≡◌, pos, ◌<ℤ◌, ◌≤ℤ◌, neg_ℤ, List, true, unsigned_abs, Option, option_map};
 ghost use Rattle.std.specs.Rc.{rc_str_bytes};
@@ -21,7 +21,7 @@ use std::rc::RcStr;
 use type_tree::{TypeId, TypeTree};
 use ui_machine::ObjectId;
 
-/// Whether values of the one kind may become values of the other.
+/// Returns whether values of the kind `from` may be transformed to the kind `to`.
 pub fn transformable(tree: &TypeTree, from: Kind, to: Kind) -> bool
     ensures { result ≡ is_transformable tree.now (kind_view from) (kind_view to) }
 {
@@ -38,14 +38,14 @@ pub fn transformable(tree: &TypeTree, from: Kind, to: Kind) -> bool
     }
 }
 
-// Whether a kind is one of whole numbers.
+// Returns whether a kind is one of the four integer kinds.
 fn is_whole(kind: Kind) -> bool
     ensures { result ≡ is_whole_kind (kind_view kind) }
 {
     matches!(kind, Kind::Int | Kind::UInt | Kind::Int64 | Kind::UInt64)
 }
 
-// A number as one of a kind of whole numbers.
+// Wraps a number to an integer kind. Returns `None` for other kinds.
 fn whole_value(number: i128, kind: Kind) -> Option<Value>
     ensures { BecomesWhole result (kind_view kind) number }
 {
@@ -62,7 +62,7 @@ fn whole_value(number: i128, kind: Kind) -> Option<Value>
     }
 }
 
-// What a truth value becomes.
+// Transforms a boolean to a kind.
 fn from_bool(
     alloc: Global,
     tree: &TypeTree,
@@ -81,7 +81,7 @@ fn from_bool(
     }
 }
 
-// What a number becomes.
+// Transforms an integer to a kind.
 fn from_number(
     alloc: Global,
     tree: &TypeTree,
@@ -109,7 +109,7 @@ fn from_number(
     }
 }
 
-// A number as a member of an enum.
+// Transforms a number to an enum. Returns `None` if no member has it.
 fn enum_value(tree: &TypeTree, t: TypeId, number: i128) -> Option<Value>
     requires { sort_of tree.now t ≡ enum }
     ensures { Becomes result (kinds.enum t) (if_so (has_number (members_of tree.now t) number) (values.enum t number)) }
@@ -118,7 +118,7 @@ fn enum_value(tree: &TypeTree, t: TypeId, number: i128) -> Option<Value>
     Some(Value::Enum(t, number))
 }
 
-// A number as bits of a flags type.
+// Transforms a number to a flags type. Returns `None` if it is negative or has a bit that no member has.
 fn flags_value(tree: &TypeTree, t: TypeId, number: i128) -> Option<Value>
     requires { sort_of tree.now t ≡ flags }
     ensures { Becomes result (kinds.flags t) (if_so (is_known (members_of tree.now t) number) (values.flags t (unsigned_abs number))) }
@@ -127,7 +127,7 @@ fn flags_value(tree: &TypeTree, t: TypeId, number: i128) -> Option<Value>
     Some(Value::Flags(t, bits))
 }
 
-// What a text becomes.
+// Transforms a text to a kind. Returns `None` unless the kind is text.
 fn from_text(text: &Option<RcStr>, kind: Kind) -> Result<Option<Value>, AllocError>
     ensures { (tree : List GType) → Yields result (kind_view kind) (converted tree (kind_view kind) (values.text (option_map rc_str_bytes text.now))) }
 {
@@ -141,7 +141,7 @@ fn from_text(text: &Option<RcStr>, kind: Kind) -> Result<Option<Value>, AllocErr
     }
 }
 
-// What an enum's number becomes, in a kind to which it may.
+// Transforms an enum value to a kind for which this is allowed.
 fn from_enum(tree: &TypeTree, t: TypeId, number: i32, kind: Kind) -> Option<Value>
     requires { is_transformable tree.now (kinds.enum t) (kind_view kind) ≡ true }
     ensures { Becomes result (kind_view kind) (converted tree.now (kind_view kind) (values.enum t number)) }
@@ -156,7 +156,7 @@ fn from_enum(tree: &TypeTree, t: TypeId, number: i32, kind: Kind) -> Option<Valu
     }
 }
 
-// What bits become, in a kind to which they may.
+// Transforms bits of a flags type to a kind for which this is allowed.
 fn from_flags(tree: &TypeTree, t: TypeId, bits: u32, kind: Kind) -> Option<Value>
     requires { is_transformable tree.now (kinds.flags t) (kind_view kind) ≡ true }
     ensures { Becomes result (kind_view kind) (converted tree.now (kind_view kind) (values.flags t bits)) }
@@ -168,7 +168,7 @@ fn from_flags(tree: &TypeTree, t: TypeId, bits: u32, kind: Kind) -> Option<Value
     }
 }
 
-// What an object becomes.
+// Transforms an object to a kind. Returns `None` unless the kind is one of objects.
 fn from_object(id: Option<ObjectId>, kind: Kind) -> Option<Value>
     ensures { (tree : List GType) → Becomes result (kind_view kind) (converted tree (kind_view kind) (values.object (option_map (λ o. o.0) id))) }
 {
@@ -179,7 +179,7 @@ fn from_object(id: Option<ObjectId>, kind: Kind) -> Option<Value>
     }
 }
 
-// What a value becomes, in a kind to which its own is transformable.
+// Transforms a value to a kind for which this is allowed. Returns `None` if the value has no counterpart in it.
 fn convert(
     alloc: Global,
     tree: &TypeTree,
@@ -203,12 +203,12 @@ fn convert(
     }
 }
 
-/// A value as one of another kind: an integer keeps its low bits in two's complement.
+/// Transforms a value to another kind. Integers keep their low bits in two's complement.
 ///
 /// # Errors
 ///
-/// `NoTransform` where no value of the one kind becomes one of the other; else `NotAMember` where the number is of no member of the enum, or
-/// not made of known bits of the flags type.
+/// Returns `NoTransform` if no value of the one kind can be transformed to the other, `NotAMember` if no member of the enum has the number
+/// or the number is negative or has a bit that no member of the flags type has, and `OutOfMemory` if memory is refused.
 pub fn transform(
     alloc: Global,
     tree: &TypeTree,
@@ -226,7 +226,7 @@ pub fn transform(
     }
 }
 
-// A value as one of a kind to which its own is transformable.
+// Transforms a value to a kind for which this is allowed.
 fn transform_one(
     alloc: Global,
     tree: &TypeTree,

@@ -1,4 +1,4 @@
-//! Values.
+//! Values of all kinds.
 
 ghost use Rattle.std.specs.Prelude.{◌≡◌, IfOk};
 ghost use Rattle.g_values.specs.View.{kind_view, value_view, value_kind};
@@ -9,7 +9,7 @@ use std::rc::RcStr;
 use type_tree::TypeId;
 use ui_machine::ObjectId;
 
-/// A value, which knows its kind.
+/// A value, which carries its kind.
 #[derive(Debug, Drop)]
 pub enum Value {
     Bool(bool),
@@ -23,11 +23,11 @@ pub enum Value {
     Enum(TypeId, i32),
     /// A set of bits of a flags type.
     Flags(TypeId, u32),
-    /// An object or null, declared to be of this type.
+    /// An object or null, with the declared type.
     Object(TypeId, Option<ObjectId>),
 }
 
-/// The kind of a value.
+/// Returns the kind of a value.
 pub fn kind_of(value: &Value) -> Kind
     ensures { kind_view result ≡ value_kind value.now }
 {
@@ -45,7 +45,7 @@ pub fn kind_of(value: &Value) -> Kind
 }
 
 impl Value {
-    /// The same value once more. A text is shared, not copied: the error comes only where a text has 2^64 - 1 sharers.
+    /// Copies the value. A text is shared, not copied, so copying fails only if a text has 2^64 - 1 sharers.
     ///
     /// # Errors
     ///

@@ -1,4 +1,4 @@
-//! Whole numbers of the four kinds: the low bits of any number, and decimal texts.
+//! Wrapping to the four integer kinds, and decimal texts of integers.
 
 ghost use Rattle.std.specs.Prelude.{◌≡◌, pos, ◌^◌, ◌<ℤ◌, ◌≤ℤ◌, neg_ℤ, decimal, IfOk};
 ghost use Rattle.std.specs.Fmt.{signed_decimal};
@@ -9,35 +9,39 @@ ghost use Rattle.ui_machine.specs.Rules.Transform.{wrapped};
 use std::alloc::{AllocError, Global};
 use std::rc::RcStr;
 
-/// The number of 32 bits with the same low bits.
+/// Returns the low 32 bits of a number as an unsigned number.
 pub fn wrapped_uint(number: i128) -> u32
     ensures { pos result ≡ wrapped uint number }
 {
     number.rem_euclid(4294967296) as u32
 }
 
-/// The number of 32 bits with a sign that has the same low bits.
+/// Returns the low 32 bits of a number as a signed number.
 pub fn wrapped_int(number: i128) -> i32
     ensures { result ≡ wrapped int number }
 {
     (number.rem_euclid(4294967296) as u32).cast_signed()
 }
 
-/// The number of 64 bits with the same low bits.
+/// Returns the low 64 bits of a number as an unsigned number.
 pub fn wrapped_uint64(number: i128) -> u64
     ensures { pos result ≡ wrapped uint64 number }
 {
     number.rem_euclid(18446744073709551616) as u64
 }
 
-/// The number of 64 bits with a sign that has the same low bits.
+/// Returns the low 64 bits of a number as a signed number.
 pub fn wrapped_int64(number: i128) -> i64
     ensures { result ≡ wrapped int64 number }
 {
     (number.rem_euclid(18446744073709551616) as u64).cast_signed()
 }
 
-/// A number of 64 bits in decimal.
+/// Writes an unsigned number of 64 bits in decimal.
+///
+/// # Errors
+///
+/// `AllocError` if memory is refused.
 fn unsigned_text(alloc: Global, number: u64) -> Result<RcStr, AllocError>
     ensures { IfOk result (λ s. rc_str_bytes s ≡ decimal number) }
 {
@@ -45,7 +49,11 @@ fn unsigned_text(alloc: Global, number: u64) -> Result<RcStr, AllocError>
     RcStr::from_str(alloc, text.as_str())
 }
 
-/// A number of 64 bits with a sign in decimal.
+/// Writes a signed number of 64 bits in decimal.
+///
+/// # Errors
+///
+/// `AllocError` if memory is refused.
 fn signed_text(alloc: Global, number: i64) -> Result<RcStr, AllocError>
     ensures { IfOk result (λ s. rc_str_bytes s ≡ signed_decimal number) }
 {
@@ -53,7 +61,7 @@ fn signed_text(alloc: Global, number: i64) -> Result<RcStr, AllocError>
     RcStr::from_str(alloc, text.as_str())
 }
 
-/// A number of 64 bits, with or without a sign, in decimal.
+/// Writes a number of 64 bits, signed or unsigned, in decimal.
 ///
 /// # Errors
 ///

@@ -9,7 +9,7 @@ use crate::members::first_number;
 use crate::value::Value;
 use type_tree::TypeTree;
 
-/// The zero value of a kind: FALSE, 0, null, the first member, no bits, null.
+/// Returns the zero value of a kind: false, 0, a null text, the first member of an enum, no bits of a flags type, or a null object.
 pub fn zero_of(tree: &TypeTree, kind: Kind) -> Value
     requires { IsKnown tree.now kind }
     ensures value { value_view result ≡ zero_value tree.now (kind_view kind) }

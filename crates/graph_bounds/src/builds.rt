@@ -1,4 +1,4 @@
-//! The bound of the build, and the frames that makings need.
+//! The bound of the build, and the number of frames that makings need.
 
 ghost use Rattle.std.specs.Prelude.{◌≡◌, ◌+◌, ◌≤◌, ℕ, length, IfOk};
 ghost use Rattle.law_typing.specs.Graph.{makings_from};
@@ -13,7 +13,7 @@ use operand_types::Lookups;
 use std::alloc::{AllocError, Global};
 use ui_machine::Place;
 
-// What the making of a place's object costs; nothing is built of a prototype.
+// Returns the cost of making the object at a place, or 0 for a prototype, of which the build makes nothing.
 fn making_cost(
     alloc: Global,
     lookups: &Lookups<'_>,
@@ -34,7 +34,7 @@ fn making_cost(
     Ok(total_of(channels, values, raised.as_slice()))
 }
 
-// What all makings of the build cost.
+// Returns the cost of all makings of the build.
 fn makings_cost(
     alloc: Global,
     lookups: &Lookups<'_>,
@@ -52,12 +52,12 @@ fn makings_cost(
     Ok(sum)
 }
 
-/// The bound of the build, one above the greatest bound at most: its makings, its forward values, its first transfers, and a finalisation for
-/// each of so many objects. The values are the costs of the channels' nodes.
+/// Returns the bound of the build, capped at one above the greatest bound: its makings, its forward values, its first transfers, and a
+/// finalisation for each of `objects` objects. The values are the costs of the channels' nodes.
 ///
 /// # Errors
 ///
-/// `AllocError` where no memory is found.
+/// `AllocError` if memory is refused.
 pub fn build_bound(
     alloc: Global,
     lookups: &Lookups<'_>,
@@ -76,7 +76,7 @@ pub fn build_bound(
     Ok(capped_sum(built, u64::from(objects)))
 }
 
-// The frames that the making of a place's object needs.
+// Returns the number of frames that the making of an object at a place needs.
 fn making_depth(
     alloc: Global,
     lookups: &Lookups<'_>,
@@ -93,11 +93,11 @@ fn making_depth(
     Ok(greatest_of(channels, values, raised.as_slice()) + 1)
 }
 
-/// The most frames that a making needs. The values are the depths of the channels, each 2^31 at most.
+/// Returns the greatest number of frames that a making needs. The values are the depths of the channels, each at most 2^31.
 ///
 /// # Errors
 ///
-/// `AllocError` where no memory is found.
+/// `AllocError` if memory is refused.
 pub fn makings_depth(
     alloc: Global,
     lookups: &Lookups<'_>,

@@ -1,4 +1,4 @@
-//! Numbers by channel: sums and greatest numbers over some channels.
+//! Sums and greatest values of numbers over lists of channels.
 
 ghost use Rattle.std.specs.Prelude.{◌≡◌, ◌+◌, ◌<◌, ◌≤◌, ℕ, Some, length, slice_get};
 ghost use Rattle.law_typing.specs.Graph.Channels as law;
@@ -12,17 +12,17 @@ ghost use Rattle.graph_bounds.specs.ByChannel.{Gives, GivesCapped, transfers_cos
 use definition_graph::ChannelNumbers;
 use ui_machine::Channel;
 
-// One above the greatest bound.
+// One above the greatest bound, which caps all sums.
 const MOST: u128 = 1_000_000_000_001;
 
-/// The sum of two costs, one above the greatest bound at most.
+/// Returns the sum of two costs, capped at one above the greatest bound.
 pub fn capped_sum(a: u64, b: u64) -> u64
     ensures { result ≡ capped (a + b) }
 {
     MOST.min(a as u128 + b as u128) as u64
 }
 
-// One of some channels.
+// Returns the channel at an index of a slice.
 fn channel_at(all: &[Channel], number: usize) -> Channel
     requires { number < length all.now }
     ensures { slice_get (channels_of all.now) number ≡ Some (channel_of result) }
@@ -30,7 +30,7 @@ fn channel_at(all: &[Channel], number: usize) -> Channel
     all[number]
 }
 
-// The number of a channel; a channel that is not there has 0.
+// Returns the value of a channel, or 0 if the definition has no such channel.
 fn value_of(channels: &ChannelNumbers, values: &[u64], channel: &Channel) -> u64
     requires { length values.now ≡ length channels.now }
     ensures few { (most : ℕ) → AreWithin values.now most → result ≤ most }
@@ -42,7 +42,7 @@ fn value_of(channels: &ChannelNumbers, values: &[u64], channel: &Channel) -> u64
     }
 }
 
-/// The sum of the costs of some channels, one above the greatest bound at most.
+/// Returns the sum of the costs of some channels, capped at one above the greatest bound.
 pub fn total_of(channels: &ChannelNumbers, values: &[u64], all: &[Channel]) -> u64
     requires { length values.now ≡ length channels.now }
     ensures { (f : law.Channel → ℕ) → GivesCapped channels.now values.now f → result ≡ capped (total f (channels_of all.now)) }
@@ -55,7 +55,7 @@ pub fn total_of(channels: &ChannelNumbers, values: &[u64], all: &[Channel]) -> u
     sum
 }
 
-/// The same with one more for each channel: a transfer that leads to it.
+/// Returns the sum of the costs of some channels and of a transfer to each, which costs 1, capped at one above the greatest bound.
 pub fn transfers_of(channels: &ChannelNumbers, values: &[u64], all: &[Channel]) -> u64
     requires { length values.now ≡ length channels.now }
     ensures { (f : law.Channel → ℕ) → GivesCapped channels.now values.now f → result ≡ capped (transfers_cost f (channels_of all.now)) }
@@ -68,7 +68,7 @@ pub fn transfers_of(channels: &ChannelNumbers, values: &[u64], all: &[Channel]) 
     sum
 }
 
-/// The greatest number of some channels, 0 of none.
+/// Returns the greatest value of some channels, or 0 if there are none.
 pub fn greatest_of(channels: &ChannelNumbers, values: &[u64], all: &[Channel]) -> u64
     requires { length values.now ≡ length channels.now }
     ensures few { (most : ℕ) → AreWithin values.now most → result ≤ most }

@@ -1,4 +1,4 @@
-//! The bounds of a definition's dispatches and the frames that it needs, from the numbers of its channels.
+//! Computes the bounds of a definition's dispatches and the frames that it needs, from the numbers of its channels.
 #![tactic(auto)]
 
 mod builds;

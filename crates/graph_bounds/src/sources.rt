@@ -1,4 +1,4 @@
-//! The programs that instructions make sources of.
+//! Finds the programs that instructions make sources of.
 
 ghost use Rattle.std.specs.Prelude.{◌≡◌, ◌++◌, ◌∷◌, [], cond, map, nat_eq, IfOk, OnOk};
 ghost use Rattle.std.specs.List.{list_any};
@@ -13,7 +13,7 @@ use operand_types::Lookups;
 use std::alloc::{AllocError, Global};
 use ui_machine::ProgramId;
 
-// The program that an instruction makes a source of.
+// Returns the program that an instruction makes a source of.
 fn source_named(lookups: &Lookups<'_>, instruction: &Instruction) -> Option<ProgramId>
     ensures { result ≡ source_named lookups.now (instruction_view instruction.now) }
 {
@@ -27,7 +27,7 @@ fn source_named(lookups: &Lookups<'_>, instruction: &Instruction) -> Option<Prog
     }
 }
 
-// That of one more instruction.
+// Adds the program that an instruction makes a source of, if it makes one.
 fn add_source(
     named: &mut Vec<ProgramId>,
     lookups: &Lookups<'_>,
@@ -41,7 +41,7 @@ fn add_source(
     Ok(())
 }
 
-// Those of some instructions.
+// Adds the programs that some instructions make sources of.
 fn add_code(
     named: &mut Vec<ProgramId>,
     lookups: &Lookups<'_>,
@@ -55,7 +55,7 @@ fn add_code(
     Ok(())
 }
 
-// Those of some blocks.
+// Adds the programs that the instructions of some blocks make sources of.
 fn add_blocks(
     named: &mut Vec<ProgramId>,
     lookups: &Lookups<'_>,
@@ -70,7 +70,7 @@ fn add_blocks(
     Ok(())
 }
 
-// Those of all programs.
+// Returns the programs that the instructions of all programs make sources of. One may come twice.
 fn named_sources(alloc: Global, lookups: &Lookups<'_>) -> Result<Vec<ProgramId>, AllocError>
     ensures { IfOk result (λ named. named.items ≡ named_in_programs lookups.now lookups.now.programs) }
 {
@@ -84,14 +84,14 @@ fn named_sources(alloc: Global, lookups: &Lookups<'_>) -> Result<Vec<ProgramId>,
     Ok(named)
 }
 
-// Whether a program is among these.
+// Returns whether a program is one of these.
 fn is_named(named: &[ProgramId], program: ProgramId) -> bool
     ensures { result ≡ list_any (λ m. nat_eq m program) named.now }
 {
     named.iter().any(|other| *other == program)
 }
 
-// One more program, if it is a source.
+// Adds a program if it is that of a source.
 fn add_if(
     programs: &mut Vec<ProgramId>,
     is_source: bool,
@@ -105,11 +105,11 @@ fn add_if(
     Ok(())
 }
 
-/// The programs that some instruction makes sources of, in document order.
+/// Returns the programs that any instruction makes sources of, in document order.
 ///
 /// # Errors
 ///
-/// `AllocError` where no memory is found.
+/// `AllocError` if memory is refused.
 pub fn source_programs(alloc: Global, lookups: &Lookups<'_>) -> Result<Vec<ProgramId>, AllocError>
     ensures { IfOk result (λ programs. programs.items ≡ sources_of lookups.now (sites lookups.now) 0 lookups.now.programs) }
 {

@@ -1,4 +1,4 @@
-//! The nodes of blocks.
+//! Adds the nodes of blocks.
 
 ghost use Rattle.std.specs.Prelude.{◌≡◌, ◌<◌, ◌≤◌, ◌-◌, length, take, drop, map, OnOk};
 ghost use Rattle.std.specs.List.{AllByRecursion};
@@ -15,18 +15,18 @@ use crate::nodes::{Nodes, greatest_of, sum_of};
 use graph_sketches::{Sketch, SketchedBlock};
 use std::alloc::AllocError;
 
-/// What is reckoned of a block.
+/// A part of a block that has a node of its own.
 #[derive(Clone, Copy, Debug, PartialEq, Eq)]
 pub enum BlockPart {
-    /// The block, and what comes after it.
+    /// The block with its last instruction and what comes after it.
     Block,
-    /// Its instructions before the last.
+    /// The instructions before the last, which are taken in each pass.
     Passes,
-    /// The blocks after it.
+    /// The blocks that come after the block.
     Next,
 }
 
-// All entries but the last.
+// Returns all entries but the last.
 fn before_last(starts: &[u32]) -> &[u32]
     ensures { result.now ≡ take (length starts.now - 1) starts.now }
 {
@@ -36,7 +36,7 @@ fn before_last(starts: &[u32]) -> &[u32]
     &starts[..starts.len() - 1]
 }
 
-// The last entry alone, if there is one.
+// Returns the last entry alone, if there is one.
 fn only_last(starts: &[u32]) -> &[u32]
     ensures { result.now ≡ drop (length starts.now - 1) starts.now }
 {
@@ -68,7 +68,7 @@ fn add_whole(
     Ok(())
 }
 
-// Adds the node of the instructions that a block passes again and again.
+// Adds the node of the instructions that a block takes in each pass.
 fn add_passes(
     nodes: &mut Nodes,
     sketch: &Sketch,
@@ -180,7 +180,7 @@ fn add_parts(
 ///
 /// # Errors
 ///
-/// `AllocError` where no memory is found.
+/// `AllocError` if memory is refused.
 pub fn add_block_parts(
     nodes: &mut Nodes,
     sketch: &Sketch,

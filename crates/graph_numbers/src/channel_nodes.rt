@@ -1,4 +1,4 @@
-//! The nodes of channels.
+//! Adds the nodes of channels.
 
 ghost use Rattle.std.specs.Prelude.{◌≡◌, ◌<◌, ◌∷◌, [], cond, length, IfSome, OnOk};
 ghost use Rattle.graph_sketches.specs.Sizes.{IsSmall};
@@ -17,27 +17,27 @@ use graph_sketches::{Sketch, SketchedChannel};
 use std::alloc::AllocError;
 use ui_machine::ProgramId;
 
-/// What is reckoned of a channel.
+/// A part of a channel that has a node of its own.
 #[derive(Clone, Copy, Debug, PartialEq, Eq)]
 pub enum ChannelPart {
-    /// The channel as it is raised, of a pair with the other end.
+    /// The channel as it is raised, together with the other end if it is in a pair.
     Whole,
-    /// Its emission.
+    /// The emission at the channel.
     Own,
-    /// Its class handler.
+    /// The class handler of the channel.
     Stages,
-    /// The handlers that bytecode may connect.
+    /// The handlers that bytecode may connect at the channel.
     Connected,
 }
 
-// 1 where an emission begins, else 0.
+// Returns 1 if an emission begins, or else 0.
 fn one_if(emits: bool) -> u64
     ensures { result ≡ one_if emits }
 {
     if emits { 1 } else { 0 }
 }
 
-// 1 for the transfer between the ends of a pair, 0 where there is no pair.
+// Returns 1 for the transfer between the ends of a pair, or 0 if there is no pair.
 fn transfer_if(other: Option<u32>) -> u64
     ensures { result ≡ transfer_if other }
 {
@@ -47,7 +47,7 @@ fn transfer_if(other: Option<u32>) -> u64
     }
 }
 
-// How many frames there are: one for each emission.
+// Returns the number of frames, which is one for each emission.
 fn frames_of(emits: bool, other: Option<u32>) -> u64
     ensures { result ≡ frames_of emits other }
 {
@@ -57,7 +57,7 @@ fn frames_of(emits: bool, other: Option<u32>) -> u64
     }
 }
 
-// Adds an edge to the other end's emission, if there is one.
+// Adds an edge to the emission of the other end, if there is one.
 fn link_other(
     nodes: &mut Nodes,
     sketch: &Sketch,
@@ -78,7 +78,7 @@ fn link_other(
     }
 }
 
-// Adds edges to a channel's own emission and to that of the other end.
+// Adds edges to the emissions of a channel and of the other end.
 fn link_ends(
     nodes: &mut Nodes,
     sketch: &Sketch,
@@ -98,7 +98,7 @@ fn link_ends(
     Ok(())
 }
 
-// Adds edges to both emissions if the channel is the first end of a pair, else none.
+// Adds edges to both emissions if the channel is the first end of a pair, and none otherwise.
 fn link_ends_if(
     nodes: &mut Nodes,
     sketch: &Sketch,
@@ -120,7 +120,7 @@ fn link_ends_if(
     Ok(())
 }
 
-// Adds the node of a channel as it is raised. The end of a pair that is not the first has no edges of its own.
+// Adds the node of a channel as it is raised. The second end of a pair has no edges of its own.
 fn add_whole(
     nodes: &mut Nodes,
     sketch: &Sketch,
@@ -204,7 +204,7 @@ fn add_stages(
     Ok(())
 }
 
-// Adds the node of the handlers that bytecode may connect at a channel: it counts the costliest of them `handlers` times.
+// Adds the node of the handlers that bytecode may connect at a channel. It counts the costliest of them `handlers` times.
 fn add_connected(
     nodes: &mut Nodes,
     sketch: &Sketch,
@@ -252,7 +252,7 @@ fn add_part(
 ///
 /// # Errors
 ///
-/// `AllocError` where no memory is found.
+/// `AllocError` if memory is refused.
 pub fn add_channel_parts(
     nodes: &mut Nodes,
     sketch: &Sketch,

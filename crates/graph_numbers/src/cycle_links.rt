@@ -1,4 +1,4 @@
-//! Cycles of nodes, as cycles of channels.
+//! Converts cycles of nodes to cycles of channels.
 
 ghost use Rattle.std.specs.Prelude.{◌≡◌, ◌++◌, ◌+◌, ◌<◌, ◌≤◌, ◌∷◌, ℕ, List, All, drop, length, take, slice_index_or, IfOk, IfNone, IfSome};
 ghost use Rattle.law_typing.specs.Graph.{Graph};
@@ -17,11 +17,11 @@ use std::alloc::{AllocError, Global};
 pub struct SketchedLink {
     /// The number of the channel.
     pub from: usize,
-    /// The program that starts the next one; a binding leads to it where there is none.
+    /// The program that starts the next channel, or `None` if a binding leads to it.
     pub by: Option<usize>,
 }
 
-/// What a node is for.
+/// The part of a sketch that a node is for.
 #[derive(Clone, Copy, Debug, PartialEq, Eq)]
 pub enum NodePart {
     Channel(usize),
@@ -29,7 +29,7 @@ pub enum NodePart {
     Other,
 }
 
-// What a node is for.
+// Returns the part of a sketch that a node is for.
 fn part_of(layout: &Layout, node: usize) -> NodePart
     ensures few { PartBelow layout.now.programs result }
     ensures described { (s : Sketch) (handlers : ℕ) → layout.now ≡ counts_of s → Describes result (part_at (laid s handlers) node) }
@@ -45,8 +45,8 @@ fn part_of(layout: &Layout, node: usize) -> NodePart
     NodePart::Other
 }
 
-// The link that the next node of a path leads to: a channel begins a new one, and the last one is added to `links`; a program becomes what
-// leads on from the last one; any other node changes nothing.
+// Returns the link that the next node of a path leads to. A channel begins a new link, and the last one is added to `links`. A program
+// becomes what leads on from the last link. Any other node changes nothing.
 fn next_link(
     links: &mut Vec<SketchedLink>,
     last: SketchedLink,
@@ -70,11 +70,11 @@ fn next_link(
     }
 }
 
-/// The links of a path of nodes that begins with a channel. Each names a program of the layout, or none.
+/// Returns the links of a path of nodes that begins with a channel. Each link names a program of the layout, or none.
 ///
 /// # Errors
 ///
-/// `AllocError` where no memory is found.
+/// `AllocError` if memory is refused.
 pub fn links_of(
     alloc: Global,
     layout: &Layout,
@@ -97,11 +97,11 @@ pub fn links_of(
     Ok(links)
 }
 
-/// The nodes of a cycle behind one of them, up to that one again.
+/// Returns the nodes of a cycle that come after the node at index `first`, all the way around to that one.
 ///
 /// # Errors
 ///
-/// `AllocError` where no memory is found.
+/// `AllocError` if memory is refused.
 pub fn rest_of(alloc: Global, cycle: &[usize], first: usize) -> Result<Vec<usize>, AllocError>
     requires { first < length cycle.now }
     ensures { IfOk result (λ nodes. nodes.items ≡ drop (first + 1) cycle.now ++ take first cycle.now) }
@@ -112,7 +112,7 @@ pub fn rest_of(alloc: Global, cycle: &[usize], first: usize) -> Result<Vec<usize
     Ok(nodes)
 }
 
-/// The place in a cycle of nodes of the first one that is a channel's, if there is one.
+/// Returns the index in a cycle of nodes of the first one that is a channel's, if there is one.
 pub fn first_channel(layout: &Layout, cycle: &[usize]) -> Option<usize>
     ensures found { IfSome result (λ i. (i < length cycle.now) × (slice_index_or cycle.now i 0 < layout.now.channels)) }
     ensures none { IfNone result ((i : ℕ) → i < length cycle.now → layout.now.channels ≤ slice_index_or cycle.now i 0) }

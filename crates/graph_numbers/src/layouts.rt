@@ -1,4 +1,4 @@
-//! Where the nodes of a sketch are: those of one sort behind those of another.
+//! The numbers of the nodes of a sketch, in which the nodes of one sort come after those of another.
 
 ghost use Rattle.std.specs.Prelude.{◌≡◌, ◌<◌, ◌≤◌, ◌^◌, map, IfOk};
 ghost use Rattle.graph_sketches.specs.Numbered.{whole, own, stages, connected, group, program, blocks, place, start, block, passes, next};
@@ -11,7 +11,7 @@ use std::alloc::{AllocError, Global};
 use std::marker::Model;
 use ui_machine::ProgramId;
 
-/// How many nodes of each sort there are, and so where each is.
+/// The number of nodes of each sort, which gives the number of each node.
 #[derive(Debug, Drop)]
 pub struct Layout {
     channels: usize,
@@ -20,7 +20,7 @@ pub struct Layout {
     places: usize,
     starts: usize,
     blocks: usize,
-    // Of each program, how many blocks come before its own.
+    // For each program, how many blocks come before its own.
     befores: Vec<usize>,
 }
 
@@ -40,7 +40,7 @@ impl Model for Layout {
     } };
 }
 
-// How many blocks come before those of each program, and at the end how many there are.
+// Counts the blocks before those of each program, and all blocks.
 fn befores_of(alloc: Global, programs: &[Vec<SketchedBlock>]) -> Result<Befores, AllocError>
     requires few { block_count (map (λ v. map block_view v.items) programs.now) ≤ 16384 }
     ensures { IfOk result (λ b. (b.befores.items ≡ befores_from 0 (map (λ v. map block_view v.items) programs.now))
@@ -55,7 +55,7 @@ fn befores_of(alloc: Global, programs: &[Vec<SketchedBlock>]) -> Result<Befores,
     Ok(Befores { befores, blocks })
 }
 
-// How many blocks come before those of each program, and how many there are.
+// The number of blocks before those of each program, and the number of all blocks.
 #[derive(Debug, Drop)]
 struct Befores {
     befores: Vec<usize>,
@@ -63,11 +63,11 @@ struct Befores {
 }
 
 impl Layout {
-    /// The layout of a sketch.
+    /// Creates the layout of a sketch.
     ///
     /// # Errors
     ///
-    /// `AllocError` where no memory is found.
+    /// `AllocError` if memory is refused.
     pub fn new(alloc: Global, sketch: &Sketch) -> Result<Layout, AllocError>
         requires small { IsSmall (sketch_view sketch.now) }
         ensures { IfOk result (λ layout. layout ≡ counts_of (sketch_view sketch.now)) }
@@ -85,42 +85,42 @@ impl Layout {
         })
     }
 
-    /// How many channels there are.
+    /// Returns the number of channels.
     pub fn channel_count(&self) -> usize
         ensures { result ≡ self.now.channels }
     {
         self.channels
     }
 
-    /// How many groups there are.
+    /// Returns the number of groups.
     pub fn group_count(&self) -> usize
         ensures { result ≡ self.now.groups }
     {
         self.groups
     }
 
-    /// How many programs there are.
+    /// Returns the number of programs.
     pub fn program_count(&self) -> usize
         ensures { result ≡ self.now.programs }
     {
         self.programs
     }
 
-    /// How many places there are.
+    /// Returns the number of places.
     pub fn place_count(&self) -> usize
         ensures { result ≡ self.now.places }
     {
         self.places
     }
 
-    /// How many starts there are.
+    /// Returns the number of starts.
     pub fn start_count(&self) -> usize
         ensures { result ≡ self.now.starts }
     {
         self.starts
     }
 
-    /// The node of a channel as it is raised.
+    /// Returns the node of a channel as it is raised.
     pub fn whole(&self, channel: usize) -> u128
         ensures { result ≡ at self.now (whole channel) }
     {
@@ -129,56 +129,56 @@ impl Layout {
         channel as u128
     }
 
-    /// The node of a channel's emission.
+    /// Returns the node of a channel's emission.
     pub fn own(&self, channel: usize) -> u128
         ensures { result ≡ at self.now (own channel) }
     {
         self.channels as u128 + channel as u128
     }
 
-    /// The node of a channel's class handler.
+    /// Returns the node of a channel's class handler.
     pub fn stages(&self, channel: usize) -> u128
         ensures { result ≡ at self.now (stages channel) }
     {
         2 * self.channels as u128 + channel as u128
     }
 
-    /// The node of the handlers that bytecode may connect at a channel.
+    /// Returns the node of the handlers that bytecode may connect at a channel.
     pub fn connected(&self, channel: usize) -> u128
         ensures { result ≡ at self.now (connected channel) }
     {
         3 * self.channels as u128 + channel as u128
     }
 
-    /// The node of a group of programs.
+    /// Returns the node of a group of programs.
     pub fn group(&self, number: usize) -> u128
         ensures { result ≡ at self.now (group number) }
     {
         4 * self.channels as u128 + number as u128
     }
 
-    /// The node of a program.
+    /// Returns the node of a program.
     pub fn program(&self, number: ProgramId) -> u128
         ensures { result ≡ at self.now (program number) }
     {
         4 * self.channels as u128 + self.groups as u128 + number as u128
     }
 
-    /// The node of all blocks of a program.
+    /// Returns the node of all blocks of a program.
     pub fn blocks(&self, number: usize) -> u128
         ensures { result ≡ at self.now (blocks number) }
     {
         4 * self.channels as u128 + self.groups as u128 + self.programs as u128 + number as u128
     }
 
-    /// The node of a place's paired properties.
+    /// Returns the node of a place's paired properties.
     pub fn place(&self, number: usize) -> u128
         ensures { result ≡ at self.now (place number) }
     {
         4 * self.channels as u128 + self.groups as u128 + 2 * self.programs as u128 + number as u128
     }
 
-    /// The node of a start.
+    /// Returns the node of a start.
     pub fn start(&self, number: usize) -> u128
         ensures { result ≡ at self.now (start number) }
     {
@@ -189,7 +189,7 @@ impl Layout {
             + number as u128
     }
 
-    // The number of a block among all blocks.
+    // Returns the number of a block among all blocks.
     fn block_number(&self, program: usize, block: usize) -> u128
         ensures number { result ≡ block_number self.now program block }
         ensures few { result < 2 ^ 65 }
@@ -200,7 +200,7 @@ impl Layout {
         block as u128
     }
 
-    /// The node of a block of a program.
+    /// Returns the node of a block of a program.
     pub fn block(&self, program: usize, number: usize) -> u128
         ensures { result ≡ at self.now (block program number) }
     {
@@ -212,7 +212,7 @@ impl Layout {
         begin + self.block_number(program, number)
     }
 
-    /// The node of what a block passes again and again.
+    /// Returns the node of the instructions that a block takes in each pass.
     pub fn passes(&self, program: usize, number: usize) -> u128
         ensures { result ≡ at self.now (passes program number) }
     {
@@ -224,7 +224,7 @@ impl Layout {
         begin + self.blocks as u128 + self.block_number(program, number)
     }
 
-    /// The node of the blocks after a block.
+    /// Returns the node of the blocks that come after a block.
     pub fn next(&self, program: usize, number: usize) -> u128
         ensures { result ≡ at self.now (next program number) }
     {

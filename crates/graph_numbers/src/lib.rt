@@ -1,7 +1,7 @@
-//! The ranks, costs and depths of a definition's graph, from its sketch; or a cycle of it.
+//! Computes the ranks, costs and depths of a definition's graph from its sketch, or finds a cycle.
 //!
-//! Each part of a sketch becomes a node: a channel as it is raised, its emission, a program, a block, a start. A node depends on those that it may
-//! begin. The nodes are put in order, and numbers are reckoned in one pass over it.
+//! Each part of a sketch becomes a node: a channel as it is raised, its emission, a program, a block, a start. A node depends on those that
+//! it may begin. The nodes are put in order, and their numbers are computed in one pass over this order.
 #![tactic(auto)]
 
 mod block_nodes;

@@ -1,4 +1,4 @@
-//! Edges from the node that was added last, for each entry of a list.
+//! Adds edges from the node that was added last, one for each entry of a list.
 
 ghost use Rattle.std.specs.Prelude.{◌≡◌, ◌<◌, ◌≤◌, ◌+◌, ◌-◌, ◌∷◌, [], true, suc, cond, length, map, slice_get, OnOk};
 ghost use Rattle.ui_machine.specs.Seq.{listed};
@@ -15,7 +15,7 @@ use graph_sketches::Sketch;
 use std::alloc::AllocError;
 use ui_machine::ProgramId;
 
-// The first end of the pair of a channel, or the channel itself.
+// Returns the first end of the pair of a channel, or the channel itself if it is in none.
 fn first_of(sketch: &Sketch, channel: u32) -> usize
     ensures few { result ≤ 4294967295 }
     ensures first { result ≡ first_of (slice_get (sketch_view sketch.now).channels channel) channel }
@@ -26,11 +26,11 @@ fn first_of(sketch: &Sketch, channel: u32) -> usize
     }
 }
 
-/// Adds an edge to this node from the node that was added last, if what it leads to is there.
+/// Adds an edge to the node `to` from the node that was added last, if `is_there`.
 ///
 /// # Errors
 ///
-/// `AllocError` where no memory is found.
+/// `AllocError` if memory is refused.
 pub fn link_if(nodes: &mut Nodes, is_there: bool, to: u128) -> Result<(), AllocError>
     requires node { 0 < length nodes.old.graph }
     requires fits { is_there ≡ true → to ≤ 4294967295 }
@@ -42,11 +42,11 @@ pub fn link_if(nodes: &mut Nodes, is_there: bool, to: u128) -> Result<(), AllocE
     Ok(())
 }
 
-/// Adds edges to the nodes of these programs, leaving out those that are not there.
+/// Adds edges to the nodes of these programs, except for those that do not exist.
 ///
 /// # Errors
 ///
-/// `AllocError` where no memory is found.
+/// `AllocError` if memory is refused.
 pub fn link_programs(
     nodes: &mut Nodes,
     sketch: &Sketch,
@@ -72,7 +72,7 @@ pub fn link_programs(
 ///
 /// # Errors
 ///
-/// `AllocError` where no memory is found.
+/// `AllocError` if memory is refused.
 pub fn link_channels(
     nodes: &mut Nodes,
     sketch: &Sketch,
@@ -90,11 +90,11 @@ pub fn link_channels(
     Ok(())
 }
 
-/// Adds edges to the nodes of these groups, leaving out those that are not there.
+/// Adds edges to the nodes of these groups, except for those that do not exist.
 ///
 /// # Errors
 ///
-/// `AllocError` where no memory is found.
+/// `AllocError` if memory is refused.
 pub fn link_groups(
     nodes: &mut Nodes,
     sketch: &Sketch,
@@ -116,11 +116,11 @@ pub fn link_groups(
     Ok(())
 }
 
-/// Adds edges to the nodes of these places, leaving out those that are not there.
+/// Adds edges to the nodes of these places, except for those that do not exist.
 ///
 /// # Errors
 ///
-/// `AllocError` where no memory is found.
+/// `AllocError` if memory is refused.
 pub fn link_places(
     nodes: &mut Nodes,
     sketch: &Sketch,
@@ -142,11 +142,11 @@ pub fn link_places(
     Ok(())
 }
 
-/// Adds edges to the nodes of these starts, leaving out those that are not there.
+/// Adds edges to the nodes of these starts, except for those that do not exist.
 ///
 /// # Errors
 ///
-/// `AllocError` where no memory is found.
+/// `AllocError` if memory is refused.
 pub fn link_starts(
     nodes: &mut Nodes,
     sketch: &Sketch,
@@ -172,7 +172,7 @@ pub fn link_starts(
 ///
 /// # Errors
 ///
-/// `AllocError` where no memory is found.
+/// `AllocError` if memory is refused.
 pub fn link_blocks(
     nodes: &mut Nodes,
     sketch: &Sketch,
@@ -194,7 +194,7 @@ pub fn link_blocks(
     Ok(())
 }
 
-// The block `to` if it comes after the block `after`, else the block next after that.
+// Returns the block `to` if it comes after the block `after`, or else the block right after that one.
 fn later(after: usize, to: usize) -> usize
     requires { after < usize.MAX }
     ensures { result ≡ suc after + (to - suc after) }
@@ -202,12 +202,12 @@ fn later(after: usize, to: usize) -> usize
     to.max(after + 1)
 }
 
-/// Adds edges to the nodes of these blocks of a program that has `count` of them. For one that does not come after the block `after`, the
-/// edge leads to the block next after that. A block past the last has no edge.
+/// Adds edges to the nodes of these blocks of a program that has `count` of them. If one does not come after the block `after`, the edge
+/// leads to the block right after that one. There is no edge to a block past the last one.
 ///
 /// # Errors
 ///
-/// `AllocError` where no memory is found.
+/// `AllocError` if memory is refused.
 pub fn link_next(
     nodes: &mut Nodes,
     sketch: &Sketch,

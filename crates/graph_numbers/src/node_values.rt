@@ -1,4 +1,4 @@
-//! The numbers of channels' nodes, and of programs.
+//! Looks up the numbers of the nodes of channels and programs.
 
 ghost use Rattle.std.specs.Prelude.{◌≡◌, length, slice_get, slice_index_or, IfOk};
 ghost use Rattle.law_numbering.specs.Tables.{value_of};
@@ -13,7 +13,7 @@ use graph_sketches::Sketch;
 use std::alloc::{AllocError, Global};
 use ui_machine::ProgramId;
 
-// The number of a node, 0 where there is none.
+// Returns the number of a node, or 0 if there is no such node.
 fn number_at(values: &[u64], node: u128) -> u64
     ensures { result ≡ of_node values.now node }
 {
@@ -24,7 +24,7 @@ fn number_at(values: &[u64], node: u128) -> u64
     }
 }
 
-// The first end of the pair of a channel, or the channel itself.
+// Returns the first end of the pair of a channel, or the channel itself if it is in none.
 fn first_of(sketch: &Sketch, channel: usize) -> usize
     ensures { result ≡ first_of (slice_get (sketch_view sketch.now).channels channel) channel }
 {
@@ -34,7 +34,7 @@ fn first_of(sketch: &Sketch, channel: usize) -> usize
     }
 }
 
-// The number of a channel's node.
+// Returns the number of a channel's node.
 fn channel_value(sketch: &Sketch, layout: &Layout, values: &[u64], channel: usize) -> u64
     requires { layout.now ≡ counts_of (sketch_view sketch.now) }
     ensures { result ≡ value_of (sketch_view sketch.now) (at_in (sketch_view sketch.now)) values.now channel }
@@ -42,11 +42,11 @@ fn channel_value(sketch: &Sketch, layout: &Layout, values: &[u64], channel: usiz
     number_at(values, layout.whole(first_of(sketch, channel)))
 }
 
-/// The number of the node of each channel, in the order of the report.
+/// Returns the number of each channel's node, in the order of the report.
 ///
 /// # Errors
 ///
-/// `AllocError` where no memory is found.
+/// `AllocError` if memory is refused.
 pub fn channel_values(
     alloc: Global,
     sketch: &Sketch,
@@ -64,7 +64,7 @@ pub fn channel_values(
     Ok(numbers)
 }
 
-/// The number of a program's node.
+/// Returns the number of a program's node.
 pub fn program_value(layout: &Layout, values: &[u64], number: ProgramId) -> u64
     ensures { result ≡ of_node values.now (at layout.now (program number)) }
 {

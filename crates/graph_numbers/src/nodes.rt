@@ -1,4 +1,4 @@
-//! Nodes as they are kept.
+//! The nodes of a graph, with their rules.
 
 ghost use Rattle.std.specs.Prelude.{◌≡◌, ◌<◌, ◌≤◌, ◌∷◌, [], true, false, length, OnOk};
 ghost use Rattle.graph_numbers.specs.Columns.{linked, no_columns, with_row};
@@ -8,7 +8,7 @@ use node_numbers::Rule;
 use std::alloc::{AllocError, Global};
 use std::marker::Model;
 
-/// Nodes by their numbers: what each depends on, the rules of its cost and of its depth, and whether it counts in ranks.
+/// The nodes of a graph by number: what each depends on, the rules of its cost and of its depth, and whether it counts in ranks.
 #[derive(Drop)]
 pub struct Nodes {
     pub(crate) dependencies: Dependencies,
@@ -25,7 +25,7 @@ impl Model for Nodes {
     ghost view = { λ n. record { graph = n.dependencies; costs = n.costs.items; depths = n.depths.items; counts = n.counts.items } };
 }
 
-/// The rule that adds what a node depends on, takes the sum `times` times, and puts `more` on top.
+/// Returns the rule that adds the numbers of what a node depends on, multiplies the sum by `times`, and adds `more`.
 pub(crate) fn sum_of(times: u32, more: u64) -> Rule
     ensures { result ≡ record { adds = true; times = times; more = more } }
 {
@@ -36,7 +36,7 @@ pub(crate) fn sum_of(times: u32, more: u64) -> Rule
     }
 }
 
-/// The rule that takes the greatest of what a node depends on `times` times, and puts `more` on top.
+/// Returns the rule that takes the greatest number of what a node depends on, multiplies it by `times`, and adds `more`.
 pub(crate) fn greatest_of(times: u32, more: u64) -> Rule
     ensures { result ≡ record { adds = false; times = times; more = more } }
 {
@@ -48,7 +48,7 @@ pub(crate) fn greatest_of(times: u32, more: u64) -> Rule
 }
 
 impl Nodes {
-    /// No nodes. It takes no memory.
+    /// Creates a list without nodes. It takes no memory.
     pub fn new(alloc: Global) -> Nodes
         ensures { result ≡ no_columns }
     {
@@ -64,7 +64,7 @@ impl Nodes {
     ///
     /// # Errors
     ///
-    /// `AllocError` where no memory is found.
+    /// `AllocError` if memory is refused.
     pub fn add(&mut self, cost: Rule, depth: Rule, counts: bool) -> Result<(), AllocError>
         ensures { OnOk result (self.new ≡ with_row self.old [] cost depth counts) }
     {
@@ -75,11 +75,11 @@ impl Nodes {
         Ok(())
     }
 
-    /// Adds an edge from the node that was added last.
+    /// Adds an edge from the node that was added last to the node `to`.
     ///
     /// # Errors
     ///
-    /// `AllocError` where no memory is found.
+    /// `AllocError` if memory is refused.
     pub fn link(&mut self, to: u128) -> Result<(), AllocError>
         requires node { 0 < length self.old.graph }
         requires fits { to ≤ 4294967295 }

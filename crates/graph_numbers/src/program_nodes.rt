@@ -1,4 +1,4 @@
-//! The nodes of groups, programs, places and starts.
+//! Adds the nodes of groups, programs, places and starts.
 
 ghost use Rattle.std.specs.Prelude.{◌≡◌, ◌<◌, ◌≤◌, length, map, OnOk};
 ghost use Rattle.graph_sketches.specs.Numbered.{blocks_node, group_node, place_node, program_node, start_cost, start_depth, start_edges, start_node};
@@ -16,12 +16,12 @@ use node_numbers::Rule;
 use std::alloc::AllocError;
 use ui_machine::ProgramId;
 
-/// What is reckoned of a program.
+/// A part of a program that has a node of its own.
 #[derive(Clone, Copy, Debug, PartialEq, Eq)]
 pub enum ProgramPart {
     /// The program, from its first block on.
     Program,
-    /// All its blocks.
+    /// All blocks of the program.
     Blocks,
 }
 
@@ -122,7 +122,7 @@ fn add_place(
     Ok(())
 }
 
-// How the cost of a start results from what it leads to.
+// Returns the rule that gives the cost of a start from the costs of what it leads to.
 fn start_cost(start: &SketchedStart) -> Rule
     ensures { result ≡ start_cost (start_view start.now) }
 {
@@ -134,7 +134,7 @@ fn start_cost(start: &SketchedStart) -> Rule
     }
 }
 
-// How the depth of a start results from what it leads to.
+// Returns the rule that gives the depth of a start from the depths of what it leads to.
 fn start_depth(start: &SketchedStart) -> Rule
     ensures { result ≡ start_depth (start_view start.now) }
 {
@@ -194,7 +194,7 @@ fn add_start(
 ///
 /// # Errors
 ///
-/// `AllocError` where no memory is found.
+/// `AllocError` if memory is refused.
 pub fn add_groups(nodes: &mut Nodes, sketch: &Sketch, layout: &Layout) -> Result<(), AllocError>
     requires counted { layout.now ≡ counts_of (sketch_view sketch.now) }
     requires small { IsSmall (sketch_view sketch.now) }
@@ -211,7 +211,7 @@ pub fn add_groups(nodes: &mut Nodes, sketch: &Sketch, layout: &Layout) -> Result
 ///
 /// # Errors
 ///
-/// `AllocError` where no memory is found.
+/// `AllocError` if memory is refused.
 pub fn add_programs(
     nodes: &mut Nodes,
     sketch: &Sketch,
@@ -240,7 +240,7 @@ pub fn add_programs(
 ///
 /// # Errors
 ///
-/// `AllocError` where no memory is found.
+/// `AllocError` if memory is refused.
 pub fn add_places(nodes: &mut Nodes, sketch: &Sketch, layout: &Layout) -> Result<(), AllocError>
     requires counted { layout.now ≡ counts_of (sketch_view sketch.now) }
     ensures { OnOk result (nodes.new ≡ with_nodes nodes.old (place_nodes (sketch_view sketch.now))) }
@@ -256,7 +256,7 @@ pub fn add_places(nodes: &mut Nodes, sketch: &Sketch, layout: &Layout) -> Result
 ///
 /// # Errors
 ///
-/// `AllocError` where no memory is found.
+/// `AllocError` if memory is refused.
 pub fn add_starts(nodes: &mut Nodes, sketch: &Sketch, layout: &Layout) -> Result<(), AllocError>
     requires counted { layout.now ≡ counts_of (sketch_view sketch.now) }
     requires small { IsSmall (sketch_view sketch.now) }

@@ -1,4 +1,4 @@
-//! Ranks, costs and depths, reckoned node by node.
+//! Computes ranks, costs and depths node by node.
 
 ghost use Rattle.std.specs.Prelude.{◌≡◌, ◌<◌, ℕ, All, length, slice_index_or, IfOk, OnOk};
 ghost use Rattle.dependency_order.specs.Graphs.{IsOrder};
@@ -69,7 +69,7 @@ fn add_blocks(nodes: &mut Nodes, sketch: &Sketch, layout: &Layout) -> Result<(),
     Ok(())
 }
 
-// All nodes of a sketch, where bytecode may connect `handlers` handlers.
+// Returns all nodes of a sketch, where bytecode may connect `handlers` handlers.
 fn nodes_of(
     alloc: Global,
     sketch: &Sketch,
@@ -88,24 +88,24 @@ fn nodes_of(
     Ok(nodes)
 }
 
-// Where costs are capped: one above the greatest bound.
+// The cap of costs, which is one above the greatest bound.
 const MOST_COST: u64 = 1_000_000_000_001;
 
-// More than any depth.
+// The cap of depths, which is more than any depth.
 const MOST_DEPTH: u64 = 2_147_483_648;
 
 /// The numbers of the nodes of a graph without a cycle.
 #[derive(Debug, Drop)]
 pub struct NodeNumbers {
-    /// What each costs, one above the greatest bound at most.
+    /// The cost of each node, capped at one above the greatest bound.
     pub costs: Vec<u64>,
-    /// How many frames each may need.
+    /// The number of frames that each node may need.
     pub depths: Vec<u64>,
-    /// How many nodes of channels come before each on the longest chain.
+    /// The number of channels' nodes that come before each node on the longest chain that ends in it.
     pub ranks: Vec<u64>,
 }
 
-// The costs, depths and ranks of nodes, reckoned in this order. No rank is above the number of nodes.
+// Computes the costs, depths and ranks of nodes, in this order of the nodes. No rank is above the number of nodes.
 fn numbers_of(alloc: Global, nodes: &Nodes, order: &[usize]) -> Result<NodeNumbers, AllocError>
     requires costs { length nodes.now.costs ≡ length nodes.now.graph }
     requires depths { length nodes.now.depths ≡ length nodes.now.graph }
@@ -136,15 +136,15 @@ fn numbers_of(alloc: Global, nodes: &Nodes, order: &[usize]) -> Result<NodeNumbe
     })
 }
 
-/// What is reckoned of a graph: numbers, or a cycle.
+/// The result for a graph: its numbers, or a cycle.
 #[derive(Debug, Drop)]
 pub enum Reckoned {
     Numbers(NodeNumbers),
-    /// Channels that each lead to the next one, and the last to the first; none is there twice.
+    /// Channels that each lead to the next one, and the last one to the first. None of them comes twice.
     Cycle(Vec<SketchedLink>),
 }
 
-// The links of a cycle of nodes, from the first node of a channel on.
+// Returns the links of a cycle of nodes, from the first node of a channel on.
 fn reckon_cycle(
     alloc: Global,
     layout: &Layout,
@@ -162,12 +162,12 @@ fn reckon_cycle(
     Ok(links)
 }
 
-/// The numbers of the nodes of a sketch, where bytecode may connect `handlers` handlers; or a cycle of its channels. The sketch is small, so that
-/// there are fewer than 2^28 nodes.
+/// Returns the numbers of the nodes of a sketch, where bytecode may connect `handlers` handlers, or else a cycle of its channels. The
+/// sketch must be small, so that there are fewer than 2^28 nodes.
 ///
 /// # Errors
 ///
-/// `AllocError` where no memory is found.
+/// `AllocError` if memory is refused.
 pub fn reckon(
     alloc: Global,
     sketch: &Sketch,

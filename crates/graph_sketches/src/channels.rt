@@ -1,26 +1,26 @@
-//! What runs at channels.
+//! The programs and bindings that run at channels.
 
 use ui_machine::ProgramId;
 
-/// What runs at a channel, and which channels it is one node with.
+/// The programs and bindings that run at a channel, and the channel with which it shares a node.
 #[derive(Debug, Drop)]
 pub struct SketchedChannel {
-    /// Whether an emission begins there; none does at a construction.
+    /// Whether an emission begins at the channel. None does at a construction.
     pub emits: bool,
-    /// The class handler's program.
+    /// The program of the class handler.
     pub class_handler: Option<ProgramId>,
-    /// How often the class handler runs.
+    /// The number of times that the class handler runs.
     pub stages: u32,
-    /// The programs of the objects' handlers; of a construction, those of its classes.
+    /// The programs of the objects' handlers, or for a construction those of its classes.
     pub handlers: Vec<ProgramId>,
-    /// The groups of programs that bytecode may connect.
+    /// The numbers of the groups of programs that bytecode may connect.
     pub groups: Vec<u32>,
-    /// How many bindings lead from here one way.
+    /// The number of bindings that lead one way from the channel.
     pub transfers: u32,
-    /// The numbers of those of their targets that are channels.
+    /// The numbers of the targets of these bindings that are channels.
     pub targets: Vec<u32>,
-    /// Of a pair the end that is first in the report, else the channel itself.
+    /// The end of its pair that is first in the report, or the channel itself if it is in no pair.
     pub first: u32,
-    /// The other end of a pair.
+    /// The other end of its pair.
     pub other: Option<u32>,
 }

@@ -1,7 +1,7 @@
 //! The graph of a definition by numbers.
 //!
-//! A channel goes by its number in the report, a program, a group and a start by its number in its list. What instructions may start is kept once
-//! for all instructions that may start the same, and so are programs that bytecode may connect alike.
+//! A channel is named by its number in the report, and a program, a group or a start by its number in its list. What instructions may start
+//! is kept once for all instructions that may start the same, and so are programs that bytecode may connect alike.
 #![tactic(auto)]
 
 mod channels;

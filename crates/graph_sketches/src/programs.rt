@@ -1,24 +1,24 @@
-//! What programs may start.
+//! The channels and places that programs may start.
 
-/// What an instruction may start, by the numbers of channels or places.
+/// The channels or places that an instruction may start, by their numbers.
 #[derive(Debug, Drop)]
 pub enum SketchedStart {
     Nothing,
-    /// One of these channels.
+    /// Any one of these channels.
     Raises(Vec<u32>),
-    /// All of these channels, as an object is made.
+    /// All of these channels, when an object is made.
     Makes(Vec<u32>),
-    /// All paired properties of one of these places.
+    /// All paired properties of any one of these places.
     Thaws(Vec<u32>),
 }
 
 /// A block of a program.
 #[derive(Debug, Drop)]
 pub struct SketchedBlock {
-    /// Of each instruction the number of what it may start.
+    /// For each instruction, the number of what it may start.
     pub starts: Vec<u32>,
-    /// How often the instructions before the last are taken.
+    /// The number of times that the instructions before the last are taken.
     pub passes: u32,
-    /// The numbers of the blocks after it.
+    /// The numbers of the blocks that may come next.
     pub next: Vec<usize>,
 }

@@ -1,6 +1,6 @@
-//! Programs read from JSON, with all that programs are and how they run: `bytecode` and `frames` are given out as well.
+//! Reads programs from JSON. This crate also re-exports what programs are and how they run, from `bytecode` and `frames`.
 //!
-//! A JSON value denotes a program of the machine, or is refused: a contract says which.
+//! Each JSON value either denotes a program of the machine or is refused, and the contracts say which.
 #![tactic(auto)]
 
 mod reading;

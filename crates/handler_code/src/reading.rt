@@ -1,8 +1,8 @@
-//! Reading programs from JSON.
+//! Reads programs from JSON.
 //!
-//! A program's value says three things. Its outline is what is beside the instructions: the name, the kinds of parameters and of registers,
-//! the count of registers, the kind of the result. Each instruction is an array, a word with its operands. And the blocks have a shape: which
-//! leads where, and how much there is of each thing.
+//! A program is read in three steps. First comes the outline, which is all but the instructions: the name, the kinds of the parameters and
+//! registers, the number of registers and the kind of the result. Then come the instructions, each an array of a word and its operands. The
+//! shape of the blocks is tested last: which block leads where, and whether any limit is exceeded.
 
 mod code;
 mod instructions;

@@ -1,4 +1,4 @@
-//! How peers of the host come into a pool.
+//! Additions of peers to the pool of a host.
 
 ghost use Rattle.std.specs.Prelude.{◌≡◌, IsSome, IsTrue, None, OnErr, OnOk, string_bytes};
 ghost use Rattle.std.specs.List.{All};
@@ -9,7 +9,7 @@ use crate::stock_lists::StockKind;
 use native_peers::{AddFault, NotAdded, Peer, PeerPool};
 use std::alloc::AllocError;
 
-/// Adds an open peer at the end of a pool whose peers are all open. Where a peer of the name is there, the new one is passed over.
+/// Adds an open peer at the end of a pool whose peers are all open. If the pool has a peer of that name already, the new one is dropped.
 ///
 /// # Errors
 ///
@@ -40,7 +40,8 @@ pub fn put(pool: &mut PeerPool, name: &str, peer: Box<dyn Peer>) -> Result<(), A
     }
 }
 
-/// Adds a new peer of a kind at the end of a pool whose peers are all open. Where a peer of the name is there, the new one is passed over.
+/// Adds a new peer of a kind at the end of a pool whose peers are all open. If the pool has a peer of that name already, the new one is
+/// dropped.
 ///
 /// # Errors
 ///

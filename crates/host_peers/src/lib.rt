@@ -1,7 +1,7 @@
-//! Two peers of the host: a tally, which adds whole numbers up, and a screen, which keeps lines of text.
+//! Two kinds of peers of the host: tallies, which add up whole numbers, and screens, which keep lines of text.
 //!
-//! What each answers in a state, and where it goes, is said by its relation: `Tallies` and `Screens`. Which of them a definition gets is said by
-//! `stock_of`: each peer that it names is a tally or a screen where the shape of its class is called so.
+//! The relations `Tallies` and `Screens` say what each answers in a state and which state comes next. `stock_of` says which of them a
+//! definition gets: each peer that it names is a tally or a screen, if the shape of its class has that name.
 #![tactic(auto)]
 
 mod adding;

@@ -15,14 +15,15 @@ use native_peers::{Method, Peer, PeerFault};
 use std::alloc::{AllocError, Global};
 use std::rc::RcStr;
 
-/// How many lines a screen keeps.
+/// The most lines of a screen.
 pub const MOST_LINES: usize = 1000;
 
-/// How many bytes a line has at most.
+/// The most bytes of a line.
 pub const MOST_LINE_BYTES: usize = 4096;
 
-/// Lines of text. `show` adds one, and answers how many there are then; it faults where there is no room for one more, or the text is too long.
-/// `line` answers one by its number, the first of which is 0, and null past the end. Both fault where memory is refused. A fault leaves the lines.
+/// A list of lines of text. `show` adds a line and returns how many there are then. It faults if there is no room for another line or the
+/// text is too long. `line` returns a line by its number, counted from 0, and null past the end. Both fault if memory is refused. A fault
+/// leaves the lines unchanged.
 #[derive(Drop)]
 pub struct Screen {
     methods: Vec<Method>,
@@ -35,7 +36,7 @@ pub struct Screen {
     ghost short: { All (λ line. length (rc_str_bytes line) ≤ most_bytes) lines.items },
 }
 
-// The text of a value, and the empty one for null.
+// Returns the text in a value, and an empty one for null.
 fn text_in(alloc: Global, value: &Value) -> Result<RcStr, AllocError>
     ensures { IfOk result (λ text. rc_str_bytes text ≡ text_in (value_view value.now)) }
 {
@@ -45,7 +46,7 @@ fn text_in(alloc: Global, value: &Value) -> Result<RcStr, AllocError>
     }
 }
 
-// The text of the first argument.
+// Returns the text in the first argument, and an empty one without arguments.
 fn first_text(alloc: Global, args: &[Value]) -> Result<RcStr, AllocError>
     ensures { IfOk result (λ text. rc_str_bytes text ≡ first_text (map value_view args.now)) }
 {
@@ -55,7 +56,7 @@ fn first_text(alloc: Global, args: &[Value]) -> Result<RcStr, AllocError>
     }
 }
 
-// The number of a value of 32 bits without a sign.
+// Returns the number in a `UInt` value, and 0 for other values.
 fn place_in(value: &Value) -> u32
     ensures { result ≡ place_in (value_view value.now) }
 {
@@ -65,7 +66,7 @@ fn place_in(value: &Value) -> u32
     }
 }
 
-// The number of the first argument.
+// Returns the number in the first argument, and 0 without arguments.
 fn first_place(args: &[Value]) -> u32
     ensures { result ≡ first_place (map value_view args.now) }
 {
@@ -76,7 +77,7 @@ fn first_place(args: &[Value]) -> u32
 }
 
 impl Screen {
-    /// An open screen without lines.
+    /// Creates an open screen without lines.
     ///
     /// # Errors
     ///
@@ -103,7 +104,7 @@ impl Screen {
         })
     }
 
-    // Adds a line, if there is room for it and it is short enough.
+    // Adds a line and returns the number of lines. Faults if there is no room, the text is too long or memory is refused.
     fn show(&mut self, args: &[Value]) -> Result<Value, PeerFault>
         ensures shows { IfOk result (λ v. Shows (map rc_str_bytes self.old.lines.items) (first_text (map value_view args.now)) (value_view v) (map rc_str_bytes self.new.lines.items)) }
         ensures kept { OnErr result (self.new.lines.items ≡ self.old.lines.items) }
@@ -126,7 +127,7 @@ impl Screen {
         Ok(Value::UInt(self.lines.len() as u32))
     }
 
-    // The line of a number, and null past the end.
+    // Returns the line with the given number, and null past the end.
     fn line(&self, args: &[Value]) -> Result<Value, PeerFault>
         ensures { IfOk result (λ v. Reads (map rc_str_bytes self.now.lines.items) (first_place (map value_view args.now)) (value_view v) (map rc_str_bytes self.now.lines.items)) }
     {
@@ -139,7 +140,7 @@ impl Screen {
         Ok(Value::Text(Some(text)))
     }
 
-    // What a method answers.
+    // Carries out a method and returns its result.
     fn answer(&mut self, method: usize, args: &[Value]) -> Result<Value, PeerFault>
         requires { MethodTakes (slice_get screen_shape method) (map value_view args.now) }
         ensures answered { IfOk result (λ v. Answered (map rc_str_bytes self.old.lines.items) method (map value_view args.now) (value_view v) (map rc_str_bytes self.new.lines.items)) }

@@ -1,4 +1,4 @@
-//! Which peers the host makes for a definition.
+//! The list of the peers that the host makes for a definition.
 
 ghost use Rattle.std.specs.Prelude.{◌≡◌, ◌++◌, IfOk, OnOk, map};
 ghost use Rattle.definitions.specs.EntryView.{entry_view};
@@ -8,7 +8,7 @@ use definitions::{Definition, ObjectEntry};
 use std::alloc::{AllocError, Global};
 use type_tree::TypeId;
 
-/// The kinds of peers that the host makes.
+/// The kind of a peer that the host makes.
 #[derive(Clone, Copy, Debug, PartialEq, Eq)]
 pub enum StockKind {
     Screen,
@@ -22,7 +22,7 @@ pub struct StockPeer<'a> {
     pub kind: StockKind,
 }
 
-// The kind that the name of a shape says, if it says one.
+// Returns the kind of peer for a shape with this name: a screen for `Screen`, a tally for `Tally`, and `None` for other names.
 fn kind_named(name: &str) -> Option<StockKind>
     ensures { result ≡ kind_named name.now }
 {
@@ -35,7 +35,7 @@ fn kind_named(name: &str) -> Option<StockKind>
     }
 }
 
-// The kind that the name of the shape of a class says, if it has a shape whose name says one.
+// Returns the kind of peer for the shape of a class. Returns `None` if the class has no shape, or one with another name.
 fn kind_of(definition: &Definition, class: TypeId) -> Option<StockKind>
     ensures { result ≡ kind_of definition.now class }
 {
@@ -44,7 +44,7 @@ fn kind_of(definition: &Definition, class: TypeId) -> Option<StockKind>
     kind_named(definition.shape_name(number))
 }
 
-// Adds the peers of a place.
+// Adds the peers of an object or prototype.
 fn add_place<'a>(
     stock: &mut Vec<StockPeer<'a>>,
     definition: &'a Definition,
@@ -83,8 +83,9 @@ fn add_places<'a>(
     Ok(())
 }
 
-/// The peers that the host makes for a definition: one for each name of a peer that a prototype names, and then that an object names, in document
-/// order, of the kind that the name of its class's shape says. Where a class has no shape, or one of another name, none is made.
+/// Lists the peers that the host makes for a definition: one for each name of a peer that a prototype names, and then that an object names,
+/// in document order. The kind of each is given by the name of its class's shape. No peer is made if the class has no shape, or one with
+/// another name.
 ///
 /// # Errors
 ///

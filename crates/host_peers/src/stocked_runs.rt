@@ -1,4 +1,4 @@
-//! Programs that run with the peers which the host makes for a definition.
+//! Programs that run with the peers that the host makes for a definition.
 
 ghost use Rattle.std.specs.Prelude.{IfOk, List, ℕ};
 ghost use Rattle.native_peers.specs.Seen.{Seen};
@@ -12,21 +12,22 @@ use definitions::Definition;
 use native_peers::{PeerPool, Peers};
 use std::alloc::{AllocError, Global};
 
-/// A program that runs with a pool of peers, whatever pool it is.
+/// A program that can run with any pool of peers.
 pub trait PoolProgram: Drop {
-    /// What it asks of its peers: their names, and the states that they begin in.
+    /// The names and initial states that it asks of its peers.
     ghost asks: { Self → List Seen → Type 0 };
 
-    /// The statuses that it may answer, where its peers are as it asks.
+    /// The statuses that it may return, if its peers are as it asks.
     ghost answers: { Self → ℕ → Type 0 };
 
-    /// Runs with the peers of a pool, and answers a status.
+    /// Runs with the peers of a pool, and returns a status.
     fn run<Q: Peers>(self, pool: Q) -> u8
         requires { asks self (Q.seen pool) }
         ensures { answers self result };
 }
 
-/// Makes the peers of a definition (`stock`), of each name the first, and runs a program with them.
+/// Makes the peers of a definition (see `stock`), only the first of each name, and runs a program with them. Returns the status of the
+/// program.
 ///
 /// # Errors
 ///

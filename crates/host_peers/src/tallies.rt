@@ -1,4 +1,4 @@
-//! A tally, which adds whole numbers up.
+//! A tally, which adds up whole numbers.
 
 ghost use Rattle.std.specs.Prelude.{◌≡◌, ◌∷◌, [], IfOk, map};
 ghost use Rattle.ui_machine.specs.State.Peers.{PeerState};
@@ -10,7 +10,8 @@ use g_values::{Kind, Value};
 use native_peers::{Method, Peer, PeerFault};
 use std::alloc::{AllocError, Global};
 
-/// A sum, to which `add` adds a number: it goes round at 64 bits with a sign. `read` leaves it. Both answer the sum.
+/// A sum of signed numbers of 64 bits, to which `add` adds a number, wrapping around on overflow. `read` does not change it. Both return
+/// the sum.
 #[derive(Drop)]
 pub struct Tally {
     methods: Vec<Method>,
@@ -22,7 +23,7 @@ pub struct Tally {
 }
 
 impl Tally {
-    /// An open tally at 0.
+    /// Creates an open tally at 0.
     ///
     /// # Errors
     ///
@@ -50,7 +51,7 @@ impl Tally {
     }
 }
 
-// The number of a value of 64 bits with a sign.
+// Returns the number in an `Int64` value, and 0 for other values.
 fn number_in(value: &Value) -> i64
     ensures { result ≡ number_in (value_view value.now) }
 {
@@ -60,7 +61,7 @@ fn number_in(value: &Value) -> i64
     }
 }
 
-// The number of the first argument.
+// Returns the number in the first argument, and 0 without arguments.
 fn first_number(args: &[Value]) -> i64
     ensures { result ≡ first_number (map value_view args.now) }
 {
@@ -70,7 +71,7 @@ fn first_number(args: &[Value]) -> i64
     }
 }
 
-// The sum after a method.
+// Returns the sum after a method.
 fn sum_after(sum: i64, method: usize, args: &[Value]) -> i64
     ensures { result ≡ sum_after sum method (map value_view args.now) }
 {

@@ -1,4 +1,4 @@
-//! Each method of the two peers, called, and peers put into a pool.
+//! Calls of each method of the two kinds of peers, and additions of peers to a pool.
 
 ghost use Rattle.std.specs.Prelude.{IsTrue, map, slice_get};
 ghost use Rattle.g_values.specs.View.{value_view};

@@ -1,4 +1,4 @@
-//! How often the objects of a table can hold one: so seldom that no count comes to its end.
+//! A bound on how often the objects of a table hold one of them, so low that no count overflows.
 
 ghost use Rattle.std.specs.Prelude.{ℕ, ◌+◌, ◌≤◌, ◌^◌};
 ghost use Rattle.ui_machine.specs.Definition as machine;
@@ -8,11 +8,12 @@ ghost use Rattle.ui_machine.specs.State.References.{in_object, same};
 use crate::table::Table;
 
 impl Table {
-    /// A law of all tables: their objects, and what floats, hold one of them at most 2^127 times. It takes constant time.
+    /// States a law of all tables: their objects and the list of floating objects together hold any object at most 2^127 times. Takes
+    /// constant time.
     pub fn hold_few(&self)
         ensures { (d : machine.Definition) (o : ℕ) → total (in_object d o) self.now.objects + total (same o) self.now.floating ≤ 2 ^ 127 }
     {
-        // For the proof: how many there are.
+        // For the proof: the number of instances.
         let _lives = self.instances.len();
     }
 }

@@ -1,8 +1,8 @@
-//! Why no object was made, or became no child.
+//! Errors of making an object and of making it a child.
 
 use thiserror::Error;
 
-/// Why no object was made.
+/// The reason for which no object was made.
 #[derive(Clone, Copy, Debug, Drop, Error, PartialEq, Eq)]
 pub enum CreateError {
     #[error("as many objects live as may")]
@@ -11,7 +11,7 @@ pub enum CreateError {
     OutOfMemory,
 }
 
-/// Why an object did not become another's child.
+/// The reason for which an object did not become another's child.
 #[derive(Clone, Copy, Debug, Drop, Error, PartialEq, Eq)]
 pub enum AdoptError {
     #[error("one of them does not live")]

@@ -1,4 +1,4 @@
-//! Parents and children, and what floats.
+//! Parents, children and floating objects.
 
 ghost use Rattle.std.specs.Prelude.{◌≡◌, ℕ, suc, is_some, ◌+◌, ◌-◌, ◌^◌, ◌<◌, ◌≤◌, ◌++◌, ◌∷◌, [], IfOk, IsSome, Some, None, length, nat_eq, slice_get, OnOk, OnErr};
 ghost use Rattle.std.specs.List.{list_any};
@@ -20,11 +20,12 @@ use std::mem;
 use ui_machine::ObjectId;
 
 impl Table {
-    /// An object becomes another's child: the parent holds it, and it no longer floats. An error leaves all as it was.
+    /// Makes an object another's child: the parent holds it, and it no longer floats. Nothing changes on an error.
     ///
     /// # Errors
     ///
-    /// `NotLiving`, `HasParent` or `ChildLimit` by what is wrong, then `OutOfMemory`. The table is as it was.
+    /// Returns `NotLiving` if one of the objects does not live, `HasParent` if the child has a parent or is the parent itself, `ChildLimit`
+    /// if the parent has as many children as it may, and then `OutOfMemory` if memory is refused. The table is unchanged then.
     pub fn adopt(&mut self, parent: ObjectId, child: ObjectId) -> Result<(), AdoptError>
         requires room { count_of self.old.counts child.0 < 2 ^ 128 - 1 }
         ensures { Adopts result parent.0 child.0 self.old self.new }
@@ -40,7 +41,7 @@ impl Table {
         Ok(())
     }
 
-    /// Why an object may not become another's child, if it may not.
+    /// Returns why an object may not become another's child, or `None` if it may.
     pub fn refusal(&self, parent: ObjectId, child: ObjectId) -> Option<AdoptError>
         ensures { result ≡ refusal_in self.now parent.0 child.0 }
     {
@@ -62,7 +63,7 @@ impl Table {
         None
     }
 
-    /// The parent of an object, if it has one.
+    /// Returns the parent of an object, or `None` if it has none or does not live.
     pub fn parent_of(&self, id: ObjectId) -> Option<ObjectId>
         ensures parent { id_of result ≡ parent_in (living self.now.objects id.0) }
         ensures given { (parent : ℕ) → parent_in (living self.now.objects id.0) ≡ Some parent → parent ≤ length self.now.objects }
@@ -73,7 +74,7 @@ impl Table {
         instance.object.parent()
     }
 
-    /// Takes an object out of its parent's children, and lets it go so. It answers whether the object had a parent.
+    /// Removes an object from its parent's children, so that the parent no longer holds it. Returns whether the object had a parent.
     pub fn orphan(&mut self, child: ObjectId) -> bool
         ensures had { result ≡ is_some (parent_in (living self.old.objects child.0)) }
         ensures alone { parent_in (living self.old.objects child.0) ≡ None → self.new ≡ self.old }
@@ -88,7 +89,7 @@ impl Table {
         true
     }
 
-    // One object more is among the children of the other, which holds it.
+    // Adds a child to an object, which then holds it.
     fn hold_child(&mut self, parent: ObjectId, child: ObjectId) -> Result<(), AllocError>
         requires parent { IsSome (living self.old.objects parent.0) }
         requires live { IsSome (living self.old.objects child.0) }
@@ -101,7 +102,7 @@ impl Table {
         Ok(())
     }
 
-    // Adds a child to an object that lives.
+    // Adds a child to an object that lives. The child's hold count is not changed.
     fn add_child(&mut self, parent: ObjectId, child: ObjectId) -> Result<(), AllocError>
         requires live { IsSome (living self.old.objects parent.0) }
         requires given { child.0 ≤ length self.old.objects }
@@ -115,7 +116,7 @@ impl Table {
         Ok(())
     }
 
-    // Takes a child out of an object's, and answers how often it was there.
+    // Removes a child from an object's children, and returns how often it was among them. The child's hold count is not changed.
     fn remove_child(&mut self, parent: ObjectId, child: ObjectId) -> usize
         requires given { parent.0 ≤ length self.old.objects }
         ensures objects { self.new.objects ≡ updated (without_child child.0) parent.0 self.old.objects }
@@ -128,7 +129,7 @@ impl Table {
         instance.object.remove_child(child)
     }
 
-    // Gives an object a parent, or none.
+    // Sets or clears the parent of an object.
     pub(crate) fn give_parent(&mut self, id: ObjectId, parent: Option<ObjectId>)
         requires given { id.0 ≤ length self.old.objects }
         requires kin { (p : ℕ) → id_of parent ≡ Some p → p ≤ length self.old.objects }
@@ -141,7 +142,7 @@ impl Table {
         instance.object.give_parent(parent);
     }
 
-    /// An object no longer floats, and is held so much less.
+    /// Removes an object from the floating ones, so that floating no longer holds it.
     pub fn sink(&mut self, id: ObjectId)
         ensures { Sinks id.0 self.old self.new }
     {
@@ -149,7 +150,7 @@ impl Table {
         self.release(id, gone as u128);
     }
 
-    // Takes an object out of what floats, and answers how often it was there.
+    // Removes an object from the list of floating objects, and returns how often it was there.
     fn remove_floating(&mut self, id: ObjectId) -> usize
         ensures floating { self.new ≡ record self.old { floating = without id.0 self.old.floating } }
         ensures count { result ≡ total (same id.0) self.old.floating }
@@ -157,25 +158,25 @@ impl Table {
         remove_id(&mut self.floating, id)
     }
 
-    /// Whether an object floats.
+    /// Returns whether an object floats.
     pub fn is_floating(&self, id: ObjectId) -> bool
         ensures { result ≡ list_any (λ i. nat_eq i id.0) self.now.floating }
     {
         is_among(&self.floating, id)
     }
 
-    /// The one that has floated longest, if something floats.
+    /// Returns the object that has floated longest, or `None` if nothing floats.
     pub fn first_floating(&self) -> Option<ObjectId>
         ensures { id_of result ≡ slice_get self.now.floating 0 }
     {
         self.floating.first().copied()
     }
 
-    /// One more object, as `create` makes one, which floats from the beginning: that holds it once.
+    /// Adds an object as `create` does, which floats from the beginning and so is held once.
     ///
     /// # Errors
     ///
-    /// `ObjectLimit` where there is no room, then `OutOfMemory`. The table is as it was.
+    /// Returns `ObjectLimit` if there is no room, and then `OutOfMemory` if memory is refused. The table is unchanged then.
     pub fn create_floating(&mut self, object: Object) -> Result<ObjectId, CreateError>
         requires childless { object.children ≡ [] }
         requires parentless { object.parent ≡ None }
@@ -190,11 +191,11 @@ impl Table {
         Ok(id)
     }
 
-    /// The same where there is an identity for the object, as `make` makes one.
+    /// Adds a floating object as `create_floating` does, but without testing for room, as `make` does. An identity has to be left.
     ///
     /// # Errors
     ///
-    /// `AllocError` if memory is refused. The table is as it was.
+    /// `AllocError` if memory is refused. The table is unchanged then.
     pub fn make_floating(&mut self, object: Object) -> Result<ObjectId, AllocError>
         requires childless { object.children ≡ [] }
         requires parentless { object.parent ≡ None }
@@ -208,7 +209,7 @@ impl Table {
         made
     }
 
-    // One more object, which is held once by the list that it is put on.
+    // Adds an object as `make` does, and puts it on a list that holds it once.
     fn make_listed(
         &mut self,
         object: Object,
@@ -223,10 +224,10 @@ impl Table {
         ensures unlisted { OnErr result (list.new.items ≡ list.old.items) }
     {
         list.reserve(1)?;
-        // For the proof: what does not live is not held.
+        // For the proof: an object that does not live is not held.
         let _unheld = self.next_unheld();
         let id = self.make(object)?;
-        // There is room.
+        // The room is reserved above.
         let Ok(()) = list.push(id) else {
             unreachable!()
         };

@@ -1,4 +1,4 @@
-//! What is let go of is forgotten where it is named.
+//! Clearing of the weak values that name an object.
 
 ghost use Rattle.std.specs.Prelude.{◌≡◌, ◌≢◌, ℕ, false};
 ghost use Rattle.std.specs.Option.{option_map};
@@ -10,8 +10,8 @@ use crate::namers::Namers;
 use crate::weak::WeakSlots;
 use ui_machine::ObjectId;
 
-/// Each weak value that names the object becomes null. Only those objects are looked at that may name it, unless it was given up to know
-/// who they are. The last one may have the identity `last`.
+/// Sets each weak value that names the object to null. Looks only at the objects that may name it, or at all objects if that index was
+/// given up. The identities go up to `last`.
 pub(crate) fn forget_everywhere(
     instances: &mut Instances,
     namers: &mut Namers,
@@ -31,7 +31,7 @@ pub(crate) fn forget_everywhere(
     forget_at_namers(instances, namers, weak, id, last);
 }
 
-// Those are looked at that may name the object, in rising order.
+// Clears the weak values of the objects that may name the object, in rising order of their identities.
 fn forget_at_namers(
     instances: &mut Instances,
     namers: &mut Namers,
@@ -52,7 +52,8 @@ fn forget_at_namers(
     }
 }
 
-// The weak values of one object, if it lives, that name the other become null, and if no value is left that names it this is noted.
+// Sets the weak values of one object that name the other to null, if the object lives. If none of its values names the other any more,
+// removes the pair from the index.
 fn forget_at(
     instances: &mut Instances,
     namers: &mut Namers,

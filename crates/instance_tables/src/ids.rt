@@ -8,7 +8,7 @@ ghost use Rattle.instance_tables.specs.Store.{ids_of};
 
 use ui_machine::ObjectId;
 
-/// Takes an identity out, and answers how often it was there.
+/// Removes an identity, and returns how often it was in the list.
 pub(crate) fn remove_id(ids: &mut Vec<ObjectId>, id: ObjectId) -> usize
     ensures rest { ids_of ids.new.items ≡ without id.0 (ids_of ids.old.items) }
     ensures count { result + length ids.new.items ≡ length ids.old.items }
@@ -18,7 +18,7 @@ pub(crate) fn remove_id(ids: &mut Vec<ObjectId>, id: ObjectId) -> usize
     before - ids.len()
 }
 
-/// Whether an identity is there.
+/// Returns whether an identity is in the list.
 pub(crate) fn is_among(ids: &[ObjectId], id: ObjectId) -> bool
     ensures { result ≡ list_any (λ (i : ObjectId). nat_eq i.0 id.0) ids.now }
 {

@@ -1,8 +1,8 @@
-//! An object with what the table keeps beside it.
+//! An object together with its hold count.
 
 use crate::object::Object;
 
-/// One object, and how often it is held.
+/// An object, and how often it is held.
 #[derive(Drop)]
 pub(crate) struct Instance {
     pub(crate) object: Object,

@@ -1,7 +1,7 @@
-//! The instances in a slab, and an index that finds each by its identity.
+//! Instances in a slab, with an index from identities to keys.
 //!
-//! A key of the slab is given again once what it had was taken out. So each entry says whose it is, and an identity has a key just where the
-//! entry under that key says so: none finds what is another's.
+//! A slab reuses the key of an entry that was removed. So each entry stores its identity, and an identity has a key exactly if the entry
+//! under that key stores that identity: a look-up never finds the instance of another identity.
 
 ghost use Rattle.std.specs.Prelude.{◌≡◌, ℕ, ◌<◌, ◌^◌, [], true, None, Some, is_some, length, option_copied, OnOk, OnErr};
 ghost use Rattle.std.specs.Option.{option_copied_mut, option_map};
@@ -27,7 +27,7 @@ use std::collections::BTreeMap;
 use std::marker::Model;
 use ui_machine::ObjectId;
 
-// An instance, and whose it is.
+// An instance with its identity.
 #[derive(Drop)]
 struct Entry {
     id: ObjectId,
@@ -35,7 +35,7 @@ struct Entry {
 }
 
 impl Entry {
-    // The weak values of its instance that name the object become null, and it stays.
+    // Sets the weak values of the instance that name the object to null. Returns true, so that the entry is retained.
     fn forget(&mut self, weak: &WeakSlots, id: ObjectId) -> bool
         ensures stays { result ≡ true }
         ensures changed { self.new ≡ record self.old { instance = forgotten_in weak.now id.0 self.old.instance } }
@@ -45,8 +45,8 @@ impl Entry {
     }
 }
 
-// The key of an identity, if it has an instance. The first key that an identity may have is looked at before the index: while no key was given
-// again, it is there.
+// Returns the key of an identity, or `None` if it has no instance. Tries the key one below the identity before the index: as long as no key
+// was reused, the instance is there.
 fn key_of(entries: &Slab<Entry>, keys: &BTreeMap<u64, usize>, id: ObjectId) -> Option<usize>
     requires ordered { IsOrdered nat_cmp keys.now }
     requires index { IsIndex (in_slab entries.now) (in_map nat_cmp keys.now) }
@@ -62,8 +62,8 @@ fn key_of(entries: &Slab<Entry>, keys: &BTreeMap<u64, usize>, id: ObjectId) -> O
     Some(*key)
 }
 
-/// Instances, each under an identity, seen in the order of their identities. To find one costs the logarithm of how many there are, or nothing
-/// of it while none was taken out.
+/// Instances by their identities. A contract sees them in the order of the identities. A look-up takes time logarithmic in the number of
+/// instances, or constant time as long as none was removed.
 #[derive(Drop)]
 pub(crate) struct Instances {
     entries: Slab<Entry>,
@@ -87,7 +87,7 @@ impl Model for Instances {
 }
 
 impl Instances {
-    /// None. It takes no memory.
+    /// Creates a collection without instances. Takes no memory.
     pub(crate) fn new(alloc: Global) -> Self
         ensures { result ≡ [] }
     {
@@ -97,7 +97,7 @@ impl Instances {
         }
     }
 
-    /// How many there are.
+    /// Returns the number of instances.
     pub(crate) fn len(&self) -> usize
         ensures len { result ≡ length self.now }
         ensures small { result < 2 ^ 63 }
@@ -106,14 +106,14 @@ impl Instances {
         self.keys.len()
     }
 
-    /// Whether an identity has an instance.
+    /// Returns whether an identity has an instance.
     pub(crate) fn contains(&self, id: ObjectId) -> bool
         ensures { result ≡ is_some (instances_at self.now id.0) }
     {
         key_of(&self.entries, &self.keys, id).is_some()
     }
 
-    /// The instance of an identity, if there is one.
+    /// Returns the instance of an identity, or `None` if it has none.
     pub(crate) fn get(&self, id: ObjectId) -> Option<&Instance>
         ensures value { option_copied result ≡ instances_at self.now id.0 }
     {
@@ -121,7 +121,7 @@ impl Instances {
         Some(&self.entries[key].instance)
     }
 
-    /// The same to write to.
+    /// Returns the instance of an identity for writing, or `None` if it has none.
     pub(crate) fn get_mut(&mut self, id: ObjectId) -> Option<&mut Instance>
         ensures* writes_back { sem 𝓛 (LendsInstance self.entry id.0 result) }
         ensures value { option_copied_mut result ≡ instances_at self.old id.0 }
@@ -130,7 +130,7 @@ impl Instances {
         Some(&mut self.entries[key].instance)
     }
 
-    /// Adds the instance of an identity that has none.
+    /// Adds an instance under an identity that has none.
     ///
     /// # Errors
     ///
@@ -149,7 +149,7 @@ impl Instances {
         Ok(())
     }
 
-    /// Takes the instance of an identity out, if there is one.
+    /// Removes the instance of an identity and returns it, or returns `None` if there is none.
     pub(crate) fn remove(&mut self, id: ObjectId) -> Option<Instance>
         ensures value { result ≡ instances_at self.old id.0 }
         ensures gone { Replaces (instances_at self.old) (instances_at self.new) id.0 None }
@@ -159,7 +159,7 @@ impl Instances {
         Some(instance)
     }
 
-    /// The first one from an identity on that nothing holds.
+    /// Returns the lowest identity, from this one on, whose instance nothing holds.
     pub(crate) fn first_unheld(&self, from: ObjectId) -> Option<ObjectId>
         ensures first { id_of result ≡ first_unheld (entries_between nat_cmp (Included from.0) Unbounded self.now) }
         ensures ordered { IsStrictlySortedBy nat_cmp (keys_of self.now) }
@@ -175,7 +175,7 @@ impl Instances {
         None
     }
 
-    /// Each weak value that names the object becomes null. All are looked at.
+    /// Sets each weak value that names the object to null. Looks at all instances.
     pub(crate) fn forget(&mut self, weak: &WeakSlots, id: ObjectId)
         ensures { (q : ℕ) → instances_at self.new q ≡ option_map (forgotten_in weak.now id.0) (instances_at self.old q) }
     {

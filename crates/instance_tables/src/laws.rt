@@ -5,102 +5,102 @@ ghost use Rattle.instance_tables.specs.Laws.{CountsFind, CountedFinds, HeldLives
 ghost use Rattle.instance_tables.specs.Laws.{LetGoCounts, SinkCounts, ForgetCounts, JoinCounts, LeaveCounts, DisposeCounts};
 ghost use Rattle.instance_tables.specs.Laws.{FinaliseCounts, WriteCounts};
 
-/// A strong property that is written moves one mention.
+/// States that writing a strong property moves one mention.
 pub fn writing_moves()
     ensures { WritesMove }
 {}
 
-/// Disposing takes off just what the object held.
+/// States that disposing an object releases exactly what it held.
 pub fn disposing_moves()
     ensures { DisposeMoves }
 {}
 
-/// So does finalising.
+/// States that finalising an object releases exactly what it held.
 pub fn finalising_moves()
     ensures { FinaliseMoves }
 {}
 
-/// Whatever slots are marked weak, they are those of a definition.
+/// States that any weak marks belong to some definition.
 pub fn marks_known()
     ensures { MarksKnown }
 {}
 
-/// Counts that equal the mentions of what lives find the same object to finalise.
+/// States that counts which equal the mentions of what lives find the same object to finalise.
 pub fn counts_find()
     ensures { CountsFind }
 {}
 
-/// An object that the machine makes holds nothing.
+/// States that an object that the machine makes holds nothing.
 pub fn made_holds_nothing()
     ensures { MadeHoldsNothing }
 {}
 
-/// The counts of no objects are exact.
+/// States that the counts of a table without objects are exact.
 pub fn none_counts()
     ensures { NoneCounts }
 {}
 
-/// Exact counts stay exact where an object is made of what was held.
+/// States that exact counts stay exact when an object is made of what was held.
 pub fn create_counts()
     ensures { CreateCounts }
 {}
 
-/// They stay exact where an object begins floating.
+/// States that exact counts stay exact when an object starts to float.
 pub fn float_counts()
     ensures { FloatCounts }
 {}
 
-/// They stay exact where something is held once more.
+/// States that exact counts stay exact when an object is held once more.
 pub fn hold_counts()
     ensures { HoldCounts }
 {}
 
-/// They stay exact where it is let go.
+/// States that exact counts stay exact when an object is let go.
 pub fn let_go_counts()
     ensures { LetGoCounts }
 {}
 
-/// They stay exact where an object no longer floats.
+/// States that exact counts stay exact when an object stops floating.
 pub fn sink_counts()
     ensures { SinkCounts }
 {}
 
-/// They stay exact where all forget one.
+/// States that exact counts stay exact when all objects forget one.
 pub fn forget_counts()
     ensures { ForgetCounts }
 {}
 
-/// They stay exact where an object becomes a child.
+/// States that exact counts stay exact when an object becomes a child.
 pub fn join_counts()
     ensures { JoinCounts }
 {}
 
-/// They stay exact where an object leaves its parent.
+/// States that exact counts stay exact when an object leaves its parent.
 pub fn leave_counts()
     ensures { LeaveCounts }
 {}
 
-/// They stay exact where an object is disposed.
+/// States that exact counts stay exact when an object is disposed.
 pub fn dispose_counts()
     ensures { DisposeCounts }
 {}
 
-/// They stay exact where one is finalised.
+/// States that exact counts stay exact when an object is finalised.
 pub fn finalise_counts()
     ensures { FinaliseCounts }
 {}
 
-/// They stay exact where a property is written.
+/// States that exact counts stay exact when a property is written.
 pub fn write_counts()
     ensures { WriteCounts }
 {}
 
-/// Exact counts find the lowest object that nothing holds.
+/// States that exact counts find the lowest object that nothing holds.
 pub fn counted_finds()
     ensures { CountedFinds }
 {}
 
-/// Where the counts are exact, what is held lives.
+/// States that with exact counts, whatever is held lives.
 pub fn held_lives()
     ensures { HeldLives }
 {}

@@ -1,10 +1,10 @@
-//! The objects that live, and how often each is mentioned.
+//! The objects that live, with a count of what holds each.
 //!
-//! Each object has an identity, which rises from 1 and is given once. Beside it is how often something holds it (GObject
-//! manual, `g_object_ref`); what nothing holds any more is to be finalised, the lowest identity first. An object that is disposed
-//! lets go of what it held and lives on; one that is finalised is disposed and taken out. Weak properties that name it become null: an
-//! index of who names whom finds them. A contract sees the machine's objects, a list of counts, how many objects may live, and what
-//! floats. The laws say that counts which are exact stay so.
+//! Each object has an identity. Identities rise from 1 and each is given once. A table counts how often something holds an object (GObject
+//! manual, `g_object_ref`). Objects that nothing holds any more are to be finalised, the lowest identity first. An object that is disposed
+//! lets go of what it held and lives on. One that is finalised is disposed and removed. The weak properties that name it become null. An
+//! index of which objects name which finds these properties. A contract sees the machine's objects, a list of counts, how many objects may
+//! live, and what floats. The laws say that exact counts stay exact.
 #![tactic(auto)]
 
 mod bounds;

@@ -1,4 +1,4 @@
-//! Properties that are written, and the mentions that move with them.
+//! Writing of properties, with the hold counts that change with it.
 
 ghost use Rattle.std.specs.Prelude.{◌≡◌, ℕ, ◌+◌, ◌-◌, cond, true, false, IsOk, Ok};
 ghost use Rattle.ui_machine.specs.State.Objects.{asked, changed, living, value_at, with_value};
@@ -14,8 +14,8 @@ use g_values::Value;
 use ui_machine::{ObjectId, Slot};
 
 impl Table {
-    /// Writes a property of an object that lives, by a slot that it has, and answers what it was. Where the property is strong, the old
-    /// value's object is let go, and the new one's is held, if it lives and may be held once more.
+    /// Writes a property of an object that lives, in a slot that it has, and returns the old value. If the property is strong, the old
+    /// value's object is let go, and the new value's object is held, if it lives and may be held once more.
     pub fn write(&mut self, weak: &WeakSlots, id: ObjectId, slot: Slot, value: Value) -> Value
         requires slot { IsOk (asked self.old.objects id.0 (value_at slot)) }
         ensures changes { changed self.old.objects id.0 (with_value slot (value_view value)) ≡ Ok (record { state = self.new.objects; answer = value_view result }) }
@@ -38,7 +38,8 @@ impl Table {
         old
     }
 
-    // Where no property is weak nothing is ever forgotten, so who names whom is not kept once a value names an object.
+    // Gives up the index of namers if no property is weak and a value is to name an object: nothing is ever forgotten then, so the index is
+    // not needed.
     fn limit_namers(&mut self, weak: &WeakSlots, to: Option<ObjectId>)
         ensures { self.new ≡ self.old }
     {
@@ -48,7 +49,7 @@ impl Table {
         self.namers.give_up();
     }
 
-    // If an object no longer names the other, this is noted.
+    // Removes an object from those that name `was`, if none of its values names it any more.
     fn remove_namer(&mut self, id: ObjectId, was: Option<ObjectId>)
         ensures { self.new ≡ self.old }
     {
@@ -61,7 +62,7 @@ impl Table {
         self.namers.remove_unnamed(&instance.object, was, id);
     }
 
-    // Whether a slot of an object is strong.
+    // Returns whether a slot of an object is strong.
     fn is_strong(&self, weak: &WeakSlots, id: ObjectId, slot: Slot) -> bool
         ensures { result ≡ strong_in weak.now slot (living self.now.objects id.0) }
     {
@@ -71,7 +72,7 @@ impl Table {
         weak.is_strong(instance.object.class(), slot)
     }
 
-    // A mention moves from one object to another, if it counts.
+    // Moves one mention from one object to another, if `counts` is true.
     fn move_mention(&mut self, counts: bool, from: Option<ObjectId>, to: Option<ObjectId>)
         ensures moves { may_hold_any self.old (id_of to) ≡ true → (o : ℕ) → count_of self.new.counts o
             ≡ count_of self.old.counts o + cond counts (in_option o (id_of to)) 0 - cond counts (in_option o (id_of from)) 0 }
@@ -86,7 +87,7 @@ impl Table {
         self.release_any(from);
     }
 
-    // Holds an object, if there is one, once more, unless it is held as often as may be.
+    // Holds an object, if one is given, once more, unless its hold count is at its maximum.
     fn hold_any(&mut self, id: Option<ObjectId>)
         ensures counts { may_hold_any self.old (id_of id) ≡ true
             → (o : ℕ) → count_of self.new.counts o ≡ count_of self.old.counts o + in_option o (id_of id) }
@@ -102,7 +103,7 @@ impl Table {
         self.hold(id);
     }
 
-    // Holds an object, if there is one, once less.
+    // Lowers the hold count of an object, if one is given, by one.
     pub(crate) fn release_any(&mut self, id: Option<ObjectId>)
         ensures counts { (o : ℕ) → count_of self.new.counts o ≡ count_of self.old.counts o - in_option o (id_of id) }
         ensures beside { self.new ≡ record self.old { counts = self.new.counts } }

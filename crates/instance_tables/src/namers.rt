@@ -1,7 +1,7 @@
-//! Who names whom.
+//! An index of which objects name which.
 //!
-//! So what is let go of is forgotten where it is named, and no other object is looked at. An index that finds no memory is given up, and then
-//! all objects are looked at: no change is refused for its sake.
+//! With it, weak values that name an object are cleared without looking at other objects. An index that finds no memory is given up, and
+//! from then on all objects are looked at: no change is refused because of it.
 
 ghost use Rattle.std.specs.Prelude.{◌≡◌, ℕ, true, Some};
 ghost use Rattle.instance_tables.specs.Store.{id_of, ids_of};
@@ -15,18 +15,18 @@ use std::alloc::Global;
 use std::collections::BTreeSet;
 use ui_machine::ObjectId;
 
-/// For each object those of which some value names it, strong or weak, and maybe others: one too many costs time, and no more. What it does
-/// costs the logarithm of how many pairs there are.
+/// For each object, those with a value, strong or weak, that names it. There may be others, which cost time but do no harm. Each operation
+/// takes time logarithmic in the number of pairs.
 #[derive(Drop)]
 pub(crate) struct Namers {
-    // The one that is named, and the one that names it.
+    // Pairs of the object that is named and the object that names it.
     pairs: BTreeSet<(u64, u64)>,
-    // Whether each may name each.
+    // Whether the index is given up, so that any object may name any other.
     is_given_up: bool,
 }
 
 impl Namers {
-    /// None names another. It takes no memory.
+    /// Creates an index without pairs. Takes no memory.
     pub(crate) fn new(alloc: Global) -> Self {
         Namers {
             pairs: BTreeSet::new(alloc),
@@ -34,14 +34,14 @@ impl Namers {
         }
     }
 
-    /// Whether it was given up.
+    /// Returns whether the index is given up.
     pub(crate) fn is_given_up(&self) -> bool
         ensures { result ≡ self.now.is_given_up }
     {
         self.is_given_up
     }
 
-    /// From now on each may name each.
+    /// Gives the index up: from now on any object may name any other.
     pub(crate) fn give_up(&mut self)
         ensures { self.new.is_given_up ≡ true }
     {
@@ -49,7 +49,7 @@ impl Namers {
         self.is_given_up = true;
     }
 
-    /// One names another. Where there is no memory it is given up.
+    /// Adds that `holder` names `target`. Gives the index up if memory is refused.
     pub(crate) fn add(&mut self, target: ObjectId, holder: ObjectId)
         ensures added { MayName self.new target.0 holder.0 }
         ensures stays { Stays self.old self.new }
@@ -63,7 +63,7 @@ impl Namers {
         };
     }
 
-    /// The same of one that is named, if there is one.
+    /// Adds that `holder` names `target`, if there is a target.
     pub(crate) fn add_any(&mut self, target: Option<ObjectId>, holder: ObjectId)
         ensures added { (t : ℕ) → id_of target ≡ Some t → MayName self.new t holder.0 }
         ensures stays { Stays self.old self.new }
@@ -74,7 +74,7 @@ impl Namers {
         self.add(target, holder);
     }
 
-    /// One no longer names another.
+    /// Removes the pair of `target` and `holder`.
     pub(crate) fn remove(&mut self, target: ObjectId, holder: ObjectId)
         ensures others { (t h : ℕ) → (t ≡ target.0 → h ≡ holder.0 → ⊥) → MayName self.old t h → MayName self.new t h }
         ensures kept { self.new.is_given_up ≡ self.old.is_given_up }
@@ -82,7 +82,7 @@ impl Namers {
         self.pairs.remove(&(target.0, holder.0));
     }
 
-    /// The same of one that was named, if there is one.
+    /// Removes the pair of `target` and `holder`, if there is a target.
     pub(crate) fn remove_any(&mut self, target: Option<ObjectId>, holder: ObjectId)
         ensures { StaysBeside holder.0 self.old self.new }
     {
@@ -92,7 +92,7 @@ impl Namers {
         self.remove(target, holder);
     }
 
-    /// An object no longer names another, unless one of its values still does.
+    /// Removes the pair of `target` and `holder`, unless a value of the object, which is the holder, names the target.
     pub(crate) fn remove_unnamed(&mut self, object: &Object, target: ObjectId, holder: ObjectId)
         ensures stays { (t h : ℕ) → (h ≡ holder.0 → names_any t object.now.values ≡ true) → MayName self.old t h → MayName self.new t h }
         ensures kept { self.new.is_given_up ≡ self.old.is_given_up }
@@ -103,7 +103,7 @@ impl Namers {
         self.remove(target, holder);
     }
 
-    /// The next one after the one `given` that may name an object. Once it was given up this says nothing.
+    /// Returns the next identity after `given` of an object that may name the target. Has no meaning once the index is given up.
     pub(crate) fn next(&self, target: ObjectId, given: u64) -> Option<u64>
         ensures { IsNext self.now target.0 given result }
     {
@@ -113,7 +113,7 @@ impl Namers {
         Some(*holder)
     }
 
-    /// An object names what its values name.
+    /// Adds a pair for each object that a value of this object, which is the holder, names.
     pub(crate) fn add_names(&mut self, object: &Object, holder: ObjectId)
         ensures added { (t : ℕ) → names_any t object.now.values ≡ true → MayName self.new t holder.0 }
         ensures stays { Stays self.old self.new }
@@ -126,7 +126,7 @@ impl Namers {
         }
     }
 
-    /// An object no longer names what those of its values name that are not marked weak.
+    /// Removes the pairs for the objects that this object's values name, except for values in slots marked weak.
     pub(crate) fn remove_names(&mut self, object: &Object, weak: &[bool], holder: ObjectId)
         ensures { StaysBeside holder.0 self.old self.new }
     {
@@ -140,7 +140,7 @@ impl Namers {
         }
     }
 
-    /// An object that was taken out, if there was one, names nothing any more.
+    /// Removes the pairs for all values of an object that was removed from the table, if there was one.
     pub(crate) fn remove_gone(&mut self, gone: Option<Instance>, holder: ObjectId)
         ensures { StaysBeside holder.0 self.old self.new }
     {
@@ -150,8 +150,8 @@ impl Namers {
         self.remove_names(&instance.object, &[], holder);
     }
 
-    /// An object is disposed, and no longer names what only its strong values named. It answers what its children were. It takes memory only
-    /// where a weak value names what a strong one named too.
+    /// Disposes an object, and removes the pairs of those that only its strong values named. Returns its former children. Takes memory only
+    /// if a weak value names an object that a strong one named too.
     pub(crate) fn dispose(
         &mut self,
         object: &mut Object,
@@ -166,7 +166,7 @@ impl Namers {
     {
         self.remove_names(object, weak.of(object.class()), id);
         let children = object.dispose(alloc, weak);
-        // What a weak value names is there still, unless a strong one named it too.
+        // The pairs of weak values are there still, unless a strong value named the same object.
         self.add_names(object, id);
         children
     }

@@ -1,4 +1,4 @@
-//! One object.
+//! A single object.
 
 ghost use Rattle.std.specs.Prelude.{◌≡◌, ◌+◌, ◌-◌, ◌<◌, ◌^◌, ◌↔◌, IsTrue, IfOk, Ok, map, reverse, length, nat_le, slice_get, OnOk, OnErr};
 ghost use Rattle.std.specs.Option.{option_map};
@@ -25,11 +25,11 @@ use std::mem;
 use type_tree::TypeId;
 use ui_machine::{ObjectId, Place, Slot};
 
-// The most children that an object has.
+// The most children of an object.
 const MOST_CHILDREN: usize = 1024;
 
-/// One object: its class and place, the values of its properties by slot, its queue of notifications, its parent and children,
-/// whether it was disposed, and the number of its peer. It is seen as the machine's.
+/// An object: its class and place, the values of its properties by slot, its queue of notifications, its parent and children, whether it
+/// was disposed, and the number of its peer. A contract sees it as an object of the machine.
 #[derive(Drop)]
 pub struct Object {
     class: TypeId,
@@ -65,7 +65,7 @@ impl Model for Object {
 }
 
 impl Object {
-    /// An object with these values, whose notifications are frozen once. It takes no memory.
+    /// Creates an object with these values, whose notifications are frozen once. Takes no memory.
     pub fn new(
         alloc: Global,
         class: TypeId,
@@ -89,49 +89,49 @@ impl Object {
         }
     }
 
-    /// Its class.
+    /// Returns the class.
     pub fn class(&self) -> TypeId
         ensures { result ≡ self.now.class }
     {
         self.class
     }
 
-    /// Its place.
+    /// Returns the place.
     pub fn place(&self) -> Place
         ensures { result.0 ≡ self.now.place }
     {
         self.place
     }
 
-    /// Its parent, if it has one.
+    /// Returns the parent, if there is one.
     pub fn parent(&self) -> Option<ObjectId>
         ensures { id_of result ≡ self.now.parent }
     {
         self.parent
     }
 
-    /// The number of its peer, if it has one.
+    /// Returns the number of the peer, if there is one.
     pub fn peer(&self) -> Option<usize>
         ensures { result ≡ self.now.peer }
     {
         self.peer
     }
 
-    /// Whether it was disposed.
+    /// Returns whether the object was disposed.
     pub fn is_disposed(&self) -> bool
         ensures { result ≡ self.now.disposed }
     {
         self.disposed
     }
 
-    /// Whether it has as many children as may be.
+    /// Returns whether the object has as many children as it may.
     pub fn is_full(&self) -> bool
         ensures { result ≡ nat_le most_children (length self.now.children) }
     {
         self.children.len() >= MOST_CHILDREN
     }
 
-    // What it has is kept in lists, which are never longer than memory.
+    // States that the object's lists are never longer than memory.
     pub(crate) fn holds_few(&self)
         ensures { HoldsFew self.now }
     {
@@ -140,14 +140,14 @@ impl Object {
         let _children = self.children.len();
     }
 
-    // Gives it a parent, or none.
+    // Sets or clears the parent.
     pub(crate) fn give_parent(&mut self, parent: Option<ObjectId>)
         ensures { self.new ≡ with_parent (id_of parent) self.old }
     {
         self.parent = parent;
     }
 
-    // Adds a child behind the others.
+    // Adds a child at the end.
     pub(crate) fn add_child(&mut self, child: ObjectId) -> Result<(), AllocError>
         ensures ok { OnOk result (self.new ≡ with_child child.0 self.old) }
         ensures few { OnOk result (HoldsFew self.new) }
@@ -157,7 +157,7 @@ impl Object {
         Ok(())
     }
 
-    // Takes a child out, and answers how often it was one.
+    // Removes a child, and returns how often it was one.
     pub(crate) fn remove_child(&mut self, child: ObjectId) -> usize
         ensures object { self.new ≡ without_child child.0 self.old }
         ensures count { result + length self.new.children ≡ length self.old.children }
@@ -165,7 +165,7 @@ impl Object {
         remove_id(&mut self.children, child)
     }
 
-    // Its weak values that name the other object become null.
+    // Sets the weak values that name the other object to null.
     pub(crate) fn forget(&mut self, weak: &WeakSlots, id: ObjectId)
         ensures { self.new ≡ forgetting weak.now id.0 self.old }
     {
@@ -173,29 +173,28 @@ impl Object {
         forget_values(&mut self.values, slots, id);
     }
 
-    // The object that the value of a slot names.
+    // Returns the object that the value in a slot names.
     pub(crate) fn named_at(&self, slot: usize) -> Option<ObjectId>
         ensures { id_of result ≡ name_in (slice_get self.now.values slot) }
     {
         named(self.values.get(slot)?)
     }
 
-    // How many values it has.
+    // Returns the number of values.
     pub(crate) fn slot_count(&self) -> usize
         ensures { result ≡ length self.now.values }
     {
         self.values.len()
     }
 
-    // Whether some value names the other object.
+    // Returns whether some value names the other object.
     pub(crate) fn names(&self, id: ObjectId) -> bool
         ensures { result ≡ names_any id.0 self.now.values }
     {
         is_named(&self.values, id)
     }
 
-    // Its strong values of an object kind become null, it has no children any more, and it is disposed. It answers what its
-    // children were.
+    // Disposes the object: sets its strong values of an object kind to null, and removes its children. Returns the former children.
     pub(crate) fn dispose(&mut self, alloc: Global, weak: &WeakSlots) -> Vec<ObjectId>
         ensures object { self.new ≡ emptied weak.now self.old }
         ensures children { ids_of result.items ≡ self.old.children }
@@ -205,7 +204,7 @@ impl Object {
         mem::replace(&mut self.children, Vec::new(alloc))
     }
 
-    /// The value of a property, by a slot that it has.
+    /// Returns the value in a slot that the object has.
     pub fn read(&self, slot: Slot) -> &Value
         requires slot { slot < length self.now.values }
         ensures { value_at slot self.now ≡ Ok (value_view result.now) }
@@ -213,7 +212,7 @@ impl Object {
         &self.values[usize::from(slot)]
     }
 
-    /// Writes a property, by a slot that it has, and answers what it was.
+    /// Writes the value in a slot that the object has, and returns the old one.
     pub fn write(&mut self, slot: Slot, value: Value) -> Value
         requires slot { slot < length self.old.values }
         ensures changes { with_value slot (value_view value) self.old ≡ Ok (record { state = self.new; answer = value_view result }) }
@@ -222,14 +221,14 @@ impl Object {
         mem::replace(&mut self.values[usize::from(slot)], value)
     }
 
-    /// Whether its notifications are frozen.
+    /// Returns whether the notifications are frozen.
     pub fn is_frozen(&self) -> bool
         ensures { IsTrue result ↔ (0 < self.now.freezes) }
     {
         self.queue.is_frozen()
     }
 
-    /// Adds one freeze, where there are fewer than may be.
+    /// Adds one freeze. The freeze count has to be below its maximum.
     pub fn freeze(&mut self)
         requires { self.old.freezes < 2 ^ 64 - 1 }
         ensures changes { frozen_more self.old ≡ Ok (record { state = self.new; answer = tt }) }
@@ -238,7 +237,8 @@ impl Object {
         self.queue.freeze();
     }
 
-    /// Takes one freeze off, where there is one, and answers the notifications that are then made, the last first.
+    /// Removes one freeze, of which there has to be one. Returns the notifications that are due then, to be made from the last to the
+    /// first.
     pub fn thaw(&mut self, alloc: Global) -> Vec<Slot>
         requires { 0 < self.old.freezes }
         ensures changes { frozen_less self.old ≡ Ok (record { state = self.new; answer = reverse result.items }) }
@@ -250,7 +250,7 @@ impl Object {
         slots
     }
 
-    /// Queues a notification while frozen, and else answers that it is to be made at once.
+    /// Queues a notification if the object is frozen. Returns true if it is not, so that the notification is to be made at once.
     ///
     /// # Errors
     ///

@@ -1,4 +1,4 @@
-//! Values that hold objects or name them.
+//! Values that hold or name objects.
 
 ghost use Rattle.std.specs.Prelude.{◌≡◌, true, false, None, map};
 ghost use Rattle.ui_machine.specs.Definition.Values as values;
@@ -11,7 +11,7 @@ ghost use Rattle.instance_tables.specs.Weak.{masked, forgotten_value, dropped_va
 use g_values::Value;
 use ui_machine::ObjectId;
 
-/// The object that a value names.
+/// Returns the object that a value names, if it names one.
 pub(crate) fn named(value: &Value) -> Option<ObjectId>
     ensures { id_of result ≡ named_by (value_view value.now) }
 {
@@ -21,7 +21,7 @@ pub(crate) fn named(value: &Value) -> Option<ObjectId>
     }
 }
 
-// Whether a value names the object.
+// Returns whether a value names the object.
 fn names(value: &Value, id: ObjectId) -> bool
     ensures { result ≡ names_object id.0 (value_view value.now) }
 {
@@ -31,7 +31,7 @@ fn names(value: &Value, id: ObjectId) -> bool
     }
 }
 
-/// Whether one of these values names the object.
+/// Returns whether one of these values names the object.
 pub(crate) fn is_named(values: &[Value], id: ObjectId) -> bool
     ensures { result ≡ names_any id.0 (map value_view values.now) }
 {
@@ -43,7 +43,7 @@ pub(crate) fn is_named(values: &[Value], id: ObjectId) -> bool
     false
 }
 
-// An object value becomes null.
+// Sets an object value to null. Other values stay as they are.
 fn make_null(value: &mut Value)
     ensures null { is_object (value_view value.old) ≡ true → value_view value.new ≡ values.object None }
     ensures other { is_object (value_view value.old) ≡ false → value.new ≡ value.old }
@@ -55,7 +55,7 @@ fn make_null(value: &mut Value)
     *value = Value::Object(class, None);
 }
 
-// A weak value that names the object becomes null.
+// Sets a value to null if it is weak and names the object.
 fn forget_value(value: &mut Value, is_weak: bool, id: ObjectId)
     ensures { value_view value.new ≡ forgotten_value id.0 is_weak (value_view value.old) }
 {
@@ -64,7 +64,7 @@ fn forget_value(value: &mut Value, is_weak: bool, id: ObjectId)
     }
 }
 
-/// The weak values that name the object become null.
+/// Sets the weak values that name the object to null.
 pub(crate) fn forget_values(values: &mut [Value], weak: &[bool], id: ObjectId)
     ensures { map value_view values.new ≡ masked (forgotten_value id.0) weak.now (map value_view values.old) }
 {
@@ -74,7 +74,7 @@ pub(crate) fn forget_values(values: &mut [Value], weak: &[bool], id: ObjectId)
     }
 }
 
-// A strong value of an object kind becomes null.
+// Sets a value of an object kind to null if it is strong.
 fn drop_value(value: &mut Value, is_weak: bool)
     ensures { value_view value.new ≡ dropped_value is_weak (value_view value.old) }
 {
@@ -83,7 +83,7 @@ fn drop_value(value: &mut Value, is_weak: bool)
     }
 }
 
-/// The strong values of an object kind become null.
+/// Sets the strong values of an object kind to null.
 pub(crate) fn drop_values(values: &mut [Value], weak: &[bool])
     ensures { map value_view values.new ≡ masked dropped_value weak.now (map value_view values.old) }
 {

@@ -1,4 +1,4 @@
-//! What an object lets go of as it is disposed and finalised, and what forgets it.
+//! Disposing and finalising objects, and clearing the weak properties that name them.
 
 ghost use Rattle.std.specs.Prelude.{◌≡◌, ℕ, ◌-◌, ◌<◌, ◌≤◌, None, cond, length, IsSome};
 ghost use Rattle.ui_machine.specs.Definition as machine;
@@ -18,8 +18,8 @@ use crate::weak::WeakSlots;
 use ui_machine::ObjectId;
 
 impl Table {
-    /// Each weak property that names the object becomes null. Where no property is weak it looks through none, and else only through the
-    /// objects that name it, unless memory ran out for who they are.
+    /// Sets each weak property that names the object to null. Looks at no object if no property is weak, and otherwise only at those that
+    /// name the object, unless memory ran out for the index of namers.
     pub fn forget(&mut self, weak: &WeakSlots, id: ObjectId)
         ensures { (d : machine.Definition) → Knows d weak.now → self.new ≡ with_objects self.old (all_forget d id.0 self.old.objects) }
     {
@@ -30,9 +30,9 @@ impl Table {
         forget_everywhere(&mut self.instances, &mut self.namers, weak, id, last);
     }
 
-    /// Disposes an object, again if it was. Each weak property that names it becomes null, and so do its own strong properties of
-    /// an object kind. It has no children any more, and they have no parent. What it held is held so much less. It never fails for
-    /// want of memory, and the object still lives.
+    /// Disposes an object, whether it was disposed before or not. The weak properties that name it and its own strong properties of an
+    /// object kind become null. Its children are removed, and they have no parent any more. What it held is released. Never fails for want
+    /// of memory, and the object still lives.
     pub fn dispose(&mut self, weak: &WeakSlots, id: ObjectId)
         requires live { IsSome (living self.old.objects id.0) }
         ensures disposes { (d : machine.Definition) → Knows d weak.now → Disposes d id.0 self.old self.new }
@@ -44,7 +44,7 @@ impl Table {
         self.orphan_all(&children);
     }
 
-    // What the object's strong values name is held so much less.
+    // Releases the objects that the object's strong values name.
     fn release_values(&mut self, weak: &WeakSlots, id: ObjectId)
         ensures counts { let o = living self.old.objects id.0 in (i : ℕ) → count_of self.new.counts i
             ≡ count_of self.old.counts i - in_strong i (marks_in weak.now o) (values_in o) }
@@ -59,7 +59,7 @@ impl Table {
         }
     }
 
-    // What the value of a slot names is held once less, unless it is weak.
+    // Releases the object that the value in a slot names, unless the slot is weak.
     fn release_slot(&mut self, id: ObjectId, slot: usize, is_weak: bool)
         ensures counts { (i : ℕ) → count_of self.new.counts i
             ≡ count_of self.old.counts i - cond is_weak 0 (in_option i (name_at slot (living self.old.objects id.0))) }
@@ -72,7 +72,7 @@ impl Table {
         self.release_any(named);
     }
 
-    // The object that the value of a slot names.
+    // Returns the object that the value in a slot names.
     fn named_at(&self, id: ObjectId, slot: usize) -> Option<ObjectId>
         ensures { id_of result ≡ name_at slot (living self.now.objects id.0) }
     {
@@ -82,8 +82,8 @@ impl Table {
         instance.object.named_at(slot)
     }
 
-    // The object's strong values of an object kind become null, it has no children any more, and it is disposed. It answers
-    // what its children were.
+    // Sets the object's strong values of an object kind to null, removes its children and marks it as disposed. Returns its former
+    // children.
     fn empty(&mut self, weak: &WeakSlots, id: ObjectId) -> Vec<ObjectId>
         requires live { IsSome (living self.old.objects id.0) }
         ensures objects { self.new.objects ≡ updated (emptied weak.now) id.0 self.old.objects }
@@ -99,7 +99,7 @@ impl Table {
         self.namers.dispose(&mut instance.object, alloc, weak, id)
     }
 
-    // These have no parent any more, and each is held once less.
+    // Clears the parents of these objects, and lowers the hold count of each by one.
     fn orphan_all(&mut self, children: &[ObjectId])
         requires given { (child : ℕ) → 0 < total (same child) (ids_of children.now) → child ≤ length self.old.objects }
         ensures objects { self.new.objects ≡ orphans (ids_of children.now) self.old.objects }
@@ -113,8 +113,8 @@ impl Table {
         }
     }
 
-    /// Finalises an object that nothing holds: it is disposed, again if it was, and taken out. Its identity is not given again. It
-    /// never fails for want of memory.
+    /// Finalises an object that nothing holds: disposes it, whether it was disposed before or not, and removes it. Its identity is not used
+    /// again. Never fails for want of memory.
     pub fn finalise(&mut self, weak: &WeakSlots, id: ObjectId)
         requires live { IsSome (living self.old.objects id.0) }
         requires unheld { count_of self.old.counts id.0 ≡ 0 }
@@ -125,7 +125,7 @@ impl Table {
         self.take_out(id);
     }
 
-    // Takes an object out that nothing holds.
+    // Removes an object that nothing holds.
     fn take_out(&mut self, id: ObjectId)
         requires live { IsSome (living self.old.objects id.0) }
         requires unheld { count_of self.old.counts id.0 ≡ 0 }

@@ -1,4 +1,4 @@
-//! The objects by their identities.
+//! The table of objects by their identities.
 
 ghost use Rattle.std.specs.Prelude.{◌≡◌, ℕ, suc, length, ◌+◌, ◌-◌, ◌<◌, ◌^◌, ◌↔◌, [], IfOk, IfSome, IsOk, IsSome, IsTrue, is_some, None, Ok, reverse, OnErr};
 ghost use Rattle.ui_machine.specs.State.Objects.{asked, changed, living, most_identities, value_at, with_value};
@@ -29,9 +29,9 @@ pub struct Table {
     pub(crate) made: u64,
     limit: u32,
     pub(crate) floating: Vec<ObjectId>,
-    // The lowest one that nothing holds.
+    // The lowest object that nothing holds.
     pub(crate) unheld: Option<ObjectId>,
-    // Who names whom.
+    // The index of which objects name which.
     pub(crate) namers: Namers,
     pub(crate) alloc: Global,
 }
@@ -56,7 +56,7 @@ impl Model for Table {
 }
 
 impl Table {
-    /// No objects, and how many may live. It takes no memory.
+    /// Creates a table without objects, with a limit on how many may live. Takes no memory.
     pub fn new(alloc: Global, limit: u32) -> Self
         ensures { result ≡ record { objects = []; counts = []; limit = limit; floating = [] } }
     {
@@ -71,14 +71,14 @@ impl Table {
         }
     }
 
-    /// Whether there is room for one object more beside so many that are still to come: they count in number and in identities.
+    /// Returns whether there is room for one more object besides `to_come` others, both in the number of living objects and in identities.
     pub fn has_room(&self, to_come: u32) -> bool
         ensures { result ≡ has_room to_come self.now }
     {
         self.has_room_below(self.limit, to_come)
     }
 
-    /// The same where so many may live.
+    /// Like `has_room`, with `most` as the limit of living objects.
     pub fn has_room_below(&self, most: u32, to_come: u32) -> bool
         ensures { result ≡ has_room to_come (record self.now { limit = most }) }
     {
@@ -91,11 +91,11 @@ impl Table {
         u64::from(to_come) < u64::MAX - self.made
     }
 
-    /// One more object, which nothing holds yet, under the next identity. It has neither children nor a parent.
+    /// Adds an object under the next identity. It has neither children nor a parent, and nothing holds it yet.
     ///
     /// # Errors
     ///
-    /// `ObjectLimit` where there is no room, then `OutOfMemory`. The table is as it was.
+    /// Returns `ObjectLimit` if there is no room, and then `OutOfMemory` if memory is refused. The table is unchanged then.
     pub fn create(&mut self, object: Object) -> Result<ObjectId, CreateError>
         requires childless { object.children ≡ [] }
         requires parentless { object.parent ≡ None }
@@ -110,11 +110,11 @@ impl Table {
         Ok(id)
     }
 
-    /// The same where there is an identity for the object. How many may live is the caller's to know: the table's own limit is not asked.
+    /// Adds an object as `create` does, but without testing the table's own limit, which is left to the caller. An identity has to be left.
     ///
     /// # Errors
     ///
-    /// `AllocError` if memory is refused. The table is as it was.
+    /// `AllocError` if memory is refused. The table is unchanged then.
     pub fn make(&mut self, object: Object) -> Result<ObjectId, AllocError>
         requires childless { object.children ≡ [] }
         requires parentless { object.parent ≡ None }
@@ -122,10 +122,10 @@ impl Table {
         ensures made { IfOk result (λ id. (id.0 ≡ suc (length self.old.objects)) × (self.new ≡ with_object object self.old)) }
         ensures err { OnErr result (self.new ≡ self.old) }
     {
-        // For the proof: how many were made.
+        // For the proof: the number of objects made.
         let _lives = self.instances.len();
         let id = self.made + 1;
-        // For the proof: how many values it has.
+        // For the proof: the number of values of the object.
         object.holds_few();
         self.namers.add_names(&object, ObjectId(id));
         let instance = Instance {
@@ -138,7 +138,7 @@ impl Table {
         Ok(ObjectId(id))
     }
 
-    /// Whether the object lives. What does not is not held.
+    /// Returns whether an object lives. One that does not live is not held.
     pub fn is_live(&self, id: ObjectId) -> bool
         ensures dead { (o : ℕ) → living self.now.objects o ≡ None → count_of self.now.counts o ≡ 0 }
         ensures live { result ≡ is_some (living self.now.objects id.0) }
@@ -146,7 +146,7 @@ impl Table {
         self.instances.contains(id)
     }
 
-    /// The class of an object that lives.
+    /// Returns the class of an object that lives.
     pub fn class_of(&self, id: ObjectId) -> TypeId
         requires live { IsSome (living self.now.objects id.0) }
         ensures { asked self.now.objects id.0 (λ o. Ok o.class) ≡ Ok result }
@@ -157,7 +157,7 @@ impl Table {
         instance.object.class()
     }
 
-    /// The place of an object that lives.
+    /// Returns the place of an object that lives.
     pub fn place_of(&self, id: ObjectId) -> Place
         requires live { IsSome (living self.now.objects id.0) }
         ensures { asked self.now.objects id.0 (λ o. Ok o.place) ≡ Ok result.0 }
@@ -168,7 +168,7 @@ impl Table {
         instance.object.place()
     }
 
-    /// Whether an object lives and was disposed.
+    /// Returns whether an object lives and was disposed.
     pub fn is_disposed(&self, id: ObjectId) -> bool
         ensures { result ≡ is_disposed (living self.now.objects id.0) }
     {
@@ -178,7 +178,7 @@ impl Table {
         instance.object.is_disposed()
     }
 
-    /// The number of the peer of an object, if it lives and has one.
+    /// Returns the number of an object's peer, or `None` if it has none or does not live.
     pub fn peer_of(&self, id: ObjectId) -> Option<usize>
         ensures { result ≡ peer_of (living self.now.objects id.0) }
     {
@@ -188,7 +188,7 @@ impl Table {
         instance.object.peer()
     }
 
-    /// The value of a property of an object that lives, by a slot that it has.
+    /// Returns the value of a property of an object that lives, in a slot that it has.
     pub fn read(&self, id: ObjectId, slot: Slot) -> &Value
         requires slot { IsOk (asked self.now.objects id.0 (value_at slot)) }
         ensures { asked self.now.objects id.0 (value_at slot) ≡ Ok (value_view result.now) }
@@ -199,7 +199,7 @@ impl Table {
         instance.object.read(slot)
     }
 
-    // Writes a property, and answers what it was. Who holds what is the caller's to count.
+    // Writes a property and returns the old value. The caller updates the hold counts.
     pub(crate) fn replace(&mut self, id: ObjectId, slot: Slot, value: Value) -> Value
         requires slot { IsOk (asked self.old.objects id.0 (value_at slot)) }
         ensures changes { changed self.old.objects id.0 (with_value slot (value_view value)) ≡ Ok (record { state = self.new.objects; answer = value_view result }) }
@@ -212,7 +212,7 @@ impl Table {
         instance.object.write(slot, value)
     }
 
-    /// Whether an object lives and its notifications are frozen.
+    /// Returns whether an object lives and its notifications are frozen.
     pub fn is_frozen(&self, id: ObjectId) -> bool
         ensures { IsTrue result ↔ (0 < freezes_in (living self.now.objects id.0)) }
     {
@@ -234,7 +234,8 @@ impl Table {
         instance.object.freeze();
     }
 
-    /// Takes one freeze off an object that is frozen, and answers the notifications that are then made, the last first.
+    /// Removes one freeze from an object that is frozen. Returns the notifications that are due then, to be made from the last to the
+    /// first.
     pub fn thaw(&mut self, id: ObjectId) -> Vec<Slot>
         requires able { IsOk (changed self.old.objects id.0 frozen_less) }
         ensures changes { changed self.old.objects id.0 frozen_less ≡ Ok (record { state = self.new.objects; answer = reverse result.items }) }
@@ -247,7 +248,8 @@ impl Table {
         instance.object.thaw(alloc)
     }
 
-    /// Queues a notification while the object, which lives, is frozen, and else answers that it is to be made at once.
+    /// Queues a notification if the object, which lives, is frozen. Returns true if it is not, so that the notification is to be made at
+    /// once.
     ///
     /// # Errors
     ///
@@ -264,7 +266,7 @@ impl Table {
         instance.object.add(slot)
     }
 
-    /// Whether an object lives and may be held once more.
+    /// Returns whether an object lives and may be held once more.
     pub fn can_hold(&self, id: ObjectId) -> bool
         ensures { result ≡ may_hold self.now id.0 }
     {
@@ -274,7 +276,7 @@ impl Table {
         instance.mentions < u128::MAX
     }
 
-    // Holds an object so many times less, or not at all any more.
+    // Lowers the hold count of an object by `times`, to zero at the lowest.
     pub(crate) fn release(&mut self, id: ObjectId, times: u128)
         ensures counts { (o : ℕ) → count_of self.new.counts o ≡ count_of self.old.counts o - so_often times id.0 o }
         ensures beside { self.new ≡ record self.old { counts = self.new.counts } }
@@ -286,7 +288,7 @@ impl Table {
         self.unheld = lowest_with(self.unheld, id, instance.mentions);
     }
 
-    /// Holds an object once more.
+    /// Raises the hold count of an object by one.
     pub fn hold(&mut self, id: ObjectId)
         requires live { IsSome (living self.old.objects id.0) }
         requires room { count_of self.old.counts id.0 < 2 ^ 128 - 1 }
@@ -299,7 +301,7 @@ impl Table {
         self.unheld = lowest_beside(&self.instances, self.unheld, id);
     }
 
-    /// Holds an object once less.
+    /// Lowers the hold count of an object by one.
     pub fn let_go(&mut self, id: ObjectId)
         requires held { 0 < count_of self.old.counts id.0 }
         ensures { self.new ≡ with_count self.old id.0 (count_of self.old.counts id.0 - 1) }
@@ -311,8 +313,8 @@ impl Table {
         self.unheld = lowest_with(self.unheld, id, instance.mentions);
     }
 
-    /// The lowest identity of an object that nothing holds. It looks at no object: which one it is was noted as objects were made, held, let
-    /// go and taken out. What does not live is not held.
+    /// Returns the lowest identity of an object that nothing holds. Looks at no object, since the table keeps track of it as objects are
+    /// made, held, let go and removed. An object that does not live is not held.
     pub fn next_unheld(&self) -> Option<ObjectId>
         ensures found { id_of result ≡ next_unheld (count_of self.now.counts) self.now.objects }
         ensures dead { (o : ℕ) → living self.now.objects o ≡ None → count_of self.now.counts o ≡ 0 }

@@ -1,7 +1,7 @@
-//! Which is the lowest object that nothing holds.
+//! Tracking of the lowest object that nothing holds.
 //!
-//! A table keeps the answer. It changes where an object is made, is let go of for the last time, is held again, or is taken out. Objects are
-//! looked through only where the one that was noted is held or gone: from it on, since those below it are held.
+//! A table stores that object's identity. It changes when an object is made, let go for the last time, held again, or removed. Objects are
+//! searched only if the stored one is held or gone, and only from it on, since those below it are held.
 
 ghost use Rattle.std.specs.Prelude.{◌≡◌, ℕ, ◌<◌, Some, Option};
 ghost use Rattle.instance_tables.specs.Store.{id_of};
@@ -10,7 +10,7 @@ ghost use Rattle.instance_tables.specs.View.{held_in, instances_at, lower_of, Is
 use crate::instances::Instances;
 use ui_machine::ObjectId;
 
-/// The lower one of the noted object, if there is one, and another.
+/// Returns the lower one of `noted`, if there is one, and `id`.
 pub(crate) fn lower(noted: Option<ObjectId>, id: ObjectId) -> ObjectId
     ensures { result.0 ≡ lower_of (id_of noted) id.0 }
 {
@@ -20,7 +20,7 @@ pub(crate) fn lower(noted: Option<ObjectId>, id: ObjectId) -> ObjectId
     }
 }
 
-/// The lowest one that nothing holds, once this one is held only so often any more.
+/// Returns the lowest object that nothing holds, given the one before and that `id` is now held `mentions` times.
 pub(crate) fn lowest_with(noted: Option<ObjectId>, id: ObjectId, mentions: u128) -> Option<ObjectId>
     ensures held { 0 < mentions → result ≡ noted }
     ensures unheld { mentions ≡ 0 → id_of result ≡ Some (lower_of (id_of noted) id.0) }
@@ -31,7 +31,7 @@ pub(crate) fn lowest_with(noted: Option<ObjectId>, id: ObjectId, mentions: u128)
     Some(lower(noted, id))
 }
 
-/// The lowest one that nothing holds, once this one is held or gone.
+/// Returns the lowest object that nothing holds, given the one before and that `id` is now held or gone.
 pub(crate) fn lowest_beside(
     instances: &Instances,
     noted: Option<ObjectId>,

@@ -1,4 +1,4 @@
-//! Which properties are weak.
+//! The marks of weak properties.
 
 ghost use Rattle.std.specs.Prelude.{◌≡◌, ◌++◌, ◌∷◌, [], OnOk, OnErr};
 ghost use Rattle.std.specs.List.{list_any};
@@ -10,7 +10,7 @@ use std::marker::Model;
 use type_tree::TypeId;
 use ui_machine::Slot;
 
-/// For each class, which of its slots are weak: such a property does not hold its object.
+/// For each class, the slots whose properties are weak. A weak property does not hold its object.
 #[derive(Drop)]
 pub struct WeakSlots {
     classes: Vec<Vec<bool>>,
@@ -29,7 +29,7 @@ impl Model for WeakSlots {
 }
 
 impl WeakSlots {
-    /// No class yet.
+    /// Creates marks without classes.
     pub fn new(alloc: Global) -> Self
         ensures { result ≡ [] }
     {
@@ -39,7 +39,7 @@ impl WeakSlots {
         }
     }
 
-    /// The next class has these slots.
+    /// Adds the slots of the next class.
     ///
     /// # Errors
     ///
@@ -54,14 +54,14 @@ impl WeakSlots {
         Ok(())
     }
 
-    /// Whether a slot of any class is weak.
+    /// Returns whether any slot of any class is weak.
     pub fn has_weak(&self) -> bool
         ensures { result ≡ has_weak self.now }
     {
         self.has_weak
     }
 
-    /// Whether a slot of a class is there and is not weak.
+    /// Returns whether a class has the slot and it is not weak.
     pub fn is_strong(&self, class: TypeId, slot: Slot) -> bool
         ensures { result ≡ is_strong self.now class slot }
     {
@@ -73,7 +73,7 @@ impl WeakSlots {
         !slots[slot]
     }
 
-    /// The slots of a class, none if it is not there.
+    /// Returns the slots of a class. Empty if the class was not added.
     pub fn of(&self, class: TypeId) -> &[bool]
         ensures { result.now ≡ read [] self.now class }
     {
@@ -86,7 +86,7 @@ impl WeakSlots {
     }
 }
 
-// Whether one of these slots is weak.
+// Returns whether one of these slots is weak.
 fn is_any_weak(slots: &[bool]) -> bool
     ensures { result ≡ list_any (λ is_weak. is_weak) slots.now }
 {

@@ -1,4 +1,4 @@
-//! What is changed of one object of a heap.
+//! Changes of single objects of a heap.
 
 ghost use Rattle.std.specs.Prelude.{◌≡◌, ◌<◌, ◌^◌, ◌+◌, ◌-◌, IfOk, IsSome, OnErr, reverse};
 ghost use Rattle.ui_machine.specs.Rules.NotifyQueue.{frozen_less, frozen_more, raised};
@@ -14,8 +14,8 @@ use std::alloc::AllocError;
 use ui_machine::{ObjectId, Slot};
 
 impl Heap<'_> {
-    /// Writes a property of an object that lives, by a slot of its class, and answers what it was. Where the property is strong, the old
-    /// value's object is let go, and the new one's is held, if it lives and may be held once more.
+    /// Writes a property of an object that lives, in a slot of its class, and returns the old value. If the property is strong, the old
+    /// value's object is let go, and the new value's object is held, if it lives and may be held once more.
     pub fn write(&mut self, id: ObjectId, slot: Slot, value: Value) -> Value
         requires { HasSlot (objects_of self.now) id.0 slot }
         ensures writes { Writes (marks_of self.old) id.0 slot (value_view result) (value_view value) (objects_of self.old) (objects_of self.new) }
@@ -24,7 +24,7 @@ impl Heap<'_> {
         self.table.write(self.classes.weak, id, slot, value)
     }
 
-    /// Holds an object once more.
+    /// Raises the hold count of an object by one.
     pub fn hold(&mut self, id: ObjectId)
         requires live { IsSome (living (objects_of self.now).objects id.0) }
         requires room { count_of (objects_of self.now).counts id.0 < 2 ^ 128 - 1 }
@@ -35,7 +35,7 @@ impl Heap<'_> {
         self.table.hold(id);
     }
 
-    /// Lets an object go that was held.
+    /// Lowers the hold count of an object that is held by one.
     pub fn let_go(&mut self, id: ObjectId)
         requires { 0 < count_of (objects_of self.now).counts id.0 }
         ensures lets_go { objects_of self.new ≡ with_count (objects_of self.old) id.0 (count_of (objects_of self.old).counts id.0 - 1) }
@@ -44,7 +44,7 @@ impl Heap<'_> {
         self.table.let_go(id);
     }
 
-    /// Freezes the notifications of an object once more.
+    /// Adds one freeze to an object's notifications.
     pub fn freeze(&mut self, id: ObjectId)
         requires live { IsSome (living (objects_of self.now).objects id.0) }
         requires room { freezes_in (living (objects_of self.now).objects id.0) < 2 ^ 64 - 1 }
@@ -54,7 +54,8 @@ impl Heap<'_> {
         self.table.freeze(id);
     }
 
-    /// Takes one freeze off an object that is frozen, and answers the notifications that are then made, the last first.
+    /// Removes one freeze from an object that is frozen. Returns the notifications that are due then, to be made from the last to the
+    /// first.
     pub fn thaw(&mut self, id: ObjectId) -> Vec<Slot>
         requires { 0 < freezes_in (living (objects_of self.now).objects id.0) }
         ensures thaws { Changes id.0 frozen_less (reverse result.items) (objects_of self.old) (objects_of self.new) }
@@ -63,11 +64,11 @@ impl Heap<'_> {
         self.table.thaw(id)
     }
 
-    /// Queues a notification while an object is frozen, and else answers that it is to be made at once.
+    /// Queues a notification if the object is frozen. Returns true if it is not, so that the notification is to be made at once.
     ///
     /// # Errors
     ///
-    /// `AllocError` if memory is refused. All is then as it was.
+    /// `AllocError` if memory is refused. Nothing has changed then.
     pub fn add(&mut self, id: ObjectId, slot: Slot) -> Result<bool, AllocError>
         requires { IsSome (living (objects_of self.now).objects id.0) }
         ensures raises { IfOk result (λ now. Changes id.0 (raised slot) now (objects_of self.old) (objects_of self.new)) }

@@ -1,4 +1,4 @@
-//! What a heap reads of the classes of its objects.
+//! The information on classes that a heap reads.
 
 ghost use Rattle.std.specs.Prelude.{◌≡◌, IfOk, map};
 ghost use Rattle.g_values.specs.View.{value_view};
@@ -11,10 +11,10 @@ use std::alloc::{AllocError, Global};
 use type_tree::{TypeId, TypeTree};
 use ui_machine::Slot;
 
-// The type under which objects begin floating.
+// The number of `GInitiallyUnowned`, below which objects float from the beginning.
 const INITIALLY_UNOWNED: u16 = 1;
 
-/// The tree of types, the properties of each class, and which of them are weak.
+/// The type tree, the properties of each class, and the marks of weak properties.
 #[derive(Clone, Copy)]
 pub struct Classes<'a> {
     pub types: &'a TypeTree,
@@ -23,7 +23,7 @@ pub struct Classes<'a> {
 }
 
 impl Classes<'_> {
-    // The defaults of a class's properties, by slot.
+    // Collects the defaults of a class's properties, by slot.
     pub(crate) fn defaults(&self, alloc: Global, class: TypeId) -> Result<Vec<Value>, AllocError>
         ensures { IfOk result (λ values. map value_view values.items ≡ defaults_of self.now.types.now self.now.specs.now class) }
     {
@@ -35,7 +35,7 @@ impl Classes<'_> {
         Ok(values)
     }
 
-    // Whether an object of a class begins floating.
+    // Returns whether an object of a class floats from the beginning.
     pub(crate) fn floats_at_first(&self, class: TypeId) -> bool
         ensures { result ≡ floats_at_first self.now.types.now class }
     {

@@ -1,4 +1,4 @@
-//! Peers that are closed with their objects.
+//! Closing of peers with their objects.
 
 ghost use Rattle.std.specs.Prelude.{◌≡◌, ℕ, ◌<◌, Some, fold, length};
 ghost use Rattle.ui_machine.specs.Rules.Disposal.{peers_closed};
@@ -12,7 +12,7 @@ use instance_tables::Table;
 use native_peers::{Peer, PeerPool};
 use ui_machine::ObjectId;
 
-/// Closes the peer of an object, if it has one and that is open.
+/// Closes the peer of an object, if it has one and the peer is open.
 pub(crate) fn close_peer(table: &Table, pool: &mut PeerPool, id: ObjectId)
     requires inside { (number : ℕ) → peer_at table.now.objects id.0 ≡ Some number → number < length (entries pool.now) }
     ensures closed { as_peers (seen (λ p. (⟦<dyn Peer as Peer>⟧ p.peer.vtable).state p.peer.value) (entries pool.new)) ≡ peers_closed (as_peers (seen (λ p. (⟦<dyn Peer as Peer>⟧ p.peer.vtable).state p.peer.value) (entries pool.old))) (living table.now.objects id.0) }
@@ -27,7 +27,7 @@ pub(crate) fn close_peer(table: &Table, pool: &mut PeerPool, id: ObjectId)
     }
 }
 
-/// Closes the open peer of each object, that of the lowest identity first. No object above the last identity has a peer.
+/// Closes the open peers of all objects, from the lowest identity up. No object above the identity `last` has a peer.
 pub(crate) fn close_all(table: &Table, pool: &mut PeerPool, last: u64)
     requires { AreLent last (length (entries pool.now)) table.now.objects }
     ensures closed { as_peers (seen (λ p. (⟦<dyn Peer as Peer>⟧ p.peer.vtable).state p.peer.value) (entries pool.new)) ≡ fold peers_closed (as_peers (seen (λ p. (⟦<dyn Peer as Peer>⟧ p.peer.vtable).state p.peer.value) (entries pool.old))) table.now.objects }

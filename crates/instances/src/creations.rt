@@ -1,4 +1,4 @@
-//! Objects that are made.
+//! Creation of heaps and of their objects.
 
 ghost use Rattle.std.specs.Prelude.{◌≡◌, ◌<◌, [], IfOk, IsSomeAnd, IsTrue, None, Some, length, slice_get};
 ghost use Rattle.std.specs.Option.{ForSome};
@@ -19,7 +19,8 @@ use type_tree::TypeId;
 use ui_machine::{ObjectId, Place};
 
 impl<'a> Heap<'a> {
-    /// No objects of these classes, how many may live, and the peers that they may be given. It takes no memory.
+    /// Creates a heap without objects, for these classes, with a limit on how many objects may live and the peers that they may be given.
+    /// Takes no memory.
     pub fn new(alloc: Global, classes: Classes<'a>, limit: u32, pool: PeerPool) -> Self
         ensures objects { objects_of result ≡ record { objects = []; counts = []; limit = limit; floating = [] } }
         ensures pool { pool_of result ≡ pool }
@@ -36,12 +37,14 @@ impl<'a> Heap<'a> {
 }
 
 impl Heap<'_> {
-    /// One more object of a class, under the next identity, with the peer of a number, which is open and no object's. It has the defaults of
-    /// its class, and its notifications are frozen once. It floats if its class is under `GInitiallyUnowned`, and else nothing holds it.
+    /// Adds an object of a class under the next identity. If the number of a peer is given, the peer has to be open and belong to no other
+    /// object. The object has the defaults of its class, and its notifications are frozen once. It floats if its class is under
+    /// `GInitiallyUnowned`, otherwise nothing holds it.
     ///
     /// # Errors
     ///
-    /// `ObjectLimit` exactly where as many live as may, or no identity is left, then `OutOfMemory`. All is then as it was.
+    /// Returns `ObjectLimit` if and only if as many objects live as may or no identity is left, otherwise `OutOfMemory` if memory is
+    /// refused. Nothing has changed then.
     pub fn create(
         &mut self,
         place: Place,
@@ -70,8 +73,8 @@ impl Heap<'_> {
         }
     }
 
-    // One more object, which nothing holds yet. It has as many properties as its class. Its peer, if it has one, is one of the pool and no
-    // other object's.
+    // Adds an object, which nothing holds yet. It has as many properties as its class. Its peer, if it has one, is of the pool and belongs
+    // to no other object.
     fn add_object(&mut self, object: Object) -> Result<ObjectId, CreateError>
         requires childless { object.children ≡ [] }
         requires parentless { object.parent ≡ None }
@@ -87,7 +90,7 @@ impl Heap<'_> {
         Ok(id)
     }
 
-    // The same of an object that floats.
+    // Adds an object as `add_object` does, which floats.
     fn add_floating(&mut self, object: Object) -> Result<ObjectId, CreateError>
         requires childless { object.children ≡ [] }
         requires parentless { object.parent ≡ None }

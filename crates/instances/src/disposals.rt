@@ -1,4 +1,4 @@
-//! Objects that are disposed, with their peers.
+//! Disposing of objects with their peers.
 
 ghost use Rattle.std.specs.Prelude.{◌≡◌, IsSome};
 ghost use Rattle.ui_machine.specs.Definition as machine;
@@ -17,9 +17,9 @@ use native_peers::Peer;
 use ui_machine::ObjectId;
 
 impl Heap<'_> {
-    /// Disposes an object, again if it was. Each weak property that names it becomes null, and so do its own strong properties of an object
-    /// kind. It has no children any more, and they have no parent. What it held is held so much less, and its open peer is closed. It takes
-    /// no memory, and the object still lives.
+    /// Disposes an object, whether it was disposed before or not. The weak properties that name it and its own strong properties of an
+    /// object kind become null. Its children are removed, and they have no parent any more. What it held is released, and its peer is
+    /// closed if it is open. Takes no memory, and the object still lives.
     pub fn dispose(&mut self, id: ObjectId)
         requires { IsSome (living (objects_of self.now).objects id.0) }
         ensures disposes { (d : machine.Definition) → Knows d (marks_of self.old) → Disposes d id.0 (objects_of self.old) (objects_of self.new) }

@@ -1,4 +1,4 @@
-//! Objects that are finalised, and the end of a heap.
+//! Finalising of objects, and the end of a heap.
 
 ghost use Rattle.std.specs.Prelude.{◌≡◌, IsSome, fold};
 ghost use Rattle.ui_machine.specs.Definition as machine;
@@ -18,8 +18,8 @@ use native_peers::{Peer, PeerPool};
 use ui_machine::ObjectId;
 
 impl Heap<'_> {
-    /// Finalises an object that nothing holds: it is disposed, again if it was, and taken out. Its identity is not given again. It takes no
-    /// memory.
+    /// Finalises an object that nothing holds: disposes it, whether it was disposed before or not, and removes it. Its identity is not used
+    /// again. Takes no memory.
     pub fn finalise(&mut self, id: ObjectId)
         requires live { IsSome (living (objects_of self.now).objects id.0) }
         requires unheld { count_of (objects_of self.now).counts id.0 ≡ 0 }
@@ -32,7 +32,7 @@ impl Heap<'_> {
         self.table.finalise(self.classes.weak, id);
     }
 
-    /// The pool, once the open peer of each object is closed, that of the lowest identity first. The other peers are as they were.
+    /// Closes the open peers of all objects, from the lowest identity up, and returns the pool. Other peers are unchanged.
     pub fn into_pool(self) -> PeerPool
         ensures closed { as_peers (seen (λ p. (⟦<dyn Peer as Peer>⟧ p.peer.vtable).state p.peer.value) (entries result)) ≡ fold peers_closed (as_peers (seen (λ p. (⟦<dyn Peer as Peer>⟧ p.peer.vtable).state p.peer.value) (entries (pool_of self.entry)))) (objects_of self.entry).objects }
         ensures same { SameRelations (relations (λ p. (⟦<dyn Peer as Peer>⟧ p.peer.vtable).moves p.peer.value) (entries (pool_of self.entry))) (relations (λ p. (⟦<dyn Peer as Peer>⟧ p.peer.vtable).moves p.peer.value) (entries result)) }

@@ -1,4 +1,4 @@
-//! Parents and children, and what floats.
+//! Parents, children and floating objects of a heap.
 
 ghost use Rattle.std.specs.Prelude.{◌≡◌, ◌<◌, ◌^◌, ◌-◌, ℕ, IsSome, None, Some, is_some};
 ghost use Rattle.std.specs.Result.{IsErrOf};
@@ -12,12 +12,12 @@ use instance_tables::AdoptError;
 use ui_machine::ObjectId;
 
 impl Heap<'_> {
-    /// An object becomes another's child: the parent holds it, and it no longer floats.
+    /// Makes an object another's child: the parent holds it, and it no longer floats.
     ///
     /// # Errors
     ///
-    /// `HasParent` if it has a parent or is the parent itself, then `ChildLimit` if the parent has as many children as may be, then
-    /// `OutOfMemory`. All is then as it was.
+    /// Returns `HasParent` if the child has a parent or is the parent itself, then `ChildLimit` if the parent has as many children as it
+    /// may, then `OutOfMemory` if memory is refused. Nothing has changed then.
     pub fn adopt(&mut self, parent: ObjectId, child: ObjectId) -> Result<(), AdoptError>
         requires parent { IsSome (living (objects_of self.now).objects parent.0) }
         requires child { IsSome (living (objects_of self.now).objects child.0) }
@@ -29,7 +29,7 @@ impl Heap<'_> {
         self.table.adopt(parent, child)
     }
 
-    /// Takes an object out of its parent's children, and lets it go so. It answers whether the object had a parent.
+    /// Removes an object from its parent's children, so that the parent no longer holds it. Returns whether the object had a parent.
     pub fn orphan(&mut self, child: ObjectId) -> bool
         ensures had { result ≡ is_some (parent_in (living (objects_of self.old).objects child.0)) }
         ensures alone { parent_in (living (objects_of self.old).objects child.0) ≡ None → objects_of self.new ≡ objects_of self.old }
@@ -40,7 +40,7 @@ impl Heap<'_> {
         self.table.orphan(child)
     }
 
-    /// An object no longer floats, and is held so much less.
+    /// Removes an object from the floating ones, so that floating no longer holds it.
     pub fn sink(&mut self, id: ObjectId)
         ensures sinks { Sinks id.0 (objects_of self.old) (objects_of self.new) }
         ensures beside { ChangesObjects self.old self.new }

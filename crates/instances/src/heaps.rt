@@ -1,4 +1,4 @@
-//! The heap itself.
+//! The type of heaps.
 
 ghost use Rattle.std.specs.Prelude.{length};
 ghost use Rattle.native_peers.specs.Pool.{entries};
@@ -10,8 +10,7 @@ use instance_tables::Table;
 use native_peers::PeerPool;
 use std::alloc::Global;
 
-/// Objects, how often each is held, and the pool of their peers. No two objects have one peer, and each has as many properties as its
-/// class.
+/// Objects with their hold counts, and the pool of their peers. No two objects share a peer, and each has as many properties as its class.
 #[derive(Drop)]
 pub struct Heap<'a> {
     pub(crate) classes: Classes<'a>,

@@ -1,6 +1,6 @@
-//! The objects of a host and the pool of their peers together.
+//! A heap: the objects of a host together with the pool of their peers.
 //!
-//! A [`Heap`] is for a host that runs no session: it makes objects with the defaults of their classes, gives each the peer that the host
+//! A [`Heap`] is for a host that runs no session. It makes objects with the defaults of their classes, gives each the peer that the host
 //! names, calls peers through their objects, and closes them as the objects are disposed. At the end it hands the pool back.
 #![tactic(auto)]
 

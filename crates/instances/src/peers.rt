@@ -1,4 +1,4 @@
-//! The peers of objects, asked.
+//! Calls of the peers of objects.
 
 ghost use Rattle.std.specs.Prelude.{◌≡◌, IsSomeAnd, IsTrue, map};
 ghost use Rattle.ui_machine.specs.State.Objects.{living};
@@ -15,7 +15,7 @@ use native_peers::{Peer, PeerFault};
 use ui_machine::ObjectId;
 
 impl Heap<'_> {
-    /// Whether the peer of an object may be called: not without a peer.
+    /// Returns whether an object has a peer that may be called.
     pub fn is_open(&self, id: ObjectId) -> bool
         ensures { result ≡ is_callable (peer_seen (seen (λ p. (⟦<dyn Peer as Peer>⟧ p.peer.vtable).state p.peer.value) (entries (pool_of self.now))) (living (objects_of self.now).objects id.0)) }
     {
@@ -25,11 +25,11 @@ impl Heap<'_> {
         }
     }
 
-    /// Calls a method of the peer of an object, which is open, with arguments of the method's kinds. All other peers stay as they are.
+    /// Calls a method of an object's peer, which is open, with arguments of the method's kinds. All other peers stay as they are.
     ///
     /// # Errors
     ///
-    /// `PeerFault` where the peer answers no value.
+    /// Returns `PeerFault` if the peer answers no value.
     pub fn invoke(
         &mut self,
         id: ObjectId,

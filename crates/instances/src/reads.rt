@@ -1,4 +1,4 @@
-//! What is read of the objects of a heap.
+//! Queries on the objects of a heap.
 
 ghost use Rattle.std.specs.Prelude.{◌≡◌, ◌<◌, ◌↔◌, ℕ, IfSome, IsSome, IsTrue, Ok, Some, is_some, length, nat_eq, option_map};
 ghost use Rattle.std.specs.List.{list_any};
@@ -18,21 +18,21 @@ use type_tree::TypeId;
 use ui_machine::{ObjectId, Place, Slot};
 
 impl Heap<'_> {
-    /// Whether an object lives.
+    /// Returns whether an object lives.
     pub fn is_live(&self, id: ObjectId) -> bool
         ensures { result ≡ is_some (living (objects_of self.now).objects id.0) }
     {
         self.table.is_live(id)
     }
 
-    /// Whether an object lives and may be held once more.
+    /// Returns whether an object lives and may be held once more.
     pub fn can_hold(&self, id: ObjectId) -> bool
         ensures { result ≡ may_hold (objects_of self.now) id.0 }
     {
         self.table.can_hold(id)
     }
 
-    /// The lowest identity of an object that nothing holds.
+    /// Returns the lowest identity of an object that nothing holds.
     pub fn next_unheld(&self) -> Option<ObjectId>
         ensures found { id_of result ≡ next_unheld (count_of (objects_of self.now).counts) (objects_of self.now).objects }
         ensures live { IfSome result (λ id. IsSome (living (objects_of self.now).objects id.0)) }
@@ -41,7 +41,7 @@ impl Heap<'_> {
         self.table.next_unheld()
     }
 
-    /// The class of an object. The object has the slots of its class.
+    /// Returns the class of an object that lives. The object has the slots of its class.
     pub fn type_of(&self, id: ObjectId) -> TypeId
         requires { IsSome (living (objects_of self.now).objects id.0) }
         ensures class { class_in (objects_of self.now).objects id.0 ≡ Some result }
@@ -51,7 +51,7 @@ impl Heap<'_> {
         self.table.class_of(id)
     }
 
-    /// The place of an object.
+    /// Returns the place of an object that lives.
     pub fn place_of(&self, id: ObjectId) -> Place
         requires { IsSome (living (objects_of self.now).objects id.0) }
         ensures { option_map (λ (o : machine.Object). o.place) (living (objects_of self.now).objects id.0) ≡ Some result.0 }
@@ -59,28 +59,28 @@ impl Heap<'_> {
         self.table.place_of(id)
     }
 
-    /// Whether an object lives and was disposed.
+    /// Returns whether an object lives and was disposed.
     pub fn is_disposed(&self, id: ObjectId) -> bool
         ensures { result ≡ is_disposed (living (objects_of self.now).objects id.0) }
     {
         self.table.is_disposed(id)
     }
 
-    /// Whether an object lives and its notifications are frozen.
+    /// Returns whether an object lives and its notifications are frozen.
     pub fn is_frozen(&self, id: ObjectId) -> bool
         ensures { IsTrue result ↔ (0 < freezes_in (living (objects_of self.now).objects id.0)) }
     {
         self.table.is_frozen(id)
     }
 
-    /// Whether an object floats.
+    /// Returns whether an object floats.
     pub fn is_floating(&self, id: ObjectId) -> bool
         ensures { result ≡ list_any (λ i. nat_eq i id.0) (objects_of self.now).floating }
     {
         self.table.is_floating(id)
     }
 
-    /// The value of a property of an object that lives, by a slot of its class.
+    /// Returns the value of a property of an object that lives, in a slot of its class.
     pub fn read(&self, id: ObjectId, slot: Slot) -> &Value
         requires { HasSlot (objects_of self.now) id.0 slot }
         ensures { asked (objects_of self.now).objects id.0 (value_at slot) ≡ Ok (value_view result.now) }

@@ -1,4 +1,4 @@
-//! Arguments of emissions and calls: each is set and fits its parameter, and there are as many.
+//! Checks the arguments of emissions and calls: each is set and fits its parameter, and there are as many as parameters.
 
 ghost use Rattle.std.specs.Prelude.{◌≡◌, map, option_map, slice_get};
 ghost use Rattle.g_values.specs.View.{kind_view};
@@ -12,7 +12,7 @@ use g_values::Kind;
 use operand_types::operands::{fitting, set_in};
 use operand_types::{Lookups, Rule};
 
-// An argument is set, and fits its parameter, if there is one.
+// Checks that an argument is set, and that it fits its parameter if there is one.
 fn argument(
     lookups: &Lookups<'_>,
     kinds: &[RegisterKind],
@@ -29,7 +29,7 @@ fn argument(
     Ok(())
 }
 
-// The parameter of a number, if there is one.
+// Returns the parameter with this number, if there is one.
 fn param_at(params: &[Kind], number: usize) -> Option<Kind>
     ensures { option_map kind_view result ≡ slice_get (map kind_view params.now) number }
 {
@@ -40,11 +40,11 @@ fn param_at(params: &[Kind], number: usize) -> Option<Kind>
     }
 }
 
-/// Each argument is set and fits its parameter, and there are as many.
+/// Checks that each argument is set and fits its parameter, and that there are as many arguments as parameters.
 ///
 /// # Errors
 ///
-/// The rule that the first one breaks, from left to right, and then that of their count.
+/// Returns the rule that the first argument from the left breaks, or `Kind` if only the number of arguments is wrong.
 pub(crate) fn check_arguments(
     lookups: &Lookups<'_>,
     kinds: &[RegisterKind],

@@ -1,4 +1,4 @@
-//! The types of blocks and programs: the first instruction that breaks a rule.
+//! Types blocks and programs up to the first instruction that breaks a rule.
 
 ghost use Rattle.std.specs.Prelude.{◌≡◌, option_map, slice_get, IfOk};
 ghost use Rattle.bytecode.specs.View.{block_view, instruction_view, program_view};
@@ -24,7 +24,7 @@ pub struct BrokenRule {
     pub rule: Rule,
 }
 
-/// An instruction of a definition that breaks a rule.
+/// The first instruction of a definition that breaks a rule.
 #[derive(Clone, Copy, Debug, PartialEq, Eq)]
 pub struct IllTyped {
     pub program: ProgramId,
@@ -34,7 +34,7 @@ pub struct IllTyped {
     pub rule: Rule,
 }
 
-// Whether an instruction is a jump.
+// Returns whether an instruction is a jump.
 fn is_jump(instruction: &Instruction) -> bool
     ensures { result ≡ is_jump (instruction_view instruction.now) }
 {
@@ -44,7 +44,7 @@ fn is_jump(instruction: &Instruction) -> bool
     )
 }
 
-// Whether an instruction is the jump of a block that is passed again, and the registers do not fit those that the block begins with.
+// Returns whether an instruction is the jump of a repeated block, and the registers do not fit the kinds that this block begins with.
 fn is_unfit(
     lookups: &Lookups<'_>,
     block: &Block,
@@ -58,7 +58,7 @@ fn is_unfit(
         && !kinds_fit(lookups, kinds, block.entry.as_slice())
 }
 
-// What an instruction of a block leaves.
+// Types an instruction of a block.
 #[tactic(auto, using(crate::proofs::CodeSteps::unfit, crate::proofs::CodeSteps::fit))]
 fn typed_in(
     alloc: Global,
@@ -76,7 +76,7 @@ fn typed_in(
     typed(alloc, lookups, program, kinds, instruction)
 }
 
-// The rule that an instruction of a block breaks, if it breaks one; or the registers get the kinds that it leaves.
+// Types an instruction of a block. Returns the rule that it breaks, or writes the kind that it leaves in a register.
 #[tactic(auto, using(operand_types::proofs::Filled::write_seen))]
 fn go_through(
     alloc: Global,
@@ -106,11 +106,11 @@ fn go_through(
     }
 }
 
-/// The first instruction of a block that breaks a rule, and which.
+/// Returns the first instruction of a block that breaks a rule, and the rule.
 ///
 /// # Errors
 ///
-/// `AllocError` where no memory is found.
+/// `AllocError` if memory is refused.
 pub fn block_fault(
     alloc: Global,
     lookups: &Lookups<'_>,
@@ -135,11 +135,11 @@ pub fn block_fault(
     Ok(None)
 }
 
-/// The first instruction of a program that breaks a rule.
+/// Returns the first instruction of a program that breaks a rule.
 ///
 /// # Errors
 ///
-/// `AllocError` where no memory is found.
+/// `AllocError` if memory is refused.
 pub fn program_fault(
     alloc: Global,
     lookups: &Lookups<'_>,
@@ -161,11 +161,11 @@ pub fn program_fault(
     Ok(None)
 }
 
-/// The first instruction of a definition that breaks a rule. Whether its program is ever run does not matter.
+/// Returns the first instruction of a definition that breaks a rule. It does not matter whether its program is ever run.
 ///
 /// # Errors
 ///
-/// `AllocError` where no memory is found.
+/// `AllocError` if memory is refused.
 pub fn typing_fault(alloc: Global, lookups: &Lookups<'_>) -> Result<Option<IllTyped>, AllocError>
     ensures { IfOk result (λ r. option_map fault_view r ≡ slice_get (typing_faults lookups.now) 0) }
 {

@@ -1,4 +1,4 @@
-//! Calls of the methods of peers.
+//! Types calls of the methods of peers.
 
 ghost use Rattle.bytecode.specs.View.{call_view};
 ghost use Rattle.ui_machine.specs.Definition.Programs as words;
@@ -10,7 +10,7 @@ use bytecode::{Call, RegisterKind};
 use operand_types::operands::operand;
 use operand_types::{Lookups, Rule, TypingError, Written};
 
-/// What a call of a method leaves, or the rule that it breaks: `call d o m [a..]`.
+/// Types `call d o m [a..]`. Returns the register that it writes, or the first rule that it breaks.
 #[tactic(auto, unfolding(law_typing::specs::Rules::Typing::calling))]
 pub(crate) fn typed(
     lookups: &Lookups<'_>,

@@ -1,4 +1,4 @@
-//! Instructions that touch registers alone.
+//! Types instructions that only use registers.
 
 ghost use Rattle.std.specs.Prelude.{◌≡◌};
 ghost use Rattle.g_values.specs.View.{kind_view};
@@ -15,7 +15,7 @@ use operand_types::operands::{
 };
 use operand_types::{Lookups, Rule, TypingError, Written};
 
-// Two registers with one kind of whole numbers.
+// Returns the kind of two registers, which must have the same kind of whole numbers.
 #[tactic(auto, unfolding(law_typing::specs::Rules::Typing::two_numbers))]
 fn two_numbers(kinds: &[RegisterKind], a: Register, b: Register) -> Result<RegisterKind, Rule>
     ensures { Tests register_kind_view result (two_numbers (kinds_of kinds.now) a.0 b.0) }
@@ -25,7 +25,7 @@ fn two_numbers(kinds: &[RegisterKind], a: Register, b: Register) -> Result<Regis
     Ok(kind)
 }
 
-// Two registers with truth values.
+// Checks that two registers have truth values, and returns the kind of the second.
 #[tactic(auto, unfolding(law_typing::specs::Rules::Typing::two_passing))]
 fn two_bools(kinds: &[RegisterKind], a: Register, b: Register) -> Result<RegisterKind, Rule>
     ensures { Tests register_kind_view result (two_passing (kinds_of kinds.now) a.0 b.0 is_bool) }
@@ -34,7 +34,7 @@ fn two_bools(kinds: &[RegisterKind], a: Register, b: Register) -> Result<Registe
     bool_in(kinds, b)
 }
 
-// Two registers with texts.
+// Checks that two registers have texts, and returns the kind of the second.
 #[tactic(auto, unfolding(law_typing::specs::Rules::Typing::two_passing))]
 fn two_texts(kinds: &[RegisterKind], a: Register, b: Register) -> Result<RegisterKind, Rule>
     ensures { Tests register_kind_view result (two_passing (kinds_of kinds.now) a.0 b.0 is_text) }
@@ -43,7 +43,7 @@ fn two_texts(kinds: &[RegisterKind], a: Register, b: Register) -> Result<Registe
     text_in(kinds, b)
 }
 
-// `move d s`.
+// Types `move d s`.
 #[tactic(auto, unfolding(law_typing::specs::Rules::Typing::moving))]
 fn moved(
     kinds: &[RegisterKind],
@@ -56,7 +56,7 @@ fn moved(
     Ok(Some(Written { to, kind }))
 }
 
-// `add d a b`, `sub`, `mul`.
+// Types `add d a b`, and the same with `sub` and `mul`.
 #[tactic(auto, unfolding(law_typing::specs::Rules::Typing::reckoning))]
 fn reckoned(
     kinds: &[RegisterKind],
@@ -70,7 +70,7 @@ fn reckoned(
     Ok(Some(Written { to, kind }))
 }
 
-// `cmp d op a b`.
+// Types `cmp d op a b`.
 #[tactic(auto, unfolding(law_typing::specs::Rules::Typing::comparing))]
 fn compared(
     kinds: &[RegisterKind],
@@ -84,7 +84,7 @@ fn compared(
     Ok(Some(Written::truth(to)))
 }
 
-// `same d a b`.
+// Types `same d a b`.
 #[tactic(auto, unfolding(law_typing::specs::Rules::Typing::sameness))]
 fn compared_same(
     lookups: &Lookups<'_>,
@@ -100,7 +100,7 @@ fn compared_same(
     Ok(Some(Written::truth(to)))
 }
 
-// `not d a`.
+// Types `not d a`.
 #[tactic(auto, unfolding(law_typing::specs::Rules::Typing::negating))]
 fn negated(
     kinds: &[RegisterKind],
@@ -113,7 +113,7 @@ fn negated(
     Ok(Some(Written::truth(to)))
 }
 
-// `and d a b`, `or d a b`.
+// Types `and d a b` and `or d a b`.
 #[tactic(auto, unfolding(law_typing::specs::Rules::Typing::combining))]
 fn combined(
     kinds: &[RegisterKind],
@@ -127,7 +127,7 @@ fn combined(
     Ok(Some(Written::truth(to)))
 }
 
-// `join d a b`.
+// Types `join d a b`.
 #[tactic(auto, unfolding(law_typing::specs::Rules::Typing::joining))]
 fn joined(
     kinds: &[RegisterKind],
@@ -141,7 +141,7 @@ fn joined(
     Ok(Some(Written { to, kind }))
 }
 
-// `convert d a k`.
+// Types `convert d a k`.
 #[tactic(auto, unfolding(law_typing::specs::Rules::Typing::converting))]
 fn converted(
     lookups: &Lookups<'_>,
@@ -159,7 +159,7 @@ fn converted(
     }))
 }
 
-/// What a computation leaves, or the rule that it breaks.
+/// Types a computation. Returns the register that it writes, or the first rule that it breaks.
 pub(crate) fn typed(
     lookups: &Lookups<'_>,
     kinds: &[RegisterKind],

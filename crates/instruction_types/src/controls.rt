@@ -1,4 +1,4 @@
-//! Instructions that end a block.
+//! Types instructions that end a block.
 
 ghost use Rattle.std.specs.Prelude.{◌≡◌, option_map};
 ghost use Rattle.g_values.specs.View.{kind_view};
@@ -16,7 +16,7 @@ use operand_types::operands::{bool_in, nullable_in, set_in};
 use operand_types::{Lookups, Rule, TypingError, Written};
 use std::alloc::Global;
 
-// The registers fit those of the block that is gone to.
+// Checks that the registers fit the kinds with which a block begins.
 #[tactic(auto, unfolding(law_typing::specs::Rules::Typing::entering))]
 fn enter(
     lookups: &Lookups<'_>,
@@ -35,7 +35,7 @@ fn enter(
     Ok(())
 }
 
-// `jump b`.
+// Types `jump b`.
 fn jumped(
     lookups: &Lookups<'_>,
     program: &Program,
@@ -48,7 +48,7 @@ fn jumped(
     Ok(None)
 }
 
-// `if a b b`.
+// Types `if a b b`.
 #[tactic(auto, unfolding(law_typing::specs::Rules::Typing::branching))]
 fn branched(
     lookups: &Lookups<'_>,
@@ -66,7 +66,7 @@ fn branched(
     Ok(None)
 }
 
-// `ifnull a b b`: in its second block an object is not null.
+// Types `ifnull a b b`. An object in the register is not null in the second block.
 #[tactic(auto, unfolding(law_typing::specs::Rules::Typing::branching_null))]
 fn branched_null(
     alloc: Global,
@@ -87,7 +87,7 @@ fn branched_null(
     Ok(Some(Written { to: on, kind }))
 }
 
-// Whether a kind is what a program is to give.
+// Returns whether a kind fits the result of a program. It does not if the program has none.
 fn is_result(lookups: &Lookups<'_>, kind: &RegisterKind, wanted: Option<Kind>) -> bool
     ensures { result ≡ is_result lookups.now (register_kind_view kind.now) (option_map kind_view wanted) }
 {
@@ -97,7 +97,7 @@ fn is_result(lookups: &Lookups<'_>, kind: &RegisterKind, wanted: Option<Kind>) -
     }
 }
 
-// `return z`.
+// Types `return z`.
 #[tactic(auto, unfolding(law_typing::specs::Rules::Typing::returning))]
 fn returned(
     lookups: &Lookups<'_>,
@@ -120,7 +120,7 @@ fn returned(
     Ok(None)
 }
 
-/// What an instruction that ends a block leaves, or the rule that it breaks.
+/// Types an instruction that ends a block. Returns the register that it writes, or the first rule that it breaks.
 pub(crate) fn typed(
     alloc: Global,
     lookups: &Lookups<'_>,

@@ -1,4 +1,4 @@
-//! The types of instructions.
+//! Types instructions of all sorts.
 
 ghost use Rattle.bytecode.specs.View.{instruction_view, program_view};
 ghost use Rattle.law_typing.specs.Rules.Typing.{typed};
@@ -9,12 +9,12 @@ use bytecode::{Instruction, Program, RegisterKind};
 use operand_types::{Lookups, TypingError, Written};
 use std::alloc::Global;
 
-/// What an instruction of a program leaves, where its registers have these kinds: the register that it writes, if it writes one.
+/// Types an instruction of a program whose registers have these kinds. Returns the register that it writes, if it writes one.
 ///
 /// # Errors
 ///
-/// The first rule that it breaks: of its object operands, of its names, of its other operands from left to right, of the count of its arguments,
-/// of the signature, and of the result or the next block. `OutOfMemory` where no memory is found.
+/// Returns the first rule that the instruction breaks: of its object operands, of its names, of its other operands from left to right, of
+/// the number of its arguments, of the signature, and of the result or the next block. Returns `OutOfMemory` if memory is refused.
 pub fn typed(
     alloc: Global,
     lookups: &Lookups<'_>,

@@ -1,7 +1,7 @@
-//! The types of instructions: the first rule that one breaks, or the kinds of the registers after it.
+//! Types instructions: finds the first rule that one breaks, or the kinds of the registers after it.
 //!
-//! A program is typed block by block, each from the kinds that it says its registers have as it begins. Nothing runs. The rules are those of the
-//! law on typing, and each contract says that the code answers what they do.
+//! A program is typed block by block, each from the kinds that its registers are declared to have at its beginning. Nothing runs. The rules
+//! are those of the law on typing, and the contracts say that the code gives the same answers.
 #![tactic(auto)]
 
 mod arguments;

@@ -1,4 +1,4 @@
-//! Instructions on objects themselves.
+//! Types instructions on objects themselves.
 
 ghost use Rattle.std.specs.Prelude.{◌≡◌};
 ghost use Rattle.bytecode.specs.View.{object_instruction_view};
@@ -12,7 +12,7 @@ use operand_types::operands::operand;
 use operand_types::{Lookups, Rule, TypingError, Written};
 use ui_machine::Place;
 
-// The place of an id, of a prototype or of an object.
+// Returns the place with this id, which must be that of a prototype if `of_prototype`, and else that of an object.
 #[tactic(auto, unfolding(law_typing::specs::Rules::Typing::place_for))]
 fn place_for(lookups: &Lookups<'_>, id: &str, of_prototype: bool) -> Result<Place, Rule>
     ensures { Tests (λ place. place.0) result (place_for lookups.now id.now of_prototype) }
@@ -29,7 +29,7 @@ fn place_for(lookups: &Lookups<'_>, id: &str, of_prototype: bool) -> Result<Plac
     Ok(place)
 }
 
-// `object d id`, `new d c`.
+// Types `object d id` and `new d c`.
 #[tactic(auto, unfolding(law_typing::specs::Rules::Typing::look_up_object))]
 fn looked_up(
     lookups: &Lookups<'_>,
@@ -47,7 +47,7 @@ fn looked_up(
     }))
 }
 
-// `adopt d o o`.
+// Types `adopt d o o`.
 #[tactic(auto, unfolding(law_typing::specs::Rules::Typing::adopting))]
 fn adopted(
     lookups: &Lookups<'_>,
@@ -63,7 +63,7 @@ fn adopted(
     Ok(Some(Written::truth(to)))
 }
 
-/// What an instruction on objects leaves, or the rule that it breaks.
+/// Types an instruction on objects. Returns the register that it writes, or the first rule that it breaks.
 pub(crate) fn typed(
     lookups: &Lookups<'_>,
     kinds: &[RegisterKind],

@@ -1,4 +1,4 @@
-//! Instructions on the properties of an object.
+//! Types instructions on the properties of an object.
 
 ghost use Rattle.std.specs.Prelude.{◌≡◌};
 ghost use Rattle.bytecode.specs.View.{property_instruction_view};
@@ -12,7 +12,7 @@ use operand_types::operands::{fitting, operand};
 use operand_types::{Lookups, Rule, TypingError, Written};
 use param_specs::Spec;
 
-// The property of an object operand.
+// Returns the property with this name of an object operand.
 #[tactic(auto, unfolding(law_typing::specs::Rules::Typing::property_of))]
 fn property_of<'l>(
     lookups: &'l Lookups<'_>,
@@ -32,7 +32,7 @@ fn property_of<'l>(
     }
 }
 
-// `get d o p`.
+// Types `get d o p`.
 #[tactic(auto, unfolding(law_typing::specs::Rules::Typing::get_property))]
 fn got(
     lookups: &Lookups<'_>,
@@ -53,7 +53,7 @@ fn got(
     }))
 }
 
-// `set o p s`.
+// Types `set o p s`.
 #[tactic(auto, unfolding(law_typing::specs::Rules::Typing::set_property, law_typing::specs::Rules::Typing::changing_none))]
 fn set(
     lookups: &Lookups<'_>,
@@ -75,7 +75,7 @@ fn set(
     Ok(None)
 }
 
-// `notify o p`.
+// Types `notify o p`.
 #[tactic(auto, unfolding(law_typing::specs::Rules::Typing::changing_none))]
 fn notified(
     lookups: &Lookups<'_>,
@@ -89,7 +89,7 @@ fn notified(
     Ok(None)
 }
 
-/// What an instruction that has an object operand alone leaves, or the rule that it breaks.
+/// Types an instruction whose only operand is an object. It writes no register.
 #[tactic(auto, unfolding(law_typing::specs::Rules::Typing::changing_none))]
 pub(crate) fn object_alone(
     lookups: &Lookups<'_>,
@@ -102,7 +102,7 @@ pub(crate) fn object_alone(
     Ok(None)
 }
 
-/// What an instruction on properties leaves, or the rule that it breaks.
+/// Types an instruction on properties. Returns the register that it writes, or the first rule that it breaks.
 pub(crate) fn typed(
     lookups: &Lookups<'_>,
     kinds: &[RegisterKind],

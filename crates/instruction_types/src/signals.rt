@@ -1,4 +1,4 @@
-//! Instructions on signals and handlers.
+//! Types instructions on signals and handlers.
 
 ghost use Rattle.std.specs.Prelude.{map, option_map};
 ghost use Rattle.g_values.specs.View.{kind_view};
@@ -17,7 +17,7 @@ use std::alloc::Global;
 use type_tree::TypeId;
 use ui_machine::SignalId;
 
-// The number of the signal of a name.
+// Returns the number of the signal with this name in a class.
 fn signal_named(lookups: &Lookups<'_>, class: TypeId, name: &str) -> Result<SignalId, Rule>
     ensures { Tests (λ n. n) result (signal_named lookups.now class name.now) }
 {
@@ -27,7 +27,7 @@ fn signal_named(lookups: &Lookups<'_>, class: TypeId, name: &str) -> Result<Sign
     }
 }
 
-// Where the result of an emission goes.
+// Returns the write of an emission's result to a register, if there is one. A signal without a result breaks `Result` then.
 fn result_taken(
     kinds: &[RegisterKind],
     into: Option<Register>,
@@ -47,7 +47,7 @@ fn result_taken(
     }))
 }
 
-// `emit z o s D [a..]`; `notify` is not emitted by name.
+// Types `emit z o s D [a..]`. `notify` can't be emitted by name.
 #[tactic(auto, unfolding(law_typing::specs::Rules::Typing::emitting))]
 fn emitted(
     lookups: &Lookups<'_>,
@@ -75,7 +75,7 @@ fn emitted(
     result_taken(kinds, into, signal.result)
 }
 
-// `connect d o s D p [options] z`.
+// Types `connect d o s D p [options] z`.
 #[tactic(auto, unfolding(law_typing::specs::Rules::Typing::connecting))]
 fn connected(
     alloc: Global,
@@ -111,7 +111,7 @@ fn connected(
     Ok(Some(Written::truth(to)))
 }
 
-// `disconnect o p`, `block`, `unblock`.
+// Types `disconnect o p`, and the same with `block` and `unblock`.
 #[tactic(auto, unfolding(law_typing::specs::Rules::Typing::on_handlers, law_typing::specs::Rules::Typing::changing_none))]
 fn on_handlers(
     lookups: &Lookups<'_>,
@@ -126,7 +126,7 @@ fn on_handlers(
     Ok(None)
 }
 
-/// What an instruction on signals leaves, or the rule that it breaks.
+/// Types an instruction on signals. Returns the register that it writes, or the first rule that it breaks.
 pub(crate) fn typed(
     alloc: Global,
     lookups: &Lookups<'_>,

@@ -1,4 +1,4 @@
-//! What programs are given as they run for signals and sources, and whether they take it.
+//! The kinds of what programs are given when they run for signals and sources, and whether they take it.
 
 ghost use Rattle.std.specs.Prelude.{◌≡◌, ◌++◌, length, map, option_map, string_bytes, IfOk, OnOk, Some};
 ghost use Rattle.g_values.specs.View.{kind_view};
@@ -19,7 +19,7 @@ use std::alloc::{AllocError, Global};
 use type_tree::TypeId;
 use ui_machine::SignalId;
 
-/// The program of a name.
+/// Returns the program with this name.
 #[tactic(auto, unfolding(law_typing::specs::Rules::Typing::program_named))]
 pub(crate) fn program_named<'l>(lookups: &'l Lookups<'_>, name: &str) -> Result<&'l Program, Rule>
     ensures { Tests (λ p. program_view p.now) result (program_named lookups.now name.now) }
@@ -33,7 +33,7 @@ pub(crate) fn program_named<'l>(lookups: &'l Lookups<'_>, name: &str) -> Result<
     }
 }
 
-// Data are given, if there are some.
+// Appends the kind of the data, if there is some.
 fn push_data(given: &mut Vec<RegisterKind>, with: Option<&RegisterKind>) -> Result<(), AllocError>
     ensures { OnOk result (kinds_of given.new.items ≡ kinds_of given.old.items ++ data_kinds (option_map (λ k. register_kind_view k.now) with.entry)) }
 {
@@ -43,7 +43,7 @@ fn push_data(given: &mut Vec<RegisterKind>, with: Option<&RegisterKind>) -> Resu
     Ok(())
 }
 
-// Arguments are given.
+// Appends the kinds of the arguments.
 fn push_params(given: &mut Vec<RegisterKind>, params: &[Kind]) -> Result<(), AllocError>
     ensures { OnOk result (kinds_of given.new.items ≡ kinds_of given.old.items ++ map kinds.plain (map kind_view params.now)) }
 {
@@ -53,11 +53,12 @@ fn push_params(given: &mut Vec<RegisterKind>, params: &[Kind]) -> Result<(), All
     Ok(())
 }
 
-/// What a handler is given: the instance, the arguments and its data; swapped, the data, the arguments and the instance.
+/// Returns the kinds of what a handler is given: the instance, the arguments and its data, or if swapped, the data, the arguments and the
+/// instance.
 ///
 /// # Errors
 ///
-/// `AllocError` where no memory is found.
+/// `AllocError` if memory is refused.
 pub fn given_kinds(
     alloc: Global,
     swapped: bool,
@@ -80,7 +81,7 @@ pub fn given_kinds(
     Ok(given)
 }
 
-/// What a source's program is given: its data, if there are some.
+/// Returns the kinds of what a source's program is given, which is its data if there is some.
 pub(crate) fn given_data(
     alloc: Global,
     with: Option<&RegisterKind>,
@@ -92,7 +93,7 @@ pub(crate) fn given_data(
     Ok(given)
 }
 
-// Whether each thing that is given fits the parameter in its place, where there are as many.
+// Returns whether each thing that is given fits its parameter. There must be as many of them as parameters.
 fn all_fit(lookups: &Lookups<'_>, given: &[RegisterKind], params: &[RegisterKind]) -> bool
     requires { length given.now ≡ length params.now }
     ensures { result ≡ parameters_fit lookups.now (kinds_of given.now) (kinds_of params.now) }
@@ -105,7 +106,7 @@ fn all_fit(lookups: &Lookups<'_>, given: &[RegisterKind], params: &[RegisterKind
     true
 }
 
-// Whether each does, and there are as many.
+// Returns whether each thing that is given fits its parameter, and there are as many of them as parameters.
 #[tactic(auto, using(crate::proofs::ParameterLists::other_count))]
 fn parameters_fit(lookups: &Lookups<'_>, given: &[RegisterKind], params: &[RegisterKind]) -> bool
     ensures { result ≡ parameters_fit lookups.now (kinds_of given.now) (kinds_of params.now) }
@@ -116,7 +117,7 @@ fn parameters_fit(lookups: &Lookups<'_>, given: &[RegisterKind], params: &[Regis
     all_fit(lookups, given, params)
 }
 
-// Whether a program that gives a kind gives what is wanted.
+// Returns whether a result of this kind fits the kind that is wanted. It does not if no result is wanted.
 fn gives(lookups: &Lookups<'_>, kind: Kind, wanted: Option<Kind>) -> bool
     ensures { result ≡ result_fits lookups.now (Some (kind_view kind)) (option_map kind_view wanted) }
 {
@@ -126,7 +127,7 @@ fn gives(lookups: &Lookups<'_>, kind: Kind, wanted: Option<Kind>) -> bool
     }
 }
 
-// Whether what a program gives is what is wanted.
+// Returns whether a program's result is what is wanted. A program without a result fits only if none is wanted.
 fn result_fits(lookups: &Lookups<'_>, result_kind: Option<Kind>, wanted: Option<Kind>) -> bool
     ensures { result ≡ result_fits lookups.now (option_map kind_view result_kind) (option_map kind_view wanted) }
 {
@@ -136,7 +137,7 @@ fn result_fits(lookups: &Lookups<'_>, result_kind: Option<Kind>, wanted: Option<
     }
 }
 
-/// Whether a program takes what it is given, and gives what is wanted.
+/// Returns whether a program takes what it is given, and its result is what is wanted.
 pub fn takes(
     lookups: &Lookups<'_>,
     program: &Program,
@@ -149,7 +150,7 @@ pub fn takes(
         && result_fits(lookups, program.result, wanted)
 }
 
-/// A text that may be left out.
+/// Returns an optional text as a slice.
 pub fn text_of(text: &Option<String>) -> Option<&str>
     ensures { option_map (λ s. s.now) result ≡ option_map string_bytes text.now }
 {
@@ -159,7 +160,8 @@ pub fn text_of(text: &Option<String>) -> Option<&str>
     }
 }
 
-/// Whether a signal of a class, by its number, takes a detail. That of `notify` names a property.
+/// Returns whether signal `number` of a class takes this detail, which it always does if there is none. A detail of `notify`, which is
+/// signal 0, must name a property.
 pub fn takes_detail(
     lookups: &Lookups<'_>,
     class: TypeId,

@@ -1,4 +1,4 @@
-//! Instructions on bindings and sources.
+//! Types instructions on bindings and sources.
 
 ghost use Rattle.std.specs.Prelude.{◌≡◌, option_map};
 ghost use Rattle.bytecode.specs.View.{number_of, source_instruction_view};
@@ -13,7 +13,7 @@ use operand_types::operands::data_in;
 use operand_types::{Lookups, Rule, TypingError, Written};
 use std::alloc::Global;
 
-// `unbind name`.
+// Types `unbind name`.
 fn unbound(
     lookups: &Lookups<'_>,
     kinds: &[RegisterKind],
@@ -27,7 +27,7 @@ fn unbound(
     Ok(None)
 }
 
-// `idle`, `timeout`: the program takes the data, if there are some, and gives whether the source is kept.
+// Types `idle` and `timeout`. The program takes the data, if there is some, and returns whether the source is kept.
 #[tactic(auto, unfolding(law_typing::specs::Rules::Typing::attaching))]
 fn attached(
     alloc: Global,
@@ -48,7 +48,7 @@ fn attached(
     Ok(Some(Written::truth(to)))
 }
 
-// `remove p`.
+// Types `remove p`.
 #[tactic(auto, unfolding(law_typing::specs::Rules::Typing::changing_none))]
 fn removed(
     lookups: &Lookups<'_>,
@@ -61,7 +61,7 @@ fn removed(
     Ok(None)
 }
 
-/// What an instruction on bindings or sources leaves, or the rule that it breaks.
+/// Types an instruction on bindings or sources. Returns the register that it writes, or the first rule that it breaks.
 pub(crate) fn typed(
     alloc: Global,
     lookups: &Lookups<'_>,

@@ -1,15 +1,15 @@
-//! Why the program ends early.
+//! The faults with which the program ends early.
 
 use std::alloc::{AllocError, AllocFailed};
 use std::io;
 
-/// Why the program ends early.
+/// The reason why the program ends early.
 #[derive(Clone, Copy, Debug, PartialEq, Eq)]
 pub enum CallFault {
-    /// A line is no call.
+    /// A line is not a call.
     Line,
     OutOfMemory,
-    /// A line was not read, or none is taken any more.
+    /// A line was not read, or could not be written.
     Device,
 }
 

@@ -1,4 +1,4 @@
-//! Calls of signal_core.
+//! Calls of the crate `signal_core`.
 
 use crate::call_faults::CallFault;
 use crate::words::{parts, seen, small_number};
@@ -8,7 +8,8 @@ use ui_machine::{ObjectId, ProgramId, SignalId};
 
 const CLICKED: SignalId = 1;
 
-/// Handlers of the signal of an object, of which bytecode may connect one, and an emission of it. The class handler is program 9.
+/// The handlers of one signal of an object, of which bytecode may connect one, and an emission of the signal. The class handler is program
+/// 9.
 #[derive(Drop)]
 pub struct HandlerCalls {
     handlers: Handlers,
@@ -49,11 +50,12 @@ impl HandlerCalls {
         }
     }
 
-    /// `connect PROGRAM [builder|after|code]`, `block PROGRAM`, `unblock PROGRAM`, `disconnect PROGRAM`, `begin_emission FLAGS`, `next`, `stop`.
+    /// Answers a call: `connect PROGRAM [builder|after|code]`, `block PROGRAM`, `unblock PROGRAM`, `disconnect PROGRAM`, `begin_emission
+    /// FLAGS`, `next`, `stop`.
     ///
     /// # Errors
     ///
-    /// `Line` if the words are no call.
+    /// Returns `Line` if the words are not a call, or if `next` or `stop` comes before an emission, and `OutOfMemory` if memory is refused.
     pub fn answer(&mut self, alloc: Global, call: &str, words: &str) -> Result<String, CallFault> {
         match call {
             "next" => self.next(alloc),
@@ -65,7 +67,7 @@ impl HandlerCalls {
         }
     }
 
-    // The calls that name a program, or the flags of a signal.
+    // Answers the calls that name a program, or the flags of a signal.
     fn answer_about(
         &mut self,
         alloc: Global,

@@ -1,4 +1,4 @@
-//! Calls of instances: objects of a heap.
+//! Calls of the crate `instances`: objects of a heap.
 
 ghost use Rattle.std.specs.Prelude.{◌≡◌, IfOk, IsSome};
 ghost use Rattle.ui_machine.specs.State.Objects.{living};
@@ -18,7 +18,7 @@ use ui_machine::{ObjectId, Place};
 
 const SEAT: Place = Place(3);
 
-// An object without a peer.
+// Creates an object without a peer.
 fn create(heap: &mut Heap<'_>, class: TypeId) -> Result<ObjectId, CreateError>
     ensures live { IfOk result (λ id. IsSome (living (objects_of heap.new).objects id.0)) }
     ensures frozen { IfOk result (λ id. freezes_in (living (objects_of heap.new).objects id.0) ≡ 1) }
@@ -26,7 +26,7 @@ fn create(heap: &mut Heap<'_>, class: TypeId) -> Result<ObjectId, CreateError>
     heap.create(SEAT, class, None)
 }
 
-// An object becomes another's child, if both live and the child may be held once more.
+// Makes an object the child of another one, if both live and the child may be held once more.
 fn adopt(
     heap: &mut Heap<'_>,
     parent: ObjectId,
@@ -38,7 +38,7 @@ fn adopt(
     Ok(heap.adopt(parent, child))
 }
 
-// Holds an object, and answers what nothing holds now, and once it is let go.
+// Holds an object and lets it go again. Returns what nothing holds while the object is held, and what nothing holds afterwards.
 fn held(
     heap: &mut Heap<'_>,
     id: ObjectId,
@@ -52,7 +52,7 @@ fn held(
     Ok((held, heap.next_unheld()))
 }
 
-// Two objects may live, and both float at first.
+// Answers `family`, on a heap where two objects may live. Both float at first.
 fn answer_of_family(alloc: Global) -> Result<String, CallFault> {
     let tables = HeapTables::new(alloc)?;
     let class = tables.widget_class;
@@ -77,7 +77,7 @@ fn answer_of_family(alloc: Global) -> Result<String, CallFault> {
     )?)
 }
 
-// What is known of a new object, and what its number was as another is written.
+// Returns what is known of a new object, and what its number was before another one was written.
 fn answer_of_new(
     alloc: Global,
     heap: &mut Heap<'_>,
@@ -100,7 +100,7 @@ fn answer_of_new(
     Ok(format!(in alloc; "{class:?} {place:?} {first:?} {was:?}")?)
 }
 
-// A new object with a number.
+// Answers `box`, with a new object that has a number.
 fn answer_of_box(alloc: Global, size: u16) -> Result<String, CallFault> {
     let tables = HeapTables::new(alloc)?;
     let classes = tables.classes();
@@ -108,7 +108,7 @@ fn answer_of_box(alloc: Global, size: u16) -> Result<String, CallFault> {
     answer_of_new(alloc, &mut heap, classes, tables.box_class, i32::from(size))
 }
 
-// Whether a notification of an object is to be made at once.
+// Adds a notification of an object, and returns whether it is to be made at once.
 fn add(heap: &mut Heap<'_>, id: ObjectId) -> Result<bool, CallFault> {
     if !heap.is_live(id) {
         return Err(CallFault::Line);
@@ -116,7 +116,7 @@ fn add(heap: &mut Heap<'_>, id: ObjectId) -> Result<bool, CallFault> {
     Ok(heap.add(id, 0)?)
 }
 
-// A new object that is frozen once more, and one that is thawed.
+// Answers `queues`, with a new object that is frozen once more, and one that is thawed.
 fn answer_of_queues(alloc: Global) -> Result<String, CallFault> {
     let tables = HeapTables::new(alloc)?;
     let class = tables.box_class;
@@ -133,7 +133,7 @@ fn answer_of_queues(alloc: Global) -> Result<String, CallFault> {
     Ok(format!(in alloc; "{slots:?} {at_once:?}")?)
 }
 
-// Freezes an object that lives and is not frozen.
+// Freezes an object, if it lives and is not frozen.
 fn freeze(heap: &mut Heap<'_>, id: ObjectId) -> Result<(), CallFault> {
     if !heap.is_live(id) || heap.is_frozen(id) {
         return Err(CallFault::Line);
@@ -142,7 +142,7 @@ fn freeze(heap: &mut Heap<'_>, id: ObjectId) -> Result<(), CallFault> {
     Ok(())
 }
 
-// Whether an object is frozen as it is new, once it is thawed, and once it is frozen again.
+// Answers `frozen`: whether an object is frozen when it is new, once it is thawed, and once it is frozen again.
 fn answer_of_frozen(alloc: Global) -> Result<String, CallFault> {
     let tables = HeapTables::new(alloc)?;
     let mut heap = Heap::new(alloc, tables.classes(), 1, PeerPool::new(alloc));
@@ -157,11 +157,11 @@ fn answer_of_frozen(alloc: Global) -> Result<String, CallFault> {
     Ok(format!(in alloc; "{new} {thawed} {again}")?)
 }
 
-/// `tally NUMBER [disposed|finalised]`, `family`, `box SIZE`, `queues`, `frozen`, each on a heap of its own.
+/// Answers a call on a heap of its own: `tally NUMBER [disposed|finalised]`, `family`, `box SIZE`, `queues`, `frozen`.
 ///
 /// # Errors
 ///
-/// `Line` if the words are no call.
+/// Returns `Line` if the words are not a call.
 pub fn answer_of_heaps(alloc: Global, call: &str, words: &str) -> Result<String, CallFault> {
     match call {
         "tally" => {

@@ -1,4 +1,4 @@
-//! The classes of the objects that heaps are tried with.
+//! The classes of the objects with which heaps are tested.
 
 use crate::call_faults::CallFault;
 use g_values::{Kind, Value};
@@ -8,10 +8,10 @@ use std::alloc::Global;
 use std::rc::RcStr;
 use type_tree::{TypeError, TypeFlags, TypeId, TypeTree};
 
-// Readable and writable.
+// The flags of a property that is readable and writable.
 const PLAIN: PropertyFlags = PropertyFlags(3);
 
-/// `Box` has a number, which is 7 at first, and `Widget` begins floating and has no property.
+/// The tables of two classes. `Box` has a number, which is 7 at first. `Widget` begins floating and has no property.
 #[derive(Drop)]
 pub struct HeapTables {
     types: TypeTree,
@@ -21,7 +21,7 @@ pub struct HeapTables {
     pub widget_class: TypeId,
 }
 
-// A class under another.
+// Adds a class under another one.
 fn add_class(types: &mut TypeTree, name: &str, parent: &str) -> Result<TypeId, CallFault> {
     match types.add_class(name, parent, TypeFlags::NONE, &[]) {
         Ok(class) => Ok(class),
@@ -30,7 +30,7 @@ fn add_class(types: &mut TypeTree, name: &str, parent: &str) -> Result<TypeId, C
     }
 }
 
-// A number of a class.
+// Adds a number to the properties of a class.
 fn add_number(
     alloc: Global,
     types: &TypeTree,
@@ -54,6 +54,11 @@ fn add_number(
 }
 
 impl HeapTables {
+    /// Creates the tables with the two classes.
+    ///
+    /// # Errors
+    ///
+    /// Returns `OutOfMemory` if memory is refused, and `Line` if a class or the property is refused.
     pub fn new(alloc: Global) -> Result<Self, CallFault> {
         let mut types = TypeTree::new(alloc)?;
         let box_class = add_class(&mut types, "Box", "GObject")?;
@@ -74,7 +79,7 @@ impl HeapTables {
         })
     }
 
-    /// What a heap reads of them.
+    /// Returns what a heap reads of these tables.
     pub fn classes(&self) -> Classes<'_> {
         Classes {
             types: &self.types,

@@ -1,7 +1,7 @@
 //! Direct calls of the libraries, for tests: each line of standard input is a call, and a line says what it answered.
 //!
-//! A line has the name of a library, that of a call and its words, for example `types class Base GObject`. What a definition with its events can
-//! show is a folder of `conformance/`; here are calls that no event makes.
+//! A line has the name of a library, the name of a call and the words of the call, for example `types class Base GObject`. What a
+//! definition with its events can show is a folder of `conformance/`. Here are calls that no event makes.
 #![tactic(auto)]
 
 mod call_faults;
@@ -27,7 +27,7 @@ use type_calls::TypeCalls;
 use value_calls::answer_of_values;
 use words::parts;
 
-// What the calls are made on.
+// The objects of the libraries on which the calls are made.
 #[derive(Drop)]
 struct Libraries {
     types: TypeCalls,
@@ -46,7 +46,7 @@ impl Libraries {
         })
     }
 
-    // What the call of a line answers.
+    // Returns the answer to the call of a line.
     fn answer(&mut self, alloc: Global, line: &str) -> Result<String, CallFault> {
         let (library, rest) = parts(line)?;
         let (call, words) = parts(rest)?;

@@ -1,4 +1,4 @@
-//! Calls of instance_tables.
+//! Calls of the crate `instance_tables`.
 
 ghost use Rattle.std.specs.Prelude.{◌≡◌, [], None};
 
@@ -9,13 +9,13 @@ use std::alloc::Global;
 use type_tree::TypeId;
 use ui_machine::{ObjectId, Place};
 
-/// Objects, of which four may live.
+/// A table of objects, of which four may live.
 #[derive(Drop)]
 pub struct ObjectCalls {
     table: Table,
 }
 
-// An object without properties.
+// Creates an object without properties.
 fn bare_object(alloc: Global) -> Object
     ensures childless { result.children ≡ [] }
     ensures parentless { result.parent ≡ None }
@@ -23,7 +23,7 @@ fn bare_object(alloc: Global) -> Object
     Object::new(alloc, TypeId::new(0), Place(0), Vec::new(alloc), None)
 }
 
-// An object becomes another's child, if it lives and may be held once more.
+// Makes an object the child of another one, if it lives and may be held once more.
 fn adopt_in(table: &mut Table, parent: ObjectId, child: ObjectId) -> Result<(), AdoptError> {
     if !table.can_hold(child) {
         return Err(AdoptError::NotLiving);
@@ -31,7 +31,7 @@ fn adopt_in(table: &mut Table, parent: ObjectId, child: ObjectId) -> Result<(), 
     table.adopt(parent, child)
 }
 
-// What the last of so many objects comes to that become one object's children.
+// Makes so many new objects the children of one object, and answers with the outcome for the last of them.
 fn adopt_many(alloc: Global, count: u16) -> Result<String, CallFault> {
     let mut table = Table::new(alloc, u32::MAX);
     let Ok(parent) = table.create(bare_object(alloc)) else {
@@ -47,7 +47,7 @@ fn adopt_many(alloc: Global, count: u16) -> Result<String, CallFault> {
     seen(alloc, &last)
 }
 
-// The identity that a word is.
+// Reads a word as an identity.
 fn identity(word: &str) -> Result<ObjectId, CallFault> {
     Ok(ObjectId(u64::from(small_number(word)?)))
 }
@@ -59,11 +59,11 @@ impl ObjectCalls {
         }
     }
 
-    /// `create`, `adopt PARENT CHILD`, `is_live OBJECT`, `next_unheld`, and `adopt_many COUNT` on objects of its own.
+    /// Answers a call: `create`, `adopt PARENT CHILD`, `is_live OBJECT`, `next_unheld`, and `adopt_many COUNT` on objects of its own.
     ///
     /// # Errors
     ///
-    /// `Line` if the words are no call.
+    /// Returns `Line` if the words are not a call.
     pub fn answer(&mut self, alloc: Global, call: &str, words: &str) -> Result<String, CallFault> {
         match call {
             "create" => seen(alloc, &self.table.create(bare_object(alloc))),

@@ -1,11 +1,11 @@
-//! Calls of notify_queue.
+//! Calls of the crate `notify_queue`.
 
 use crate::call_faults::CallFault;
 use crate::words::{seen, small_number};
 use notify_queue::NotifyQueue;
 use std::alloc::Global;
 
-/// The notifications of an object.
+/// The queue of the notifications of an object.
 #[derive(Drop)]
 pub struct QueueCalls {
     queue: NotifyQueue,
@@ -18,11 +18,11 @@ impl QueueCalls {
         }
     }
 
-    /// `freeze`, `thaw`, `is_frozen`, `add SLOT`.
+    /// Answers a call: `freeze`, `thaw`, `is_frozen`, `add SLOT`.
     ///
     /// # Errors
     ///
-    /// `Line` if the words are no call, or a queue is thawed that is not frozen.
+    /// Returns `Line` if the words are not a call, or if the queue is thawed while it is not frozen or can't be frozen once more.
     pub fn answer(&mut self, alloc: Global, call: &str, words: &str) -> Result<String, CallFault> {
         match call {
             "freeze" if self.queue.can_freeze() => {

@@ -1,4 +1,4 @@
-//! Calls of instances: an object with a peer, which is a tally.
+//! Calls of the crate `instances`: an object with a peer, which is a tally.
 
 ghost use Rattle.std.specs.Prelude.{◌≡◌, ℕ, [], IfOk, IsSome, IsSomeAnd, IsTrue, OnOk};
 ghost use Rattle.ui_machine.specs.State.Objects.{living};
@@ -40,7 +40,7 @@ fn fill(pool: &mut PeerPool, lent: Box<dyn Peer>, left: Box<dyn Peer>) -> Result
     Ok(())
 }
 
-// An object with the tally.
+// Creates an object that gets the tally.
 fn create(heap: &mut Heap<'_>, class: TypeId) -> Result<ObjectId, CallFault>
     requires tally { IsTallyAt 0 (seen (λ p. (⟦<dyn Peer as Peer>⟧ p.peer.vtable).state p.peer.value) (entries (pool_of heap.now))) }
     requires free { IsFree (objects_of heap.now).objects 0 }
@@ -52,7 +52,7 @@ fn create(heap: &mut Heap<'_>, class: TypeId) -> Result<ObjectId, CallFault>
     }
 }
 
-// What the tally of an object answers as a number is added.
+// Asks the tally of an object to add a number, and returns its answer.
 fn add(heap: &mut Heap<'_>, id: ObjectId, number: i64) -> Result<Value, PeerFault>
     requires { IsSomeAnd (peer_seen (seen (λ p. (⟦<dyn Peer as Peer>⟧ p.peer.vtable).state p.peer.value) (entries (pool_of heap.now))) (living (objects_of heap.now).objects id.0)) (λ s. (s.state.shape ≡ tally_shape) × IsTrue s.state.is_open) }
     ensures { IsSome (living (objects_of heap.new).objects id.0) }
@@ -67,11 +67,12 @@ fn finalise_next(heap: &mut Heap<'_>) {
     }
 }
 
-/// `NUMBER [disposed|finalised]`: an object has the first of two tallies, is asked to add the number, and is ended so before its heap is.
+/// Answers `NUMBER [disposed|finalised]`: an object gets the first of two tallies, and the tally is asked to add the number. Then the
+/// object is disposed or finalised, if the words say so, before its heap is given up.
 ///
 /// # Errors
 ///
-/// `Line` if the words are no call.
+/// Returns `Line` if the words are not a call.
 pub fn answer_of_tally(alloc: Global, number: i64, end: &str) -> Result<String, CallFault> {
     let tables = HeapTables::new(alloc)?;
     let mut pool = PeerPool::new(alloc);

@@ -1,4 +1,4 @@
-//! Calls of type_tree.
+//! Calls of the crate `type_tree`.
 
 use crate::call_faults::CallFault;
 use crate::words::{parts, seen};
@@ -32,12 +32,12 @@ fn mark(alloc: Global, name: &str, nick: &str, bits: u32) -> Result<FlagsMember,
     })
 }
 
-// Why a type was refused.
+// Answers with the reason why a type was refused.
 fn refusal(alloc: Global, fault: TypeFault) -> Result<String, CallFault> {
     seen(alloc, &fault)
 }
 
-// The type that was added, or why none was.
+// Answers with the type that was added, or with the reason why none was.
 fn outcome(alloc: Global, added: Result<TypeId, TypeError>) -> Result<String, CallFault> {
     match added {
         Ok(added) => seen(alloc, &added),
@@ -47,6 +47,11 @@ fn outcome(alloc: Global, added: Result<TypeId, TypeError>) -> Result<String, Ca
 }
 
 impl TypeCalls {
+    /// Creates the tree with its two types.
+    ///
+    /// # Errors
+    ///
+    /// `OutOfMemory` if memory is refused or one of the types is not added.
     pub fn new(alloc: Global) -> Result<Self, CallFault> {
         let mut tree = TypeTree::new(alloc)?;
         let mut modes = Vec::new(alloc);
@@ -61,16 +66,17 @@ impl TypeCalls {
         Ok(TypeCalls { tree })
     }
 
-    /// The tree.
+    /// Returns the tree.
     pub fn tree(&self) -> &TypeTree {
         &self.tree
     }
 
-    /// `class NAME PARENT [INTERFACE]`, `final` with the same words, `interface NAME [REQUIRED]`, `is_a NAME NAME`, `find NAME`.
+    /// Answers a call: `class NAME PARENT [INTERFACE]`, `final` with the same words, `interface NAME [REQUIRED]`, `is_a NAME NAME`, `find
+    /// NAME`.
     ///
     /// # Errors
     ///
-    /// `Line` if the words are no call.
+    /// Returns `Line` if the words are not a call.
     pub fn answer(&mut self, alloc: Global, call: &str, words: &str) -> Result<String, CallFault> {
         let (name, rest) = parts(words)?;
         match call {

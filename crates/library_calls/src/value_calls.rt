@@ -1,4 +1,4 @@
-//! Calls of g_values.
+//! Calls of the crate `g_values`.
 
 use crate::call_faults::CallFault;
 use crate::words::{number, parts, seen};
@@ -9,7 +9,7 @@ use std::alloc::Global;
 use type_tree::{TypeId, TypeTree};
 use ui_machine::ObjectId;
 
-// The kind that a word names.
+// Returns the kind that a word names, if it names one.
 fn kind_named(word: &str) -> Option<Kind> {
     match word {
         "bool" => Some(Kind::Bool),
@@ -25,17 +25,17 @@ fn kind_named(word: &str) -> Option<Kind> {
     }
 }
 
-// The low 32 bits of a number.
+// Returns the low 32 bits of a number.
 fn low_32(number: i128) -> u32 {
     number.rem_euclid(4294967296) as u32
 }
 
-// The low 64 bits of a number.
+// Returns the low 64 bits of a number.
 fn low_64(number: i128) -> u64 {
     number.rem_euclid(18446744073709551616) as u64
 }
 
-// The value of a kind that has this number: a truth value, a number of the kind, a member, bits, or an object. Texts are null.
+// Returns the value of a kind that has this number: a truth value, a number of the kind, a member, bits, or an object. A text is null.
 fn value_of(kind: Kind, number: i128) -> Value {
     match kind {
         Kind::Bool => Value::Bool(number != 0),
@@ -50,7 +50,7 @@ fn value_of(kind: Kind, number: i128) -> Value {
     }
 }
 
-// A kind that the tree knows.
+// Returns the kind that a word names. The tree has to know it.
 fn known_kind(tree: &TypeTree, word: &str) -> Result<Kind, CallFault> {
     let Some(kind) = kind_named(word) else {
         return Err(CallFault::Line);
@@ -63,11 +63,11 @@ fn known_kind(tree: &TypeTree, word: &str) -> Result<Kind, CallFault> {
     }
 }
 
-/// `transform KIND NUMBER KIND`, `transformable KIND KIND`, `json KIND JSON`.
+/// Answers a call: `transform KIND NUMBER KIND`, `transformable KIND KIND`, `json KIND JSON`.
 ///
 /// # Errors
 ///
-/// `Line` if the words are no call.
+/// Returns `Line` if the words are not a call.
 pub fn answer_of_values(
     alloc: Global,
     tree: &TypeTree,
@@ -87,7 +87,7 @@ pub fn answer_of_values(
     }
 }
 
-// The value of a kind and number, as one of another kind.
+// Answers with the value of a kind and number, transformed to another kind.
 fn transformed(
     alloc: Global,
     tree: &TypeTree,
@@ -110,7 +110,7 @@ fn transformed(
     }
 }
 
-// The value of a kind that JSON means.
+// Answers with the value of a kind that a JSON text denotes.
 fn read(alloc: Global, tree: &TypeTree, word: &str, text: &str) -> Result<String, CallFault> {
     let Ok(json) = serde_json::Value::from_str(alloc, text) else {
         return Err(CallFault::Line);

@@ -4,11 +4,11 @@ use crate::call_faults::CallFault;
 use std::alloc::Global;
 use std::fmt::Debug;
 
-/// The first word, and what follows it: nothing where it is the last.
+/// Returns the first word of a line and what follows it, which is empty if the word is the last.
 ///
 /// # Errors
 ///
-/// `Line` if there is no word.
+/// Returns `Line` if there is no word.
 pub fn parts(line: &str) -> Result<(&str, &str), CallFault> {
     if line.is_empty() {
         return Err(CallFault::Line);
@@ -16,11 +16,11 @@ pub fn parts(line: &str) -> Result<(&str, &str), CallFault> {
     Ok(line.split_once(" ").unwrap_or((line, "")))
 }
 
-/// The number that a word is.
+/// Reads a word as a number.
 ///
 /// # Errors
 ///
-/// `Line` if it is none.
+/// Returns `Line` if the word is not a number.
 pub fn number(word: &str) -> Result<i128, CallFault> {
     match i128::from_str_radix(word, 10) {
         Ok(number) => Ok(number),
@@ -28,11 +28,11 @@ pub fn number(word: &str) -> Result<i128, CallFault> {
     }
 }
 
-/// The number from 0 to 2^16 - 1 that a word is.
+/// Reads a word as a number from 0 to 2^16 - 1.
 ///
 /// # Errors
 ///
-/// `Line` if it is none.
+/// Returns `Line` if the word is not such a number.
 pub fn small_number(word: &str) -> Result<u16, CallFault> {
     match u16::from_str_radix(word, 10) {
         Ok(number) => Ok(number),
@@ -40,11 +40,11 @@ pub fn small_number(word: &str) -> Result<u16, CallFault> {
     }
 }
 
-/// A value as it is seen when debugging.
+/// Returns the text of a value as it is shown for debugging.
 ///
 /// # Errors
 ///
-/// `OutOfMemory` if the text finds no memory.
+/// `OutOfMemory` if memory for the text is refused.
 pub fn seen<T: Debug>(alloc: Global, value: &T) -> Result<String, CallFault> {
     Ok(format!(in alloc; "{value:?}")?)
 }

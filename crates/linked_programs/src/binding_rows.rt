@@ -1,4 +1,4 @@
-//! The bindings of a definition, by their names.
+//! The bindings of a definition by their names.
 
 ghost use Rattle.std.specs.Prelude.{◌≡◌, [], IfOk, OnOk, Some};
 ghost use Rattle.name_tables.specs.Names.{place_of};
@@ -11,11 +11,11 @@ use name_tables::{NameId, NameTable};
 use std::alloc::{AllocError, Global};
 use std::marker::Model;
 
-/// The names of bindings, each with the numbers of the bindings that are called so.
+/// The names of bindings, with the numbers of the bindings that have each name.
 #[derive(Drop)]
 pub(crate) struct BindingRows {
     names: NameTable,
-    /// By name: the numbers, in document order.
+    /// For each name, the numbers of its bindings in document order.
     rows: Vec<Vec<u64>>,
 }
 
@@ -31,7 +31,7 @@ impl Model for BindingRows {
 }
 
 impl BindingRows {
-    // No bindings. It takes no memory.
+    // Creates a table without bindings. Takes no memory.
     fn empty(alloc: Global) -> BindingRows
         ensures names { result.names ≡ [] }
         ensures rows { result.rows ≡ [] }
@@ -42,7 +42,7 @@ impl BindingRows {
         }
     }
 
-    /// The bindings of a definition.
+    /// Collects the bindings of a definition.
     ///
     /// # Errors
     ///
@@ -51,7 +51,7 @@ impl BindingRows {
         ensures { IfOk result (AreBindings definition.now) }
     {
         let mut bindings = BindingRows::empty(alloc);
-        // For the proof: how many bindings there are at most.
+        // For the proof: the number of bindings is limited.
         let _count = definition.binding_count();
         let mut number = 0;
         loop {
@@ -65,7 +65,7 @@ impl BindingRows {
         }
     }
 
-    // A binding of this number has this name.
+    // Adds the number of a binding under its name.
     fn add(&mut self, name: &str, number: u64) -> Result<(), AllocError>
         ensures { OnOk result (AddsBinding self.old self.new name.now number) }
     {
@@ -75,14 +75,14 @@ impl BindingRows {
         Ok(())
     }
 
-    /// Where a name is, if some binding is called so.
+    /// Returns the index of a name, or `None` if no binding has it.
     pub(crate) fn find(&self, name: &str) -> Option<NameId>
         ensures { result ≡ place_of self.now.names name.now }
     {
         self.names.find(name)
     }
 
-    /// The numbers of the bindings of a name.
+    /// Returns the numbers of the bindings with a name.
     pub(crate) fn numbers(&self, name: NameId) -> &[u64]
         ensures { result.now ≡ numbers_by self.now.rows (Some name) }
     {

@@ -1,4 +1,4 @@
-//! The programs that classes run for signals, by the signals' numbers.
+//! The programs that classes run for signals, by the numbers of the signals.
 
 ghost use Rattle.std.specs.Prelude.{◌≡◌, ℕ, List, IfOk, OnOk, map};
 ghost use Rattle.ui_machine.specs.Definition.Lookups.{class_of};
@@ -13,7 +13,7 @@ use std::alloc::{AllocError, Global};
 use type_tree::TypeId;
 use ui_machine::{ProgramId, SignalId};
 
-// Adds the programs that a class itself names for signals, under the signals' names.
+// Adds the programs that a class itself names for signals, under the names of the signals.
 fn add_handlers(
     names: &mut NameTable,
     definition: &Definition,
@@ -29,7 +29,7 @@ fn add_handlers(
     Ok(())
 }
 
-// The programs that classes name for signals, those of their ancestors among them, under the signals' names.
+// Collects the programs that classes name for signals, including those of their ancestors, under the names of the signals.
 fn handler_names(alloc: Global, definition: &Definition) -> Result<NameTable, AllocError>
     ensures { IfOk result (AreHandlerNames definition.now) }
 {
@@ -42,7 +42,7 @@ fn handler_names(alloc: Global, definition: &Definition) -> Result<NameTable, Al
     Ok(names)
 }
 
-// The program that a class has under a name.
+// Returns the program that a class has under a name.
 fn program(names: &NameTable, class: TypeId, name: &str) -> Option<ProgramId>
     ensures { result ≡ number_of names.now class name.now }
 {
@@ -50,7 +50,7 @@ fn program(names: &NameTable, class: TypeId, name: &str) -> Option<ProgramId>
     names.number(class, place)
 }
 
-// The programs that a class runs for its signals, by their numbers.
+// Collects the programs that a class runs for its signals, by the numbers of the signals.
 fn handlers_of(
     alloc: Global,
     definition: &Definition,
@@ -71,7 +71,8 @@ fn handlers_of(
     }
 }
 
-/// The programs that classes run for signals, by class and number: a class's own, or that of its nearest ancestor that names one.
+/// Collects the programs that classes run for signals, by class and number. The class itself names each, or else its nearest ancestor that
+/// names one.
 ///
 /// # Errors
 ///

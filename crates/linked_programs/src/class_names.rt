@@ -1,4 +1,4 @@
-//! The names of what classes have, each with the numbers that it has in them.
+//! The names of the properties and signals of classes, with the numbers that each has in them.
 
 ghost use Rattle.std.specs.Prelude.{◌≡◌, IfOk, OnOk};
 ghost use Rattle.name_tables.specs.Names.{number_of};
@@ -19,7 +19,7 @@ fn add_slots(
 ) -> Result<(), AllocError>
     ensures { OnOk result (AddsAll (number_of names.old) (number_of names.new) class (slot_called definition.now class)) }
 {
-    // For the proof: how many properties a class has at most.
+    // For the proof: the number of properties of a class is limited.
     let _slots = definition.slots(class);
     let mut slot: Slot = 0;
     loop {
@@ -31,7 +31,7 @@ fn add_slots(
     }
 }
 
-/// The names of a definition's properties, with their slots.
+/// Collects the names of a definition's properties, with their slots.
 ///
 /// # Errors
 ///
@@ -55,7 +55,7 @@ fn add_signals(
 ) -> Result<(), AllocError>
     ensures { OnOk result (AddsAll (number_of names.old) (number_of names.new) class (signal_called definition.now class)) }
 {
-    // For the proof: how many signals a class has at most.
+    // For the proof: the number of signals of a class is limited.
     let _count = definition.signal_count(class);
     let mut number: SignalId = 0;
     loop {
@@ -67,7 +67,7 @@ fn add_signals(
     }
 }
 
-/// The names of a definition's signals, with their numbers.
+/// Collects the names of a definition's signals, with their numbers.
 ///
 /// # Errors
 ///

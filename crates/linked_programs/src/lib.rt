@@ -1,8 +1,9 @@
-//! Linked programs: what the names in a definition's programs mean, found once, as a session starts.
+//! Linked programs: the meanings of the names in a definition's programs, found once, as a session starts.
 //!
-//! A program names properties, signals and methods, bindings, other programs, objects and prototypes. Which property or signal of a class a name
-//! means depends on the class of the object that the instruction acts on, and which method on the shape of its peer, so that these are linked to
-//! places in tables of names, as are bindings, of which several may have one name; the others have one meaning.
+//! A program names properties, signals and methods, bindings, other programs, objects and prototypes. Which property or signal of a class a
+//! name means depends on the class of the object that the instruction acts on, and which method depends on the shape of its peer. So these
+//! names are linked to indexes in tables of names, as are those of bindings, of which several may have one name. The other names have one
+//! meaning.
 #![tactic(auto)]
 
 mod binding_rows;

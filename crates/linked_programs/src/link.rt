@@ -1,4 +1,4 @@
-//! What the names of an instruction mean.
+//! The meaning of the names of a single instruction.
 
 ghost use Rattle.std.specs.Prelude.{◌≡◌};
 ghost use Rattle.linked_programs.specs.Linked.{bindings_in, detail_in, method_in, place_in, program_in, property_in, signal_in};
@@ -6,36 +6,37 @@ ghost use Rattle.linked_programs.specs.Linked.{bindings_in, detail_in, method_in
 use name_tables::NameId;
 use ui_machine::{Place, ProgramId};
 
-/// What the names of an instruction mean. A name that nothing has means nothing: no instruction of an accepted definition has one.
+/// The meaning of the names of an instruction. A name that nothing has is linked to `None`. No instruction of an accepted definition has
+/// such a name.
 #[derive(Clone, Copy, Debug, PartialEq, Eq)]
 pub enum Link {
     /// The instruction has no names.
     Nothing,
-    /// A property, by the place of its name.
+    /// A property, by the index of its name.
     Property(Option<NameId>),
     /// An object or a prototype.
     Place(Option<Place>),
     /// A program.
     Program(Option<ProgramId>),
-    /// A signal, and the property that its detail would name.
+    /// A signal, and the property that its detail would name, by the indexes of their names.
     Emission {
         signal: Option<NameId>,
         detail: Option<NameId>,
     },
-    /// The same, and a program.
+    /// A signal, and the property that its detail would name, by the indexes of their names, and a program.
     Connection {
         signal: Option<NameId>,
         detail: Option<NameId>,
         program: Option<ProgramId>,
     },
-    /// A method, by the place of its name.
+    /// A method, by the index of its name.
     Method(Option<NameId>),
-    /// The bindings of a name, by the place of the name.
+    /// The bindings with a name, by the index of the name.
     Bindings(Option<NameId>),
 }
 
 impl Link {
-    /// The property that the instruction names.
+    /// Returns the property that the instruction names.
     pub fn property(self) -> Option<NameId>
         ensures { result ≡ property_in self }
     {
@@ -45,7 +46,7 @@ impl Link {
         }
     }
 
-    /// The object or prototype that it names.
+    /// Returns the object or prototype that the instruction names.
     pub fn place(self) -> Option<Place>
         ensures { result ≡ place_in self }
     {
@@ -55,7 +56,7 @@ impl Link {
         }
     }
 
-    /// The program that it names.
+    /// Returns the program that the instruction names.
     pub fn program(self) -> Option<ProgramId>
         ensures { result ≡ program_in self }
     {
@@ -65,7 +66,7 @@ impl Link {
         }
     }
 
-    /// The signal that it names.
+    /// Returns the signal that the instruction names.
     pub fn signal(self) -> Option<NameId>
         ensures { result ≡ signal_in self }
     {
@@ -75,7 +76,7 @@ impl Link {
         }
     }
 
-    /// The property that its detail would name.
+    /// Returns the property that the instruction's detail would name.
     pub fn detail(self) -> Option<NameId>
         ensures { result ≡ detail_in self }
     {
@@ -85,7 +86,7 @@ impl Link {
         }
     }
 
-    /// The method that it names.
+    /// Returns the method that the instruction names.
     pub fn method(self) -> Option<NameId>
         ensures { result ≡ method_in self }
     {
@@ -95,7 +96,7 @@ impl Link {
         }
     }
 
-    /// The bindings that it names.
+    /// Returns the bindings that the instruction names.
     pub fn bindings(self) -> Option<NameId>
         ensures { result ≡ bindings_in self }
     {

@@ -1,4 +1,4 @@
-//! What the names in a definition's programs mean.
+//! The meanings of all names in a definition's programs.
 
 ghost use Rattle.std.specs.Prelude.{◌≡◌, ℕ, None, IfOk, option_map, slice_get};
 ghost use Rattle.std.specs.Rc.{rc_str_bytes};
@@ -24,14 +24,14 @@ use std::rc::RcStr;
 use type_tree::TypeId;
 use ui_machine::{ObjectId, ProgramId, SignalId, Slot};
 
-/// What the names in a definition's programs mean: the slots and numbers of properties and signals, by class and name, the numbers of methods, by
-/// shape and name, those of bindings, by name, and the link of each instruction.
+/// The meanings of the names in a definition's programs: the slots of properties and the numbers of signals, by class and name, the numbers
+/// of methods, by shape and name, the numbers of bindings, by name, and the link of each instruction.
 #[derive(Drop)]
 pub struct Links {
     tables: Tables,
-    /// The programs that classes run for signals, by class and the signal's number.
+    /// The programs that classes run for signals, by class and by the number of the signal.
     handlers: Vec<Vec<Option<ProgramId>>>,
-    /// By program, block and instruction.
+    /// The links of instructions, by program, block and instruction.
     programs: Vec<Vec<Vec<Link>>>,
 }
 
@@ -46,7 +46,7 @@ impl Model for Links {
 }
 
 impl Links {
-    /// Links the programs of a definition. It takes time and memory for each name of each class once, and for each instruction.
+    /// Links the programs of a definition. Takes time and memory for each name of each class once, and for each instruction.
     ///
     /// # Errors
     ///
@@ -64,7 +64,7 @@ impl Links {
         })
     }
 
-    /// The link of an instruction, and that of one without names where there is none.
+    /// Returns the link of an instruction, or `Link::Nothing` if there is no such instruction.
     pub fn link(&self, program: ProgramId, block: BlockNumber, at: usize) -> Link
         ensures { result ≡ link_at self.now.programs program block.0 at }
     {
@@ -80,28 +80,28 @@ impl Links {
         }
     }
 
-    /// The slot of a class's property of a name.
+    /// Returns the slot of a class's property with this name.
     pub fn slot(&self, class: TypeId, name: Option<NameId>) -> Option<Slot>
         ensures { result ≡ number_by self.now.slots class name }
     {
         self.tables.slots.number(class, name?)
     }
 
-    /// The number of a class's signal of a name.
+    /// Returns the number of a class's signal with this name.
     pub fn signal(&self, class: TypeId, name: Option<NameId>) -> Option<SignalId>
         ensures { result ≡ number_by self.now.signals class name }
     {
         self.tables.signals.number(class, name?)
     }
 
-    /// The number of a shape's method of a name.
+    /// Returns the number of a shape's method with this name.
     pub fn method(&self, shape: usize, name: Option<NameId>) -> Option<usize>
         ensures { result ≡ method_by self.now.methods shape name }
     {
         self.tables.methods.number(shape, name?)
     }
 
-    /// The numbers of the definition's bindings of a name.
+    /// Returns the numbers of the definition's bindings with this name.
     pub fn bindings(&self, name: Option<NameId>) -> &[u64]
         ensures { result.now ≡ numbers_by self.now.bindings name }
     {
@@ -111,7 +111,7 @@ impl Links {
         }
     }
 
-    // The program that a class runs for the signal of a number.
+    // Returns the program that a class runs for the signal with this number.
     fn class_handler(&self, class: TypeId, number: SignalId) -> Option<ProgramId>
         ensures { result ≡ handler_at self.now.handlers class number }
     {
@@ -123,8 +123,8 @@ impl Links {
         }
     }
 
-    /// What an emission by an object begins with: of the signal of its class of a number, with a detail. `None` where the class has no signal
-    /// of the number. The links are those of the definition.
+    /// Returns the emission with which an object emits the signal with this number of its class, with a detail. Returns `None` if the class
+    /// has no signal with this number. The links have to belong to the definition.
     pub fn emission(
         &self,
         definition: &Definition,
@@ -152,7 +152,7 @@ impl Links {
         }
     }
 
-    /// The name of a property, in canonical spelling.
+    /// Returns the name of a property, in the canonical spelling.
     pub fn property_name(&self, name: NameId) -> Option<&str>
         ensures { option_map (λ text. text.now) result ≡ option_map (λ n. n.name) (slice_get self.now.slots name) }
     {
@@ -160,7 +160,7 @@ impl Links {
     }
 }
 
-// The program of a number, if one is there.
+// Returns the program for the signal with this number, if there is one.
 fn program_at(programs: &[Option<ProgramId>], number: SignalId) -> Option<ProgramId>
     ensures { result ≡ read None programs.now number }
 {

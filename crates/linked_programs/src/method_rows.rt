@@ -1,4 +1,4 @@
-//! The methods of shapes, by their names.
+//! The methods of shapes by their names.
 
 ghost use Rattle.std.specs.Prelude.{◌≡◌, ℕ, [], IfOk, OnOk, Some, nat_eq};
 ghost use Rattle.ui_machine.specs.Definition.Names.{place_named};
@@ -15,11 +15,11 @@ use std::alloc::{AllocError, Global};
 use std::collections::BTreeMap;
 use std::marker::Model;
 
-/// The names of methods, each with the number of the method that is called so in each shape that has one.
+/// The names of methods, with the number of the method that has each name, for each shape with such a method.
 #[derive(Drop)]
 pub(crate) struct MethodRows {
     names: NameTable,
-    /// By name: the number of the method, by the number of the shape.
+    /// For each name, the number of the method by the number of the shape.
     rows: Vec<BTreeMap<usize, usize>>,
 }
 
@@ -35,7 +35,7 @@ impl Model for MethodRows {
 }
 
 impl MethodRows {
-    // No methods. It takes no memory.
+    // Creates a table without methods. Takes no memory.
     fn empty(alloc: Global) -> MethodRows
         ensures names { result.names ≡ [] }
         ensures rows { result.rows ≡ [] }
@@ -46,7 +46,7 @@ impl MethodRows {
         }
     }
 
-    /// The methods of a definition's shapes.
+    /// Collects the methods of a definition's shapes.
     ///
     /// # Errors
     ///
@@ -68,7 +68,7 @@ impl MethodRows {
     fn add_shape(&mut self, number: usize, shape: &Shape) -> Result<(), AllocError>
         ensures { OnOk result (AddsAll (method_of self.old) (method_of self.new) number (place_named (λ m. m.name) shape.now)) }
     {
-        // For the proof: how many methods a shape has at most.
+        // For the proof: the number of methods of a shape is limited.
         let _count = shape.len();
         let mut at = 0;
         loop {
@@ -80,7 +80,7 @@ impl MethodRows {
         }
     }
 
-    // A shape has a method of this name and number, unless it has one of the name already.
+    // Adds the number of a shape's method under its name, unless the shape has a method of that name already.
     fn add(&mut self, shape: usize, name: &str, number: usize) -> Result<(), AllocError>
         ensures { OnOk result (AddsMethod self.old self.new shape name.now number) }
     {
@@ -89,14 +89,14 @@ impl MethodRows {
         give_number(&mut self.rows[at], shape, number)
     }
 
-    /// Where a name is, if some method is called so.
+    /// Returns the index of a name, or `None` if no method has it.
     pub(crate) fn find(&self, name: &str) -> Option<NameId>
         ensures { result ≡ place_of self.now.names name.now }
     {
         self.names.find(name)
     }
 
-    /// The number of a shape's method of a name.
+    /// Returns the number of a shape's method with this name.
     pub(crate) fn number(&self, shape: usize, name: NameId) -> Option<usize>
         ensures { result ≡ method_by self.now.rows shape (Some name) }
     {
@@ -105,7 +105,7 @@ impl MethodRows {
     }
 }
 
-// Gives a shape a number, unless it has one.
+// Sets the number of a shape, unless it has one.
 fn give_number(
     row: &mut BTreeMap<usize, usize>,
     shape: usize,

@@ -1,4 +1,4 @@
-//! Names with a row each.
+//! Rows with a name each.
 
 ghost use Rattle.std.specs.Prelude.{◌≡◌, IfOk, OnOk, Some};
 ghost use Rattle.name_tables.specs.Names.{place_of};
@@ -8,7 +8,7 @@ ghost use Rattle.linked_programs.specs.Rows.{AreLevel, with_row};
 use name_tables::{NameId, NameTable};
 use std::alloc::AllocError;
 
-/// The place of a name's row, which it has from then on: a new name gets an empty one.
+/// Returns the index of a name's row. A new name is added, with an empty row.
 ///
 /// # Errors
 ///

@@ -1,4 +1,4 @@
-//! The links of programs.
+//! Linking of programs.
 
 ghost use Rattle.std.specs.Prelude.{◌≡◌, IfOk, IfSome, Some, map, option_map, slice_get};
 ghost use Rattle.ui_machine.specs.Definition.Names.{canonical};
@@ -18,7 +18,7 @@ use name_tables::{NameId, NameTable};
 use signal_core::canonical_text;
 use std::alloc::{AllocError, Global};
 
-/// What the names in a definition's programs are looked up in: the definition, and the tables of its names.
+/// The definition and the tables in which the names of its programs are looked up.
 #[derive(Clone, Copy)]
 struct Names<'a> {
     definition: &'a Definition,
@@ -27,7 +27,7 @@ struct Names<'a> {
     ghost all: { AreTables definition.now tables.now },
 }
 
-// Where a name is in a table, in any spelling.
+// Returns the index of a name in a table, in any spelling.
 fn find(alloc: Global, names: &NameTable, name: &str) -> Result<Option<NameId>, AllocError>
     ensures place { IfOk result (λ at. at ≡ place_of names.now (canonical name.now)) }
     ensures called { IfOk result (λ at. IfSome at (λ n. option_map (λ named. named.name) (slice_get names.now n) ≡ Some (canonical name.now))) }
@@ -37,21 +37,21 @@ fn find(alloc: Global, names: &NameTable, name: &str) -> Result<Option<NameId>, 
 }
 
 impl Names<'_> {
-    // The place of a property's name.
+    // Returns the index of a property's name.
     fn property(&self, name: &str) -> Result<Option<NameId>, AllocError>
         ensures { IfOk result (IsDetail self.now.definition.now (tables_alone self.now.tables.now) (Some name.now)) }
     {
         find(self.alloc, &self.tables.slots, name)
     }
 
-    // The place of a signal's name.
+    // Returns the index of a signal's name.
     fn signal(&self, name: &str) -> Result<Option<NameId>, AllocError>
         ensures { IfOk result (IsSignal self.now.definition.now (tables_alone self.now.tables.now) name.now) }
     {
         find(self.alloc, &self.tables.signals, name)
     }
 
-    // The place of the property that a detail would name.
+    // Returns the index of the property name that a detail would be.
     fn detail(&self, detail: Option<&str>) -> Result<Option<NameId>, AllocError>
         ensures { IfOk result (IsDetail self.now.definition.now (tables_alone self.now.tables.now) (option_map (λ text. text.now) detail.entry)) }
     {
@@ -61,7 +61,7 @@ impl Names<'_> {
         }
     }
 
-    // The link of an instruction on properties.
+    // Links an instruction on properties.
     fn on_properties(&self, instruction: &PropertyInstruction) -> Result<Link, AllocError>
         ensures { IfOk result (IsLink self.now.definition.now (tables_alone self.now.tables.now) (property_instruction_view instruction.now)) }
     {
@@ -75,7 +75,7 @@ impl Names<'_> {
         }
     }
 
-    // The link of an instruction on objects.
+    // Links an instruction on objects.
     fn on_objects(&self, instruction: &ObjectInstruction) -> Link
         ensures { IsLink self.now.definition.now (tables_alone self.now.tables.now) (object_instruction_view instruction.now) result }
     {
@@ -90,7 +90,7 @@ impl Names<'_> {
         }
     }
 
-    // The link of a connection.
+    // Links a connection.
     fn connection(&self, connection: &Connection) -> Result<Link, AllocError>
         ensures { IfOk result (LinksConnection self.now.definition.now (tables_alone self.now.tables.now) (connect_view connection.now)) }
     {
@@ -103,7 +103,7 @@ impl Names<'_> {
         })
     }
 
-    // The link of an instruction on signals.
+    // Links an instruction on signals.
     fn on_signals(&self, instruction: &SignalInstruction) -> Result<Link, AllocError>
         ensures { IfOk result (IsLink self.now.definition.now (tables_alone self.now.tables.now) (signal_instruction_view instruction.now)) }
     {
@@ -123,7 +123,7 @@ impl Names<'_> {
         }
     }
 
-    // The link of an instruction on sources.
+    // Links an instruction on sources.
     fn on_sources(&self, instruction: &SourceInstruction) -> Link
         ensures { IsLink self.now.definition.now (tables_alone self.now.tables.now) (source_instruction_view instruction.now) result }
     {
@@ -139,7 +139,7 @@ impl Names<'_> {
         }
     }
 
-    // The link of an instruction.
+    // Links an instruction.
     fn link(&self, instruction: &Instruction) -> Result<Link, AllocError>
         ensures { IfOk result (IsLink self.now.definition.now (tables_alone self.now.tables.now) (instruction_view instruction.now)) }
     {
@@ -155,7 +155,7 @@ impl Names<'_> {
         }
     }
 
-    // The links of a block's instructions.
+    // Links the instructions of a block.
     fn block(&self, block: &Block) -> Result<Vec<Link>, AllocError>
         ensures { IfOk result (λ links. LinksBlock self.now.definition.now (tables_alone self.now.tables.now) (block_view block.now) links.items) }
     {
@@ -166,7 +166,7 @@ impl Names<'_> {
         Ok(links)
     }
 
-    // The links of a program's blocks.
+    // Links the blocks of a program.
     fn program(&self, program: &Program) -> Result<Vec<Vec<Link>>, AllocError>
         ensures { IfOk result (λ blocks. LinksBlocks self.now.definition.now (tables_alone self.now.tables.now) (program_view program.now) (map (λ b. b.items) blocks.items)) }
     {
@@ -178,7 +178,7 @@ impl Names<'_> {
     }
 }
 
-/// The links of all programs of a definition, by program, block and instruction. The tables have all its names.
+/// Links all programs of a definition, by program, block and instruction. The tables have all its names.
 ///
 /// # Errors
 ///
@@ -196,7 +196,7 @@ pub(crate) fn link_programs(
         tables,
         alloc,
     };
-    // For the proof: how many programs there are at most.
+    // For the proof: the number of programs is limited.
     let _types = definition.types();
     let mut programs = Vec::new(alloc);
     let mut number = 0;

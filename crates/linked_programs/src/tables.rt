@@ -1,4 +1,4 @@
-//! The names that programs may name.
+//! The tables of the names that programs may use.
 
 ghost use Rattle.std.specs.Prelude.{IfOk};
 ghost use Rattle.linked_programs.specs.Steps.{AreTables};
@@ -10,7 +10,7 @@ use definitions::Definition;
 use name_tables::NameTable;
 use std::alloc::{AllocError, Global};
 
-/// The names of a definition's properties, signals, methods and bindings, each with what it means.
+/// The names of a definition's properties, signals, methods and bindings, with their meanings.
 #[derive(Drop)]
 pub(crate) struct Tables {
     pub(crate) slots: NameTable,
@@ -20,7 +20,7 @@ pub(crate) struct Tables {
 }
 
 impl Tables {
-    /// The tables of a definition.
+    /// Builds the tables of a definition.
     ///
     /// # Errors
     ///

@@ -1,4 +1,4 @@
-//! The sources that an iteration took.
+//! The sources of one iteration.
 
 ghost use Rattle.std.specs.Prelude.{◌≡◌, [], ◌∷◌, map, MatchOption, IfOk};
 ghost use Rattle.std.specs.List.{filter};
@@ -27,7 +27,7 @@ impl Model for Batch {
 }
 
 impl Batch {
-    /// The ready sources of the least priority number.
+    /// Collects the ready sources with the least priority number.
     pub(crate) fn ready(alloc: Global, sources: &[Source], moment: u64) -> Result<Self, AllocError>
         ensures { IfOk result (λ batch. batch ≡ map (λ s. s.number) (ready moment sources.now)) }
     {
@@ -41,7 +41,7 @@ impl Batch {
         Ok(Batch { numbers, taken: 0 })
     }
 
-    /// Takes the number whose turn is next.
+    /// Takes the next number, or returns `None` if none is left.
     pub(crate) fn pop(&mut self) -> Option<u64>
         ensures { MatchOption result (self.old ≡ [] × self.new ≡ []) (λ number. self.old ≡ number ∷ self.new) }
     {
@@ -51,7 +51,7 @@ impl Batch {
     }
 }
 
-// The least priority number of the ready sources.
+// Returns the least priority number of the ready sources, or `None` if no source is ready.
 fn least_priority(sources: &[Source], moment: u64) -> Option<i32>
     ensures { IsLeast moment sources.now result }
 {
@@ -64,7 +64,7 @@ fn least_priority(sources: &[Source], moment: u64) -> Option<i32>
     least
 }
 
-// The lower of the two, if there are two.
+// Returns the lower one of `least`, if there is one, and `priority`.
 fn lower(least: Option<i32>, priority: i32) -> i32
     ensures { result ≡ lower least priority }
 {
@@ -74,7 +74,7 @@ fn lower(least: Option<i32>, priority: i32) -> i32
     }
 }
 
-// The numbers of the ready sources of a priority.
+// Collects the numbers of the ready sources with this priority.
 fn numbers_at(
     alloc: Global,
     sources: &[Source],

@@ -1,4 +1,4 @@
-//! The context.
+//! The main context.
 
 ghost use Rattle.std.specs.Prelude.{◌≡◌, ◌<◌, ◌≤◌, length, ◌↔◌, ◌&&◌, not, false, [], None, Some, map, option_map, OnOk, OnErr, IfOk};
 ghost use Rattle.std.specs.List.{find};
@@ -13,7 +13,7 @@ use std::alloc::Global;
 use std::marker::Model;
 use ui_machine::{ObjectId, ProgramId};
 
-/// How many sources may be attached at a time. One whose program runs is among them until it is removed.
+/// The most sources that may be attached at a time. A source whose program runs is among them until it is removed.
 pub const MAX_SOURCES: usize = 256;
 
 /// Sources in order of attachment, at most 256, and the latest moment.
@@ -39,7 +39,7 @@ impl Context {
     ghost use Rattle.main_context.specs.Dues.{due_of, identity_of};
     ghost use Rattle.main_context.specs.Attached.{with_source, is_attached, next_source, numbers_after};
 
-    /// No sources, at the moment 0. It takes no memory.
+    /// Creates a context without sources, at the moment 0. Takes no memory.
     pub fn new(alloc: Global) -> Self
         ensures { result ≡ record { sources = []; last = 0; moment = 0 } }
     {
@@ -50,7 +50,7 @@ impl Context {
         }
     }
 
-    /// How many sources are attached: at most 256.
+    /// Returns the number of attached sources, which is at most 256.
     pub fn len(&self) -> usize
         ensures count { result ≡ length self.now.sources }
         ensures few { length self.now.sources ≤ 256 }
@@ -60,12 +60,10 @@ impl Context {
 
     /// Attaches an idle, which is always ready.
     ///
-    /// `SourceLimit` where 256 sources are attached, or the numbers are used up: 2^64 - 1 is the last. `OutOfMemory` after
-    /// that. An error changes nothing.
-    ///
     /// # Errors
     ///
-    /// `SourceLimit` where as many sources are attached as may be, then `OutOfMemory`. The sources are as they were.
+    /// Returns `SourceLimit` if 256 sources are attached or the numbers are used up, of which 2^64 - 1 is the last. Otherwise returns
+    /// `OutOfMemory` if memory is refused. The sources are unchanged then.
     pub fn idle(
         &mut self,
         program: ProgramId,
@@ -79,13 +77,13 @@ impl Context {
         self.attach(program, priority, None, arg)
     }
 
-    /// Attaches a timeout, which is due one interval (in milliseconds) after the latest moment, the moment 0 before any.
-    ///
-    /// It is refused as `idle` is. An error changes nothing.
+    /// Attaches a timeout, which is due one interval (in milliseconds) after the latest moment, or after the moment 0 if there was none
+    /// yet.
     ///
     /// # Errors
     ///
-    /// `SourceLimit` where as many sources are attached as may be, then `OutOfMemory`. The sources are as they were.
+    /// Returns `SourceLimit` if 256 sources are attached or the numbers are used up, of which 2^64 - 1 is the last. Otherwise returns
+    /// `OutOfMemory` if memory is refused. The sources are unchanged then.
     pub fn timeout(
         &mut self,
         program: ProgramId,
@@ -123,7 +121,7 @@ impl Context {
         Ok(())
     }
 
-    /// Takes out the first source of a program, and gives it.
+    /// Removes the first source of a program and returns it, or returns `None` if there is none.
     pub fn remove(&mut self, program: ProgramId) -> Option<Due>
         ensures given { result ≡ option_map due_of (find (runs_program program) self.old.sources) }
         ensures left { self.new
@@ -133,14 +131,13 @@ impl Context {
         Some(source.due())
     }
 
-    /// Begins an iteration at a moment, and takes the ready sources of the least priority number, in order of attachment. What
-    /// becomes ready later is not looked at again. They are at most 256.
-    ///
-    /// `ClockBack` where the moment is before the latest one, then `OutOfMemory`. An error changes nothing.
+    /// Begins an iteration at a moment, and returns the ready sources with the least priority number, in order of attachment. There are at
+    /// most 256. Sources that become ready later are not part of the iteration.
     ///
     /// # Errors
     ///
-    /// `ClockBack` if the moment is before the latest one, then `OutOfMemory`.
+    /// Returns `ClockBack` if the moment is before the latest one, otherwise `OutOfMemory` if memory is refused. The context is unchanged
+    /// then.
     pub fn iteration(&mut self, moment: u64) -> Result<Batch, TurnError>
         ensures ready { IfOk result
             (λ batch. batch ≡ map (λ s. s.number) (ready moment self.old.sources)) }
@@ -157,7 +154,7 @@ impl Context {
         Ok(batch)
     }
 
-    /// The source of a batch whose turn is next. Those that were removed since are passed over.
+    /// Returns the next source of a batch, or `None` if none is left. Passes over sources that were removed since.
     pub fn next_of(&self, batch: &mut Batch) -> Option<Due>
         ensures given { result ≡ option_map due_of (next_source self.now.sources batch.old) }
         ensures left { batch.new ≡ numbers_after self.now.sources batch.old }
@@ -170,15 +167,15 @@ impl Context {
         None
     }
 
-    /// What is to run for a source, if it is attached.
+    /// Returns what is to run for a source, or `None` if it is not attached.
     pub fn find(&self, source: u64) -> Option<Due>
         ensures { result ≡ option_map due_of (source_of source self.now.sources) }
     {
         sources::find_due(&self.sources, source)
     }
 
-    /// A source's program has answered. FALSE takes the source out; after TRUE a timeout is due one interval after the latest
-    /// moment. Where the source was removed while it ran, nothing happens. It says whether the source was taken out.
+    /// Handles the answer of a source's program. FALSE removes the source. After TRUE, a timeout is due one interval after the latest
+    /// moment. Does nothing if the source was removed while it ran. Returns whether the source was removed.
     pub fn answered(&mut self, source: u64, keep: bool) -> bool
         ensures removed { result ≡ (not keep && is_attached self.old.sources source) }
         ensures left { self.new

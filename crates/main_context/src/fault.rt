@@ -1,4 +1,4 @@
-//! Why a context refuses.
+//! Errors of a context.
 
 ghost use Rattle.std.specs.Prelude.{◌≡◌};
 ghost use Rattle.main_context.specs.declared.fault.AttachError.TheVariants as attaching;
@@ -7,7 +7,7 @@ ghost use Rattle.main_context.specs.declared.fault.TurnError.TheVariants as turn
 use std::alloc::{AllocError, AllocFailed};
 use thiserror::Error;
 
-/// Why a source is not attached.
+/// The reason for which a source is not attached.
 #[derive(Clone, Copy, Debug, PartialEq, Eq, Error)]
 pub enum AttachError {
     #[error("no more sources may be attached")]
@@ -24,7 +24,7 @@ impl<T: Drop> From<AllocFailed<T>> for AttachError {
     }
 }
 
-/// Why an iteration does not begin.
+/// The reason for which an iteration does not begin.
 #[derive(Clone, Copy, Debug, PartialEq, Eq, Error)]
 pub enum TurnError {
     #[error("the moment is before the latest one")]

@@ -1,9 +1,9 @@
-//! The sources of a main context, and whose turn it is.
+//! The sources of a main context, and the order of their turns.
 //!
-//! A source runs a program again and again: an idle whenever it is looked at, a timeout once its due moment has come (GLib
-//! manual, The Main Event Loop). An iteration has a moment and takes the ready sources of the least priority number, in order
-//! of attachment. Programs go by number, data objects by identity, moments and intervals are in milliseconds. A contract sees
-//! a list of sources, the number of the last one attached and the latest moment.
+//! A source runs a program again and again. An idle is always ready, a timeout is ready once its due moment has come (GLib manual, The Main
+//! Event Loop). An iteration has a moment and takes the ready sources with the least priority number, in order of attachment. Programs are
+//! given by number, data objects by identity, moments and intervals in milliseconds. A contract sees a list of sources, the number of the
+//! last one attached and the latest moment.
 #![tactic(auto)]
 
 mod batch;

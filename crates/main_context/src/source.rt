@@ -1,4 +1,4 @@
-//! One source.
+//! A single source.
 
 ghost use Rattle.std.specs.Prelude.{◌≡◌};
 ghost use Rattle.ui_machine.specs.Rules.MainLoop.{is_ready};
@@ -7,7 +7,7 @@ ghost use Rattle.ui_machine.specs.State.Sources.{is_numbered, runs_program, due_
 use std::marker::Model;
 use ui_machine::{ObjectId, ProgramId};
 
-/// A source that is to run: its number, the program and the data object.
+/// A source that is to run: its number, its program and its data object.
 #[derive(Clone, Copy, Debug, PartialEq, Eq)]
 pub struct Due {
     pub source: u64,
@@ -15,7 +15,7 @@ pub struct Due {
     pub arg: Option<ObjectId>,
 }
 
-/// A source that is attached. It keeps the moment from which its interval runs, so that no sum of the two is ever made.
+/// An attached source. It stores the moment at which its interval began, so that the sum of the two is never computed.
 #[derive(Debug, Drop)]
 pub(crate) struct Source {
     number: u64,
@@ -46,7 +46,7 @@ impl Model for Source {
 impl Source {
     ghost use Rattle.main_context.specs.Dues.{due_of, identity_of};
 
-    /// A source of this number that is attached at a moment. An idle has no interval.
+    /// Creates a source with this number, attached at a moment. An idle has no interval.
     pub fn new(
         number: u64,
         program: ProgramId,
@@ -100,7 +100,7 @@ impl Source {
         }
     }
 
-    /// Begins its interval anew.
+    /// Restarts the interval at a moment.
     pub fn restart(&mut self, moment: u64)
         ensures { self.new ≡ record self.old { due = due_after moment self.old.interval } }
     {

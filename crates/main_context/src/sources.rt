@@ -1,4 +1,4 @@
-//! Sources in a list, in order of attachment.
+//! Operations on a list of sources in order of attachment.
 
 ghost use Rattle.std.specs.Prelude.{◌≡◌, option_map};
 ghost use Rattle.std.specs.List.{find, position};
@@ -9,7 +9,7 @@ ghost use Rattle.main_context.specs.Dues.{due_of};
 use crate::source::{Due, Source};
 use ui_machine::ProgramId;
 
-/// What is to run for the source of a number.
+/// Returns what is to run for the source with this number.
 pub(crate) fn find_due(sources: &[Source], number: u64) -> Option<Due>
     ensures { result ≡ option_map due_of (source_of number sources.now) }
 {
@@ -17,7 +17,7 @@ pub(crate) fn find_due(sources: &[Source], number: u64) -> Option<Due>
     Some(sources[index].due())
 }
 
-/// Takes out the source of a number.
+/// Removes the source with this number and returns it.
 pub(crate) fn take(sources: &mut Vec<Source>, number: u64) -> Option<Source>
     ensures given { result ≡ source_of number sources.old.items }
     ensures left { sources.new.items ≡ without_source number sources.old.items }
@@ -26,7 +26,7 @@ pub(crate) fn take(sources: &mut Vec<Source>, number: u64) -> Option<Source>
     Some(sources.remove(index))
 }
 
-/// Takes out the first source of a program.
+/// Removes the first source of a program and returns it.
 pub(crate) fn take_first(sources: &mut Vec<Source>, program: ProgramId) -> Option<Source>
     ensures given { result ≡ find (runs_program program) sources.old.items }
     ensures left { sources.new.items ≡ without_first (runs_program program) sources.old.items }
@@ -35,7 +35,7 @@ pub(crate) fn take_first(sources: &mut Vec<Source>, program: ProgramId) -> Optio
     Some(sources.remove(index))
 }
 
-/// The source of a number begins its interval anew.
+/// Restarts the interval of the source with this number.
 pub(crate) fn reschedule(sources: &mut [Source], number: u64, moment: u64)
     ensures { sources.new ≡ rescheduled moment number sources.old }
 {
@@ -46,14 +46,14 @@ pub(crate) fn reschedule(sources: &mut [Source], number: u64, moment: u64)
     }
 }
 
-// Where the source of the number is.
+// Returns the index of the source with this number.
 fn index_of(sources: &[Source], number: u64) -> Option<usize>
     ensures { result ≡ position (is_numbered number) sources.now }
 {
     sources.iter().position(|source| source.has_number(number))
 }
 
-// Where the first source of the program is.
+// Returns the index of the first source of a program.
 fn index_of_program(sources: &[Source], program: ProgramId) -> Option<usize>
     ensures { result ≡ position (runs_program program) sources.now }
 {

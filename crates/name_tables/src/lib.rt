@@ -1,7 +1,7 @@
-//! Tables of names: which number a name has in each class.
+//! Tables of the numbers that names have in classes.
 //!
-//! A program names a property or a signal, and which of a class's it means depends on the class of the object that it acts on. A table is made
-//! once, of all that classes have; from then on a name is a number in it, and what it means for a class is read at that number.
+//! A program names a property or a signal, and which one of a class it means depends on the class of the object that it acts on. A table is
+//! built once, from everything that classes have. From then on a name is an index into it, at which the number for a class is read.
 #![tactic(auto)]
 
 mod name_table;

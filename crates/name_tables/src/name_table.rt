@@ -1,4 +1,4 @@
-//! Names, each with the numbers that it has in classes.
+//! A table of names, with the numbers that each name has in classes.
 
 ghost use Rattle.std.specs.Prelude.{◌≡◌, [], Some, IfOk, IfSome, OnErr, OnOk, option_map, slice_get};
 ghost use Rattle.name_tables.specs.Names.{Adds, Inherits, SameNumbers, number_at, place_of};
@@ -9,12 +9,12 @@ use std::alloc::{AllocError, Global};
 use std::marker::Model;
 use type_tree::{TypeId, TypeTree};
 
-/// A name of a table, by its place in it.
+/// The index of a name in a table.
 pub type NameId = usize;
 
-/// Names in canonical spelling, and the number that each has in the classes that have it.
+/// Names in the canonical spelling, with the number that each has in the classes that have it.
 ///
-/// It takes memory for each name once, and for a number in each class up to the last that has the name.
+/// Takes memory for each name once, and for one number for each class up to the last that has the name.
 #[derive(Drop)]
 pub struct NameTable {
     names: IndexMap<String, Vec<Option<u16>>>,
@@ -30,7 +30,7 @@ impl Model for NameTable {
 }
 
 impl NameTable {
-    /// A table without names. It takes no memory.
+    /// Creates a table without names. Takes no memory.
     pub fn new(alloc: Global) -> NameTable
         ensures { result ≡ [] }
     {
@@ -39,11 +39,11 @@ impl NameTable {
         }
     }
 
-    /// The place of a name, which has one from then on; a new name has no number in any class yet.
+    /// Returns the index of a name, which is added if it is new. A new name has no number in any class yet.
     ///
     /// # Errors
     ///
-    /// `AllocError` if memory is refused. The table is as it was.
+    /// `AllocError` if memory is refused. The table is unchanged then.
     pub fn intern(&mut self, name: &str) -> Result<NameId, AllocError>
         ensures ok { OnOk result (self.new ≡ with_name self.old name.now) }
         ensures found { IfOk result (λ at. place_of self.new name.now ≡ Some at) }
@@ -59,11 +59,11 @@ impl NameTable {
         Ok(place)
     }
 
-    /// A class has a name under this number, unless it has it already.
+    /// Sets the number of a name in a class, unless the class has one already.
     ///
     /// # Errors
     ///
-    /// `AllocError` if memory is refused. No name's number has changed then.
+    /// `AllocError` if memory is refused. No number has changed then.
     pub fn add(&mut self, class: TypeId, name: &str, number: u16) -> Result<(), AllocError>
         ensures ok { OnOk result (Adds self.old self.new class name.now number) }
         ensures err { OnErr result (SameNumbers self.old self.new) }
@@ -72,7 +72,7 @@ impl NameTable {
         give_number(&mut self.names[place], class.index(), number)
     }
 
-    /// Each class that has no number of its own under a name gets that of its parent, if its parent has one, from the root down.
+    /// For each name, lets each class without a number inherit the number of its parent, if the parent has one, from the root down.
     ///
     /// # Errors
     ///
@@ -86,7 +86,7 @@ impl NameTable {
         Ok(())
     }
 
-    /// Where a name is, if some class has it.
+    /// Returns the index of a name, or `None` if the table does not have it.
     pub fn find(&self, name: &str) -> Option<NameId>
         ensures found { result ≡ place_of self.now name.now }
         ensures called { IfSome result (λ at. option_map (λ n. n.name) (slice_get self.now at) ≡ Some name.now) }
@@ -94,7 +94,7 @@ impl NameTable {
         self.names.get_index_of(name)
     }
 
-    /// The number that a class has a name under.
+    /// Returns the number that a name has in a class.
     pub fn number(&self, class: TypeId, name: NameId) -> Option<u16>
         ensures { result ≡ number_at self.now class name }
     {
@@ -102,7 +102,7 @@ impl NameTable {
         *numbers.get(class.index())?
     }
 
-    /// The text of a name.
+    /// Returns the text of a name.
     pub fn name(&self, name: NameId) -> Option<&str>
         ensures { option_map (λ text. text.now) result ≡ option_map (λ n. n.name) (slice_get self.now name) }
     {
@@ -111,7 +111,7 @@ impl NameTable {
     }
 }
 
-// Puts a number at a place of a list, which grows for it, unless a number is there.
+// Sets the number at an index of a list, which grows if needed, unless a number is there already.
 fn give_number(numbers: &mut Vec<Option<u16>>, place: usize, number: u16) -> Result<(), AllocError>
     ensures ok { OnOk result (GivesNumber numbers.old.items numbers.new.items place number) }
     ensures err { OnErr result (ReadsSame numbers.old.items numbers.new.items) }
@@ -125,7 +125,7 @@ fn give_number(numbers: &mut Vec<Option<u16>>, place: usize, number: u16) -> Res
     Ok(())
 }
 
-// Each class without a number gets that of its parent, from the root down.
+// Lets each class without a number inherit the number of its parent, if the parent has one, from the root down.
 fn inherit_numbers(numbers: &mut Vec<Option<u16>>, tree: &TypeTree) -> Result<(), AllocError>
     ensures { OnOk result (InheritsNumbers tree.now numbers.old.items numbers.new.items) }
 {
@@ -137,7 +137,7 @@ fn inherit_numbers(numbers: &mut Vec<Option<u16>>, tree: &TypeTree) -> Result<()
     Ok(())
 }
 
-// A class without a number gets that of its parent, if its parent has one.
+// Lets a class without a number inherit the number of its parent, if the parent has one.
 fn inherit_number(
     numbers: &mut Vec<Option<u16>>,
     tree: &TypeTree,
@@ -151,7 +151,7 @@ fn inherit_number(
     }
 }
 
-// The number of a class's parent.
+// Returns the number of a class's parent.
 fn parent_number(numbers: &[Option<u16>], tree: &TypeTree, class: TypeId) -> Option<u16>
     ensures { result ≡ parent_number tree.now numbers.now class }
 {

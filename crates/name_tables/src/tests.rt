@@ -1,4 +1,4 @@
-//! What no proof shows: that a call succeeds, and that the clauses mean what a reader expects.
+//! Tests of what no proof shows: that calls succeed, and that the clauses mean what a reader expects.
 
 use crate::NameTable;
 use std::alloc::{AllocError, Global};
@@ -60,7 +60,8 @@ fn a_name_keeps_the_place_that_it_got(rt: HostRuntime) -> Result<(), Fail> {
     Ok(())
 }
 
-// A tree in which a widget is 2, a button under it 3, a toggle under that 4, a label under the widget 5, and a timer of another line 6.
+// Creates a tree in which a widget is 2, a button under it 3, a toggle under that 4, a label under the widget 5, and a timer that is no
+// widget 6.
 fn widgets(alloc: Global) -> Result<TypeTree, AllocError> {
     let mut tree = TypeTree::new(alloc)?;
     for (name, parent) in [

@@ -9,16 +9,16 @@ ghost use Rattle.named_peers.specs.NamedPeers.{IsSought, named_of_kind, peers_of
 use definitions::{Definition, ObjectEntry};
 use type_tree::TypeId;
 
-/// What a search for the peer of a number came to.
+/// The result of a search for the peer with a number.
 #[derive(Clone, Copy)]
 pub(crate) enum Sought<'a> {
-    /// Its name, and the name of its shape.
+    /// The name of the peer, and the name of its shape.
     Found(&'a str, &'a str),
-    /// It comes so many peers after the last.
+    /// There are fewer peers. The value is the number minus the number of peers searched.
     Beyond(usize),
 }
 
-// The name of the shape of a class, if it has one.
+// Returns the name of a class's shape, if it has one.
 fn shape_name(definition: &Definition, class: TypeId) -> Option<&str>
     ensures { option_map (λ s. s.now) result ≡ shape_name definition.now class }
 {
@@ -27,7 +27,7 @@ fn shape_name(definition: &Definition, class: TypeId) -> Option<&str>
     Some(definition.shape_name(number))
 }
 
-// The peer of a number among these names, which have one shape.
+// Searches for the peer with a number among these names, which all have this shape. Without a shape there are no peers.
 fn among<'a>(names: &'a [String], shape: Option<&'a str>, number: usize) -> Sought<'a>
     ensures { IsSought (with_shape (option_map (λ s. s.now) shape.entry) (name_bytes names.now)) number result }
 {
@@ -40,7 +40,8 @@ fn among<'a>(names: &'a [String], shape: Option<&'a str>, number: usize) -> Soug
     }
 }
 
-// The peer of a number among those that a place names, if it is a prototype, or an object.
+// Searches for the peer with a number among those that a place names. Only prototypes count if `is_prototype` is true, and only objects if
+// it is false.
 fn at_place<'a>(
     definition: &'a Definition,
     entry: &ObjectEntry<'a>,
@@ -56,7 +57,7 @@ fn at_place<'a>(
     }
 }
 
-// The peer of a number among those that all prototypes name, or all objects.
+// Searches for the peer with a number among those that all prototypes name, or all objects.
 fn among_places(definition: &Definition, is_prototype: bool, number: usize) -> Sought<'_>
     ensures { IsSought (flat_map (named_of_kind definition.now is_prototype) definition.now.places) number result }
 {
@@ -73,8 +74,8 @@ fn among_places(definition: &Definition, is_prototype: bool, number: usize) -> S
     Sought::Beyond(left)
 }
 
-/// The name of the k-th peer that a definition names, counted from 0, and the name of the shape of its class; none where there are not so many.
-/// Those that prototypes name come first, then those that objects name, in document order. It takes no memory.
+/// Returns the name of the k-th peer that a definition names, counted from 0, and the name of the shape of its class. Returns `None` if
+/// there are not so many. Peers that prototypes name come first, then those that objects name, in document order. Takes no memory.
 pub fn peers(definition: &Definition, k: usize) -> Option<(&str, &str)>
     ensures { option_map (λ p. (p.0.now, p.1.now)) result ≡ slice_get (peers_of definition.now) k }
 {

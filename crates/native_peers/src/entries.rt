@@ -1,4 +1,4 @@
-//! Peers under their names.
+//! A peer of a pool together with its name.
 
 ghost use Rattle.std.specs.Prelude.{◌≡◌, IsTrue, map, string_bytes};
 ghost use Rattle.g_values.specs.View.{value_view};
@@ -11,7 +11,7 @@ use crate::peers::Peer;
 use g_values::Value;
 use peer_shapes::Method;
 
-// A peer of a pool.
+// A peer of a pool with its name.
 #[derive(Drop)]
 pub(crate) struct NamedPeer {
     pub(crate) name: String,
@@ -19,7 +19,7 @@ pub(crate) struct NamedPeer {
 }
 
 impl NamedPeer {
-    // Whether it has this name.
+    // Returns whether the peer has this name.
     #[tactic(auto, using(g_values::proofs::Texts::same_bytes))]
     pub(crate) fn has_name(&self, name: &str) -> bool
         ensures { result ≡ same_name (string_bytes self.now.name) name.now }
@@ -27,14 +27,14 @@ impl NamedPeer {
         self.name.as_str() == name
     }
 
-    // Whether it may be called.
+    // Returns whether the peer may be called.
     pub(crate) fn is_open(&self) -> bool
         ensures { result ≡ (state self.now.peer).is_open }
     {
         self.peer.is_open()
     }
 
-    // Its methods.
+    // Returns the peer's methods.
     pub(crate) fn shape(&self) -> &[Method]
         ensures methods { map method_view result.now ≡ (state self.now.peer).shape }
         ensures plain { IsTrue (is_plain_shape (state self.now.peer).shape) }
@@ -42,7 +42,7 @@ impl NamedPeer {
         self.peer.shape()
     }
 
-    // Calls a method of it.
+    // Calls a method of the peer.
     pub(crate) fn invoke(&mut self, method: usize, args: &[Value]) -> Result<Value, PeerFault>
         requires open { IsTrue (state self.now.peer).is_open }
         requires args { ArgsFit (state self.now.peer) method (map value_view args.now) }
@@ -53,7 +53,7 @@ impl NamedPeer {
         self.peer.invoke(method, args)
     }
 
-    // Closes it.
+    // Closes the peer.
     pub(crate) fn close(&mut self)
         requires { IsTrue (state self.now.peer).is_open }
         ensures name { self.new.name ≡ self.old.name }

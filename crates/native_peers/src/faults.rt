@@ -1,34 +1,34 @@
-//! What peers and pools refuse.
+//! The faults of peers and pools.
 
 use crate::peers::Peer;
 
-/// The one fault of a call. A peer whose own code finds no memory answers it too.
+/// The only fault of a call. A peer whose own code runs out of memory returns it too.
 #[derive(Clone, Copy, Debug, PartialEq, Eq)]
 pub struct PeerFault;
 
-/// Why a peer was not added.
+/// The reason for which a peer was not added.
 #[derive(Clone, Copy, Debug, PartialEq, Eq)]
 pub enum AddFault {
-    /// The pool has a peer of this name.
+    /// The pool has a peer of this name already.
     DuplicatePeer,
     OutOfMemory,
 }
 
-/// A peer that was not added, handed back.
+/// The error of an addition, which hands the peer back.
 #[derive(Drop)]
 pub struct NotAdded {
     pub fault: AddFault,
     pub peer: Box<dyn Peer>,
 }
 
-/// How a pool fails to match what is needed, with the name of the peer.
+/// A mismatch between a pool and what is needed, with the name of the peer.
 #[derive(Clone, Copy, Debug, PartialEq, Eq)]
 pub enum MatchFault<'a> {
-    /// No peer has the name of a need.
+    /// The pool has no peer of the name that is needed.
     PeerMissing(&'a str),
-    /// The peer of a need is closed.
+    /// The peer that is needed is closed.
     PeerClosed(&'a str),
-    /// The peer of a need has other methods, or has them in another order.
+    /// The peer that is needed has other methods, or has them in another order.
     PeerShape(&'a str),
     /// Nothing needs this peer.
     PeerUnused(&'a str),

@@ -1,4 +1,4 @@
-//! Kinds, compared.
+//! Comparisons of kinds.
 
 ghost use Rattle.std.specs.Prelude.{◌≡◌, map};
 ghost use Rattle.ui_machine.specs.Definition.Kinds as kinds;
@@ -9,7 +9,7 @@ ghost use Rattle.law_pools.specs.Needs.{same_kinds};
 use g_values::Kind;
 use type_tree::TypeId;
 
-// Whether it is the kind of an enum.
+// Returns whether a kind is the enum `t`.
 fn is_enum(kind: Kind, t: TypeId) -> bool
     ensures { result ≡ same_kind (kinds.enum t) (kind_view kind) }
 {
@@ -19,7 +19,7 @@ fn is_enum(kind: Kind, t: TypeId) -> bool
     }
 }
 
-// Whether it is that of a flags type.
+// Returns whether a kind is the flags type `t`.
 fn is_flags(kind: Kind, t: TypeId) -> bool
     ensures { result ≡ same_kind (kinds.flags t) (kind_view kind) }
 {
@@ -29,7 +29,7 @@ fn is_flags(kind: Kind, t: TypeId) -> bool
     }
 }
 
-// Whether it is that of objects of a type.
+// Returns whether a kind is for objects of type `t`.
 fn is_object(kind: Kind, t: TypeId) -> bool
     ensures { result ≡ same_kind (kinds.object t) (kind_view kind) }
 {
@@ -39,7 +39,7 @@ fn is_object(kind: Kind, t: TypeId) -> bool
     }
 }
 
-// Whether two kinds are one.
+// Returns whether two kinds are the same.
 pub(crate) fn is_same_kind(left: Kind, right: Kind) -> bool
     ensures { result ≡ same_kind (kind_view left) (kind_view right) }
 {
@@ -56,7 +56,7 @@ pub(crate) fn is_same_kind(left: Kind, right: Kind) -> bool
     }
 }
 
-// Whether two lists have the same kinds in the same order.
+// Returns whether two lists have the same kinds in the same order.
 pub(crate) fn is_same_list(left: &[Kind], right: &[Kind]) -> bool
     ensures { result ≡ same_kinds (map kind_view left.now) (map kind_view right.now) }
 {

@@ -1,10 +1,10 @@
-//! Peers: objects of the host, which an object of a class with a shape calls.
+//! Peers, which are objects of the host that an object of a class with a shape calls.
 //!
-//! A peer is a box that the host hands in under a name. It has a shape, which is a list of methods, and it is open until it is closed. A
-//! contract sees it by its state: its shape, whether it is open, how often it was called and how often it faulted, and a list of values that
-//! only its own implementation explains. What it may answer in a state, and where it goes, is a relation that each implementation gives. A
-//! pool is a list of names and boxes in the order of adding. What holds a session is generic over its peers ([`Peers`]), which are those of
-//! a pool, or one that stands in ([`StandIn`]), or none.
+//! A peer is a box that the host hands in under a name. It has a shape, which is a list of methods, and is open until it is closed. A
+//! contract sees it by its state: its shape, whether it is open, how often it was called and how often it faulted, and a list of values
+//! that only its own implementation explains. Each implementation gives a relation that says what the peer may answer in a state and which
+//! state comes next. A pool is a list of names and boxes in the order in which they were added. Code that holds a session is generic over
+//! its peers ([`Peers`]): the peers of a pool, or a single placeholder ([`StandIn`]), or none.
 #![tactic(auto)]
 
 mod entries;

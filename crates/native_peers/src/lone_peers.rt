@@ -1,4 +1,4 @@
-//! The peers of a session that has one stand-in, or none.
+//! The peers of a session that has one placeholder or none.
 
 ghost use Rattle.std.specs.Prelude.{◌≡◌, ◌∷◌, [], IsTrue, map, string_bytes, true};
 ghost use Rattle.ui_machine.specs.Definition.Names.{same_name};
@@ -16,7 +16,7 @@ use g_values::Value;
 use peer_shapes::Method;
 
 impl StandIn {
-    /// An open one that was not called. All kinds of its methods are plain.
+    /// Creates an open peer that was not called yet. All kinds of its methods are plain.
     pub fn new(name: String, methods: Vec<Method>) -> Self
         requires { IsTrue (is_plain_shape (map method_view methods.items)) }
         ensures { seen_of result ≡ record { name = string_bytes name; state = record { shape = map method_view methods.items; is_open = true; calls = 0; faults = 0; values = [] } } }
@@ -29,7 +29,7 @@ impl StandIn {
         }
     }
 
-    // Whether it has this name.
+    // Returns whether the peer has this name.
     #[tactic(auto, using(g_values::proofs::Texts::same_bytes))]
     fn has_name(&self, name: &str) -> bool
         ensures { result ≡ same_name (string_bytes self.now.name) name.now }
@@ -37,7 +37,7 @@ impl StandIn {
         self.name.as_str() == name
     }
 
-    // Whether it is the peer of a need, and as that should be.
+    // Checks that this is the peer of a need, open and of the right shape.
     fn serves<'a>(&self, need: &Need<'a>) -> Result<(), MatchFault<'a>>
         ensures { mismatch_of result ≡ wrong_with (need_view need.now) (peer_named (as_peer (seen_of self.now) ∷ []) need.now.name.now) }
     {
@@ -53,7 +53,7 @@ impl StandIn {
         Ok(())
     }
 
-    // Whether it is the peer of each need, and as that should be.
+    // Checks that this is the peer of each need, open and of the right shape.
     fn serves_all<'a>(&self, needs: &[Need<'a>]) -> Result<(), MatchFault<'a>>
         ensures { mismatch_of result ≡ first_wrong (as_peer (seen_of self.now) ∷ []) (map need_view needs.now) }
     {
@@ -63,7 +63,7 @@ impl StandIn {
         Ok(())
     }
 
-    // Whether something needs it.
+    // Checks that some need has the name of this peer.
     fn used<'a>(&'a self, needs: &[Need<'_>]) -> Result<(), MatchFault<'a>>
         ensures { mismatch_of result ≡ first_unused (map need_view needs.now) (as_peer (seen_of self.now) ∷ []) }
     {
@@ -76,7 +76,7 @@ impl StandIn {
     }
 }
 
-// Whether nothing is needed.
+// Checks that there are no needs.
 fn none_needed<'a>(needs: &[Need<'a>]) -> Result<(), MatchFault<'a>>
     ensures { mismatch_of result ≡ mismatch_with (map need_view needs.now) [] }
 {

@@ -1,4 +1,4 @@
-//! The peers of a pool: how they are added, found, asked, closed and taken.
+//! The operations on a pool: adding, finding, calling, closing and taking its peers.
 
 ghost use Rattle.std.specs.Prelude.{◌≡◌, ◌<◌, ◌↔◌, [], IfErr, IsSome, IsSomeAnd, IsTrue, None, OnErr, OnOk, Some, length, map, option_and_then, option_map, remove, slice_get, string_bytes};
 ghost use Rattle.std.specs.Option.{option_map_or};
@@ -19,7 +19,7 @@ use std::alloc::Global;
 use std::collections::BTreeMap;
 
 impl PeerPool {
-    /// A pool without peers. It takes no memory.
+    /// Creates a pool without peers. Takes no memory.
     pub fn new(alloc: Global) -> Self
         ensures { entries result ≡ [] }
     {
@@ -29,14 +29,14 @@ impl PeerPool {
         }
     }
 
-    /// How many peers there are.
+    /// Returns the number of peers.
     pub fn left(&self) -> usize
         ensures { result ≡ length (entries self.now) }
     {
         self.peers.len()
     }
 
-    /// The name of the k-th peer.
+    /// Returns the name of the k-th peer.
     pub fn name(&self, k: usize) -> &str
         requires { k < length (entries self.now) }
         ensures { IsSomeAnd (slice_get (entries self.now) k) (λ p. result.now ≡ string_bytes p.name) }
@@ -44,7 +44,7 @@ impl PeerPool {
         self.peers[k].name.as_str()
     }
 
-    /// Whether the k-th peer may be called.
+    /// Returns whether the k-th peer may be called.
     pub fn is_open(&self, k: usize) -> bool
         requires { k < length (entries self.now) }
         ensures { IsSomeAnd (slice_get (entries self.now) k) (λ p. result ≡ (state p.peer).is_open) }
@@ -52,7 +52,7 @@ impl PeerPool {
         self.peers[k].is_open()
     }
 
-    /// The methods of the k-th peer. All their kinds are plain.
+    /// Returns the methods of the k-th peer. All their kinds are plain.
     pub fn shape(&self, k: usize) -> &[Method]
         requires { k < length (entries self.now) }
         ensures methods { IsSomeAnd (slice_get (entries self.now) k) (λ p. map method_view result.now ≡ (state p.peer).shape) }
@@ -65,7 +65,7 @@ impl PeerPool {
     ///
     /// # Errors
     ///
-    /// `PeerFault` where the peer answers no value.
+    /// Returns `PeerFault` if the peer answers no value.
     pub fn invoke(&mut self, k: usize, method: usize, args: &[Value]) -> Result<Value, PeerFault>
         requires open { IsSomeAnd (slice_get (entries self.now) k) (λ p. IsTrue (state p.peer).is_open) }
         requires args { IsSomeAnd (slice_get (entries self.now) k) (λ p. ArgsFit (state p.peer) method (map value_view args.now)) }
@@ -85,7 +85,7 @@ impl PeerPool {
         self.peers[k].close();
     }
 
-    // The number of the first peer of a name. It goes through the peers.
+    // Returns the number of the first peer with this name. Walks over the peers.
     fn first_named(&self, name: &str) -> Option<usize>
         ensures { result ≡ number_of (entries self.now) name.now }
     {
@@ -97,7 +97,8 @@ impl PeerPool {
         None
     }
 
-    /// The number of the peer of a name. It is looked up; once a peer was taken out of the pool, it is looked for from the first one on.
+    /// Returns the number of the peer with this name. Looks it up in a map, or walks over the peers from the first one on once a peer was
+    /// taken out of the pool.
     pub fn find(&self, name: &str) -> Option<usize>
         ensures { result ≡ number_of (entries self.now) name.now }
     {
@@ -111,7 +112,8 @@ impl PeerPool {
     ///
     /// # Errors
     ///
-    /// `DuplicatePeer` exactly where a peer of the name is there, then `OutOfMemory`. Both hand the box back.
+    /// Returns `DuplicatePeer` if and only if the pool has a peer of this name, otherwise `OutOfMemory` if memory is refused. Both hand the
+    /// box back.
     pub fn add(&mut self, name: &str, peer: Box<dyn Peer>) -> Result<(), NotAdded>
         ensures ok { OnOk result (AppendsOne (λ p. (string_bytes p.name ≡ name.now) × (p.peer ≡ peer)) (entries self.old) (entries self.new)) }
         ensures fresh { OnOk result (number_of (entries self.old) name.now ≡ None) }
@@ -131,14 +133,14 @@ impl PeerPool {
                 peer,
             });
         };
-        // There is room.
+        // `make_room` has reserved the room.
         let Ok(()) = self.peers.push(NamedPeer { name, peer }) else {
             unreachable!()
         };
         Ok(())
     }
 
-    /// Takes the peer of a name out of the pool.
+    /// Removes the peer with this name from the pool and returns it, or returns `None` if there is none.
     pub fn take(&mut self, name: &str) -> Option<Box<dyn Peer>>
         ensures taken { result ≡ option_map (λ p. p.peer) (option_and_then (slice_get (entries self.old)) (number_of (entries self.old) name.now)) }
         ensures left { entries self.new ≡ option_map_or (remove (entries self.old)) (number_of (entries self.old) name.now) (entries self.old) }

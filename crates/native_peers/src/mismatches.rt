@@ -1,4 +1,4 @@
-//! How pools fail to match what is needed.
+//! Checks that a pool has exactly the peers that are needed.
 
 ghost use Rattle.std.specs.Prelude.{◌≡◌, ◌∷◌, [], IsTrue, Some, map, option_map, true};
 ghost use Rattle.std.specs.List.{list_any};
@@ -16,7 +16,7 @@ use crate::pools::PeerPool;
 use crate::shapes::is_same_shape;
 use peer_shapes::{Method, Shape};
 
-// Whether a peer with these methods is of the shape that is needed. Where none is needed, no peer is.
+// Returns whether these are the methods of the shape that is needed. False if no shape is given.
 pub(crate) fn has_shape(needed: Option<&Shape>, methods: &[Method]) -> bool
     ensures { result ≡ is_shaped (option_map (λ s. s.now) needed.entry) (map method_view methods.now) }
 {
@@ -26,7 +26,7 @@ pub(crate) fn has_shape(needed: Option<&Shape>, methods: &[Method]) -> bool
     }
 }
 
-// Whether this peer, which has the name of a need, is as it should be.
+// Checks that a peer with the name of a need is open and of the right shape.
 fn fits<'a>(peer: &NamedPeer, need: &Need<'a>) -> Result<(), MatchFault<'a>>
     ensures { mismatch_of result ≡ wrong_with (need_view need.now) (Some (as_peer (seen_one (state peer.now.peer) peer.now))) }
 {
@@ -39,7 +39,7 @@ fn fits<'a>(peer: &NamedPeer, need: &Need<'a>) -> Result<(), MatchFault<'a>>
     Ok(())
 }
 
-// Whether the need of a number is of the peer of a name.
+// Returns whether the need of this number has this name.
 fn is_of(needs: &[Need<'_>], number: usize, name: &str) -> bool
     ensures { IsTrue result → list_any (λ n. same_name n.name.now name.now) needs.now ≡ true }
 {
@@ -49,7 +49,7 @@ fn is_of(needs: &[Need<'_>], number: usize, name: &str) -> bool
     }
 }
 
-// Whether something needs the peer of a name, most likely the need of this number.
+// Returns whether some need has this name. Looks at the need of number `likely` first.
 pub(crate) fn is_needed(name: &str, needs: &[Need<'_>], likely: usize) -> bool
     ensures { result ≡ list_any (λ n. same_name n.name.now name.now) needs.now }
 {
@@ -59,7 +59,7 @@ pub(crate) fn is_needed(name: &str, needs: &[Need<'_>], likely: usize) -> bool
     needs.iter().any(|need| need.has_name(name))
 }
 
-// Whether something needs this peer, most likely the need of this number.
+// Checks that some need has the name of this peer. Looks at the need of number `likely` first.
 fn used<'a>(peer: &'a NamedPeer, needs: &[Need<'_>], likely: usize) -> Result<(), MatchFault<'a>>
     ensures { mismatch_of result ≡ first_unused (map need_view needs.now) (as_peer (seen_one (state peer.now.peer) peer.now) ∷ []) }
 {
@@ -72,7 +72,7 @@ fn used<'a>(peer: &'a NamedPeer, needs: &[Need<'_>], likely: usize) -> Result<()
 }
 
 impl PeerPool {
-    // Whether the peer of a need is as it should be.
+    // Checks that the pool has the peer of a need, open and of the right shape.
     fn serves<'a>(&self, need: &Need<'a>) -> Result<(), MatchFault<'a>>
         ensures { mismatch_of result ≡ wrong_with (need_view need.now)
             (peer_named (as_peers (seen (λ p. state p.peer) (entries self.now))) need.now.name.now) }
@@ -83,7 +83,7 @@ impl PeerPool {
         }
     }
 
-    // Whether the peers of all needs are as they should be.
+    // Checks that the pool has the peer of each need, open and of the right shape.
     fn serves_all<'a>(&self, needs: &[Need<'a>]) -> Result<(), MatchFault<'a>>
         ensures { mismatch_of result ≡ first_wrong (as_peers (seen (λ p. state p.peer) (entries self.now))) (map need_view needs.now) }
     {
@@ -93,7 +93,7 @@ impl PeerPool {
         Ok(())
     }
 
-    // Whether all peers are needed. In a pool that was made from the needs each peer is found at its own number.
+    // Checks that all peers are needed. In a pool that was made from the needs, each peer is found at its own number.
     fn used_up<'a>(&'a self, needs: &[Need<'_>]) -> Result<(), MatchFault<'a>>
         ensures { mismatch_of result ≡ first_unused (map need_view needs.now) (as_peers (seen (λ p. state p.peer) (entries self.now))) }
     {
@@ -103,12 +103,12 @@ impl PeerPool {
         Ok(())
     }
 
-    /// Whether the pool has just the peers that are needed, open and of the right shapes. It takes no memory.
+    /// Checks that the pool has exactly the peers that are needed, open and of the right shapes. Takes no memory.
     ///
     /// # Errors
     ///
-    /// For the first need whose peer is not as it should be `PeerMissing`, `PeerClosed` or `PeerShape`, in this order, then `PeerUnused` for
-    /// the first peer that nothing needs.
+    /// Returns `PeerMissing`, `PeerClosed` or `PeerShape`, in this order, for the first need whose peer is missing or wrong, otherwise
+    /// `PeerUnused` for the first peer that nothing needs.
     pub fn matches<'a>(&'a self, needs: &'a [Need<'a>]) -> Result<(), MatchFault<'a>>
         ensures { mismatch_of result ≡ mismatch_with (map need_view needs.now) (as_peers (seen (λ p. state p.peer) (entries self.now))) }
     {

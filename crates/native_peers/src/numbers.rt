@@ -1,4 +1,4 @@
-//! The numbers of names, kept so that a peer is found without going through the pool.
+//! A map from names to numbers, by which a peer is found without walking over the pool.
 
 ghost use Rattle.std.specs.Prelude.{◌≡◌, ◌<◌, List, Option, Some, IfOk, OnErr, OnOk, bytes_eq, if◌then◌else◌, length, string_bytes, vec_capacity, vec_len, ℕ};
 ghost use Rattle.native_peers.specs.Numbers.{AreNumbers};
@@ -7,7 +7,7 @@ use crate::entries::NamedPeer;
 use std::alloc::{AllocError, Global};
 use std::collections::BTreeMap;
 
-// Gives a name its number, if numbers are kept.
+// Stores the number of a name, if numbers are kept.
 fn note(
     numbers: &mut Option<BTreeMap<String, usize>>,
     alloc: Global,
@@ -26,7 +26,7 @@ fn note(
     Ok(())
 }
 
-// Makes room for one peer more, and gives its name the number that the peer will have. It answers the name.
+// Reserves room for one more peer, stores the number that it will have under its name, and returns an owned copy of the name.
 pub(crate) fn make_room(
     peers: &mut Vec<NamedPeer>,
     numbers: &mut Option<BTreeMap<String, usize>>,

@@ -10,29 +10,30 @@ use crate::faults::PeerFault;
 use g_values::Value;
 use peer_shapes::Method;
 
-/// An object of the host, known by its shape, whether it is open, and its calls and faults.
+/// An object of the host. Contracts see its shape, whether it is open, and its calls and faults.
 pub trait Peer: Drop {
-    /// What is known of the peer.
+    /// The state of the peer.
     ghost state: { Self → PeerState };
 
-    /// What it may answer in a state, and where it goes. This never changes.
+    /// The relation between a state, a call, the answer to it and the next state. It never changes.
     ghost moves: { Self → Relation };
 
-    /// Its methods. All their kinds are plain.
+    /// Returns the methods. All their kinds are plain.
     fn shape(&self) -> &[Method]
         ensures methods { map method_view result.now ≡ (state self.now).shape }
         ensures plain { IsTrue (is_plain_shape (state self.now).shape) };
 
-    /// Whether it may be called.
+    /// Returns whether the peer may be called.
     fn is_open(&self) -> bool
         ensures { result ≡ (state self.now).is_open };
 
-    /// Calls the method of a number of its shape, with arguments of the method's kinds. Its state goes by its relation, also on a fault. It
-    /// counts the call, and the fault if there is one, and answers a value of the method's result kind; a text has at most 4,096 bytes.
+    /// Calls the method with this number in the shape, with arguments of the method's kinds. The state changes as the relation says, also
+    /// on a fault. Counts the call, and the fault if there is one, and returns a value of the method's result kind. A text has at most
+    /// 4,096 bytes.
     ///
     /// # Errors
     ///
-    /// `PeerFault` where the peer answers no value.
+    /// Returns `PeerFault` if the peer answers no value.
     fn invoke(&mut self, method: usize, args: &[Value]) -> Result<Value, PeerFault>
         requires open { IsTrue (state self.now).is_open }
         requires args { ArgsFit (state self.now) method (map value_view args.now) }
@@ -40,13 +41,13 @@ pub trait Peer: Drop {
         ensures same_moves { SameMoves (moves self.old) (moves self.new) }
         ensures keeps { Keeps method (answer_of result) (state self.old) (state self.new) };
 
-    /// Closes it. It keeps all else.
+    /// Closes the peer. All else stays as it is.
     fn close(&mut self)
         requires { IsTrue (state self.now).is_open }
         ensures closed { state self.new ≡ closed (state self.old) }
         ensures same_moves { SameMoves (moves self.old) (moves self.new) };
 
-    /// How often it was called, and how often it faulted, modulo 2^64.
+    /// Returns how often the peer was called and how often it faulted, both modulo 2^64.
     fn counts(&self) -> (u64, u64)
         ensures { result ≡ ((state self.now).calls, (state self.now).faults) };
 }

@@ -1,4 +1,4 @@
-//! Peers by their numbers, as a session has them.
+//! The trait by which a session uses its peers.
 
 ghost use Rattle.std.specs.Prelude.{◌≡◌, ◌<◌, IsSomeAnd, IsTrue, List, length, map, slice_get, true};
 ghost use Rattle.g_values.specs.View.{value_view};
@@ -18,32 +18,32 @@ use crate::pools::PeerPool;
 use g_values::Value;
 use peer_shapes::Method;
 
-/// The peers that a session has, each under a name and a number: those of a [`PeerPool`], or an `Option` of a
-/// [`StandIn`](crate::StandIn). No two are under one name. A function that holds a session is generic over them.
+/// The peers of a session, each under a distinct name and a number: a [`PeerPool`], or an `Option` of a [`StandIn`](crate::StandIn).
+/// Functions that hold a session are generic over them.
 pub trait Peers: Drop {
-    /// What is known of each, by its number.
+    /// The name and state of each peer, by its number.
     ghost seen: { Self → List Seen };
 
-    /// What each may answer in a state, and where it goes, by its number. This never changes.
+    /// The relation of each peer, by its number. It never changes.
     ghost relations: { Self → Relations };
 
-    /// How many there are.
+    /// Returns the number of peers.
     fn left(&self) -> usize
         ensures count { result ≡ length (seen self.now) }
         ensures apart { no_two same_name (map (λ p. p.name) (seen self.now)) ≡ true };
 
-    /// The name of the k-th peer.
+    /// Returns the name of the k-th peer.
     fn name(&self, k: usize) -> &str
         requires { k < length (seen self.now) }
         ensures { IsSomeAnd (slice_get (seen self.now) k) (λ p. result.now ≡ p.name) };
 
-    /// The methods of the k-th peer. All their kinds are plain.
+    /// Returns the methods of the k-th peer. All their kinds are plain.
     fn shape(&self, k: usize) -> &[Method]
         requires { k < length (seen self.now) }
         ensures methods { IsSomeAnd (slice_get (seen self.now) k) (λ p. map method_view result.now ≡ p.state.shape) }
         ensures plain { IsSomeAnd (slice_get (seen self.now) k) (λ p. IsTrue (is_plain_shape p.state.shape)) };
 
-    /// Whether the k-th peer may be called.
+    /// Returns whether the k-th peer may be called.
     fn is_open(&self, k: usize) -> bool
         requires { k < length (seen self.now) }
         ensures { IsSomeAnd (slice_get (seen self.now) k) (λ p. result ≡ p.state.is_open) };
@@ -52,7 +52,7 @@ pub trait Peers: Drop {
     ///
     /// # Errors
     ///
-    /// `PeerFault` where the peer answers no value.
+    /// Returns `PeerFault` if the peer answers no value.
     fn invoke(&mut self, k: usize, method: usize, args: &[Value]) -> Result<Value, PeerFault>
         requires open { IsSomeAnd (slice_get (seen self.now) k) (λ p. IsTrue p.state.is_open) }
         requires args { IsSomeAnd (slice_get (seen self.now) k) (λ p. ArgsFit p.state method (map value_view args.now)) }
@@ -65,12 +65,12 @@ pub trait Peers: Drop {
         ensures closes { ClosesAt k (seen self.old) (seen self.new) }
         ensures same { SameRelations (relations self.old) (relations self.new) };
 
-    /// Whether there are just the peers that are needed, open and of the right shapes. It takes no memory.
+    /// Checks that there are exactly the peers that are needed, open and of the right shapes. Takes no memory.
     ///
     /// # Errors
     ///
-    /// For the first need whose peer is not as it should be `PeerMissing`, `PeerClosed` or `PeerShape`, in this order, then `PeerUnused` for
-    /// the first peer that nothing needs.
+    /// Returns `PeerMissing`, `PeerClosed` or `PeerShape`, in this order, for the first need whose peer is missing or wrong, otherwise
+    /// `PeerUnused` for the first peer that nothing needs.
     fn matches<'a>(&'a self, needs: &'a [Need<'a>]) -> Result<(), MatchFault<'a>>
         ensures { mismatch_of result ≡ mismatch_with (map need_view needs.now) (as_peers (seen self.now)) };
 }

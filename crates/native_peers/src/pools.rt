@@ -8,11 +8,11 @@ ghost use Rattle.native_peers.specs.Numbers.{AreNumbers};
 use crate::entries::NamedPeer;
 use std::collections::BTreeMap;
 
-/// Peers under their names, no two under one, in the order of adding. A peer's number is its place in that order.
+/// Peers under distinct names, in the order in which they were added. A peer's number is its index in that order.
 #[derive(Drop)]
 pub struct PeerPool {
     pub(crate) peers: Vec<NamedPeer>,
-    // The number of each name, until a peer is taken out: then the numbers behind it are others.
+    // The number of each name. `None` once a peer was taken out, since the numbers of the peers behind it have changed.
     pub(crate) numbers: Option<BTreeMap<String, usize>>,
     ghost apart: { no_two same_name (map (λ p. string_bytes p.name) peers.items) ≡ true },
     ghost numbered: { AreNumbers numbers (place_named (λ p. string_bytes p.name) peers.items) },

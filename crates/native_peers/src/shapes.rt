@@ -1,4 +1,4 @@
-//! Shapes, compared.
+//! Comparisons of shapes.
 
 ghost use Rattle.std.specs.Prelude.{◌≡◌, map};
 ghost use Rattle.law_pools.specs.Needs.{same_method, same_shape};
@@ -9,7 +9,7 @@ use crate::kinds::{is_same_kind, is_same_list};
 use g_values::Kind;
 use peer_shapes::{Method, Shape};
 
-// Whether a method is the one of this name, with these kinds.
+// Returns whether a method has this name and these kinds.
 #[tactic(auto, using(g_values::proofs::Texts::same_bytes))]
 fn is_method(name: &str, params: &[Kind], answer: Kind, method: &Method) -> bool
     ensures { result ≡ same_method (record { name = name.now; params = map kind_view params.now; result = kind_view answer }) (method_view method.now) }
@@ -19,7 +19,7 @@ fn is_method(name: &str, params: &[Kind], answer: Kind, method: &Method) -> bool
         && is_same_kind(answer, method.result)
 }
 
-// Whether a shape has just these methods, in this order.
+// Returns whether a shape has exactly these methods, in this order.
 pub(crate) fn is_same_shape(left: &Shape, right: &[Method]) -> bool
     ensures { result ≡ same_shape left.now (map method_view right.now) }
 {

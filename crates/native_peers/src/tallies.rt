@@ -1,4 +1,4 @@
-//! A worked peer: a tally, which adds whole numbers up.
+//! An example of a peer: a tally, which adds up whole numbers.
 
 ghost use Rattle.std.specs.Prelude.{◌≡◌, ◌∷◌, [], IfOk, IfSome, IsTrue, map, true};
 ghost use Rattle.ui_machine.specs.State.Peers.{PeerState};
@@ -17,7 +17,7 @@ use peer_shapes::{Method, Shape};
 use std::alloc::{AllocError, Global};
 use std::test::Fail;
 
-// A sum, to which `add` adds. A sum that is out of range is a fault.
+// A sum to which `add` adds. An addition that overflows is a fault.
 #[derive(Drop)]
 struct Tally {
     methods: Vec<Method>,
@@ -52,7 +52,7 @@ impl Tally {
     }
 }
 
-// The number of a value of 64 bits with a sign.
+// Returns the number in an `Int64` value, and 0 for other values.
 fn number_in(value: &Value) -> i64
     ensures { result ≡ number_in (value_view value.now) }
 {
@@ -62,7 +62,7 @@ fn number_in(value: &Value) -> i64
     }
 }
 
-// The number of the first argument.
+// Returns the number in the first argument, and 0 without arguments.
 fn first_number(args: &[Value]) -> i64
     ensures { result ≡ first_number (map value_view args.now) }
 {
@@ -72,7 +72,7 @@ fn first_number(args: &[Value]) -> i64
     }
 }
 
-// The sum after a method, if it is in range.
+// Returns the sum after a method, or `None` if it overflows.
 fn sum_after(sum: i64, method: usize, args: &[Value]) -> Option<i64>
     ensures { IfSome result (λ n. n ≡ sum_after sum method (map value_view args.now)) }
 {
@@ -134,7 +134,7 @@ fn shut(pool: &mut PeerPool, k: usize)
     pool.close(k);
 }
 
-// Adds an open tally to a pool without peers, and answers whether it could.
+// Adds an open tally to a pool without peers, and returns whether this succeeded.
 fn add(pool: &mut PeerPool, name: &str, tally: Box<dyn Peer>) -> bool
     requires none { entries pool.now ≡ [] }
     requires shape { (state tally).shape ≡ tally_shape }
@@ -166,7 +166,7 @@ fn a_pool_calls_its_peers(rt: HostRuntime) -> Result<(), Fail> {
     Ok(())
 }
 
-// Adds a method of whole numbers of 64 bits, unless there is one of its name.
+// Adds a method whose kinds are `Int64`, unless there is one with its name.
 fn add_method(
     alloc: Global,
     shape: &mut Shape,

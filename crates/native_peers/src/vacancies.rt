@@ -1,12 +1,12 @@
-//! What stands in for the peers of a run while it has them.
+//! Empty placeholders for the peers of a run while the run owns them.
 
 use crate::pools::PeerPool;
 use crate::stand_ins::StandIn;
 use std::alloc::Global;
 
-/// Peers of which there can be none.
+/// A collection of peers that may be empty.
 pub trait Vacant {
-    /// No peers. It takes no memory.
+    /// Creates an empty collection of peers. Takes no memory.
     fn vacant(alloc: Global) -> Self;
 }
 

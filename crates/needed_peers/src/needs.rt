@@ -1,4 +1,4 @@
-//! What a definition needs of a pool.
+//! The peers that a definition needs of a pool.
 
 ghost use Rattle.std.specs.Prelude.{◌≡◌, ◌++◌, IfOk, OnOk, map, option_map};
 ghost use Rattle.ui_machine.specs.Rules.Construction.{nearest_shape};
@@ -13,7 +13,7 @@ use peer_shapes::Shape;
 use std::alloc::{AllocError, Global};
 use type_tree::TypeId;
 
-// The methods of the shape of a class, if it has one.
+// Returns the methods of the shape of a class, if the class has one.
 fn shape_of(definition: &Definition, class: TypeId) -> Option<&Shape>
     ensures { option_map (λ s. s.now) result ≡ methods_in definition.now (nearest_shape definition.now class) }
 {
@@ -21,7 +21,7 @@ fn shape_of(definition: &Definition, class: TypeId) -> Option<&Shape>
     definition.shape(number)
 }
 
-// Adds what a place needs.
+// Adds the needs of a place.
 fn add_place<'a>(
     needs: &mut Vec<Need<'a>>,
     definition: &'a Definition,
@@ -39,7 +39,7 @@ fn add_place<'a>(
     Ok(())
 }
 
-// Adds what all prototypes need, or all objects.
+// Adds the needs of all prototypes, or of all objects.
 fn add_places<'a>(
     needs: &mut Vec<Need<'a>>,
     definition: &'a Definition,
@@ -58,8 +58,8 @@ fn add_places<'a>(
     Ok(())
 }
 
-/// What a definition needs: the peers that its prototypes name, and then those that its objects name, in document order, each with the methods
-/// of its class's shape.
+/// Returns what a definition needs: the peers that its prototypes name, and then those that its objects name, in document order, each with
+/// the methods of its class's shape.
 ///
 /// # Errors
 ///

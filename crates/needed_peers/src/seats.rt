@@ -11,7 +11,7 @@ use native_peers::{Need, Peers};
 use peer_shapes::Shape;
 use std::alloc::{AllocError, Global};
 
-// The shape of the first need of a name.
+// Returns the shape of the first need with this name, if it has one.
 fn first_shape<'a>(needs: &[Need<'a>], name: &str) -> Option<&'a Shape>
     ensures { option_map (λ s. s.now) result ≡ shape_needed (map need_view needs.now) name.now }
 {
@@ -23,7 +23,7 @@ fn first_shape<'a>(needs: &[Need<'a>], name: &str) -> Option<&'a Shape>
     None
 }
 
-// The shape of a need of a name: of the need of this number, if it is of that name, and else of the first that is.
+// Returns the shape of a need with this name. Looks at the need with number `likely` first, and otherwise takes the first with the name.
 fn shape_for<'a>(needs: &[Need<'a>], likely: usize, name: &str) -> Option<&'a Shape>
     ensures { option_map (λ s. s.now) result ≡ shape_likely (map need_view needs.now) likely name.now }
 {
@@ -37,7 +37,8 @@ fn shape_for<'a>(needs: &[Need<'a>], likely: usize, name: &str) -> Option<&'a Sh
     }
 }
 
-/// The peers of a session that match what is needed, in their order: each under its name and with its methods, no object's, and open as it is.
+/// Returns the seats of a pool that matches the needs, in the order of its peers: each with its name and its methods, open if the peer is
+/// open, and got by no object.
 ///
 /// # Errors
 ///

@@ -1,4 +1,4 @@
-//! How many nodes that count are on the longest chain that ends in a node.
+//! The ranks of nodes: how many nodes that count are on the longest chain that ends in each node.
 
 ghost use Rattle.std.specs.Prelude.{◌≡◌, ◌<◌, ◌≤◌, ℕ, length, replicate, slice_index_or, false, IfOk};
 ghost use Rattle.dependency_order.specs.Graphs.{IsOrder};
@@ -8,7 +8,7 @@ ghost use Rattle.node_numbers.specs.Numbers.{AreWithin, LeadInside};
 use dependency_order::Dependencies;
 use std::alloc::{AllocError, Global};
 
-// Raises the numbers of some nodes to this one, where they are less.
+// Raises the numbers of some nodes to `number` where they are less.
 fn hand_on(ranks: &mut Vec<u64>, nodes: &[u32], number: u64)
     requires { LeadInside nodes.now ranks.old.items }
     ensures { ranks.new.items ≡ handed_on nodes.now number ranks.old.items }
@@ -19,14 +19,14 @@ fn hand_on(ranks: &mut Vec<u64>, nodes: &[u32], number: u64)
     }
 }
 
-// A list of `count` zeros.
+// Returns a list of `count` zeros.
 fn zeros(alloc: Global, count: usize) -> Result<Vec<u64>, AllocError>
     ensures { IfOk result (λ zeros. zeros.items ≡ replicate count 0) }
 {
     Ok(vec![in alloc; 0; count]?)
 }
 
-// 1 for a node that counts, else 0.
+// Returns 1 for a node that counts, or else 0.
 fn one_if(counts: &[bool], node: usize) -> u64
     requires { node < length counts.now }
     ensures { result ≡ one_if (slice_index_or counts.now node false) }
@@ -34,12 +34,12 @@ fn one_if(counts: &[bool], node: usize) -> u64
     if counts[node] { 1 } else { 0 }
 }
 
-/// Of each node, how many nodes that count come before it on the longest chain that ends in it, where each node of a chain depends on the next
-/// one. No number is above that of the nodes.
+/// Returns the rank of each node, which is the number of nodes that count and come before it on the longest chain that ends in it. Each
+/// node of a chain depends on the next one. No rank is above the number of nodes.
 ///
 /// # Errors
 ///
-/// `AllocError` where no memory is found.
+/// `AllocError` if memory is refused.
 pub fn ranks(
     alloc: Global,
     counts: &[bool],

@@ -1,9 +1,9 @@
-//! Numbers of the nodes of a graph in which nodes depend on one another.
+//! Numbers the nodes of a graph in which nodes depend on one another.
 //!
-//! [`numbers`]: each node has one by a rule from those of the nodes that it depends on. A rule adds these numbers, or takes the greatest; it
-//! takes that some times, and puts something on top. Nothing is counted past a most. [`ranks`]: how many nodes come before a node on the longest
-//! chain that ends in it, of those that count. Both take one pass over an order in which each node comes behind those that it depends on. The
-//! time is that of one look at each node and edge.
+//! [`numbers`] computes a number for each node by a rule from those of the nodes that it depends on. A rule takes the sum of these numbers
+//! or the greatest of them, multiplies it, and adds something. No number exceeds a limit. [`ranks`] counts how many nodes come before a
+//! node on the longest chain that ends in it, of those that count. Both make one pass over an order in which each node comes after those
+//! that it depends on, in time proportional to the number of nodes and edges.
 #![tactic(auto)]
 
 mod chains;

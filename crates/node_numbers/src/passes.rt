@@ -1,4 +1,4 @@
-//! One pass over an order of nodes.
+//! Numbers nodes by rules in one pass over an order of them.
 
 ghost use Rattle.std.specs.Prelude.{◌≡◌, ◌<◌, ◌≤◌, ◌^◌, ℕ, length, min, slice_get, Some, IfOk};
 ghost use Rattle.dependency_order.specs.Graphs.{IsOrder};
@@ -8,7 +8,7 @@ use crate::rules::Rule;
 use dependency_order::Dependencies;
 use std::alloc::{AllocError, Global};
 
-// The sum of the numbers of some nodes, capped at `most`.
+// Returns the sum of the numbers of some nodes, capped at `most`.
 fn total(values: &[u64], nodes: &[u32], most: u64) -> u64
     requires inside { LeadInside nodes.now values.now }
     requires within { AreWithin values.now most }
@@ -23,7 +23,7 @@ fn total(values: &[u64], nodes: &[u32], most: u64) -> u64
     total
 }
 
-// The greatest of the numbers of some nodes, 0 where there are none.
+// Returns the greatest of the numbers of some nodes, or 0 if there are none.
 fn greatest(values: &[u64], nodes: &[u32]) -> u64
     requires { LeadInside nodes.now values.now }
     ensures { result ≡ greatest (of_node values.now) nodes.now }
@@ -36,7 +36,7 @@ fn greatest(values: &[u64], nodes: &[u32]) -> u64
     greatest
 }
 
-// What a rule counts of the numbers of some nodes: their sum or the greatest of them, capped at `most`.
+// Returns the sum of the numbers of some nodes or the greatest of them, capped at `most`.
 fn counted(adds: bool, values: &[u64], nodes: &[u32], most: u64) -> u64
     requires inside { LeadInside nodes.now values.now }
     requires within { AreWithin values.now most }
@@ -49,7 +49,7 @@ fn counted(adds: bool, values: &[u64], nodes: &[u32], most: u64) -> u64
     greatest(values, nodes).min(most)
 }
 
-// The number by its rule of a node that depends on these, capped at `most`.
+// Returns the number that a rule gives a node that depends on these nodes, capped at `most`.
 fn number_of(rule: &Rule, values: &[u64], nodes: &[u32], most: u64) -> u64
     requires inside { LeadInside nodes.now values.now }
     requires within { AreWithin values.now most }
@@ -61,7 +61,7 @@ fn number_of(rule: &Rule, values: &[u64], nodes: &[u32], most: u64) -> u64
     u128::from(most).min(number) as u64
 }
 
-// The rule of a node.
+// Returns the rule of a node.
 fn rule_of(rules: &[Rule], node: usize) -> Rule
     requires { node < length rules.now }
     ensures { slice_get rules.now node ≡ Some result }
@@ -69,11 +69,11 @@ fn rule_of(rules: &[Rule], node: usize) -> Rule
     rules[node]
 }
 
-/// The numbers of the nodes of a graph by these rules, one for each node, in an order in which each node comes behind those that it depends on.
+/// Computes the number of each node by its rule, capped at `most`. In the order, each node must come after those that it depends on.
 ///
 /// # Errors
 ///
-/// `AllocError` where no memory is found.
+/// `AllocError` if memory is refused.
 pub fn numbers(
     alloc: Global,
     rules: &[Rule],

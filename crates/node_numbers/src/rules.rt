@@ -1,12 +1,12 @@
-//! How the number of a node results from others.
+//! The rules by which nodes are numbered.
 
-/// How the number of a node results from those of the nodes that it depends on.
+/// The rule that gives the number of a node from those of the nodes that it depends on.
 #[derive(Clone, Copy, Debug, PartialEq, Eq)]
 pub struct Rule {
-    /// Whether these are added. Else the greatest counts.
+    /// Whether these numbers are added. Otherwise the greatest of them is taken.
     pub adds: bool,
-    /// How often that counts.
+    /// The factor by which the sum or the greatest is multiplied.
     pub times: u32,
-    /// What comes on top of it.
+    /// The number that is added to the product.
     pub more: u64,
 }

@@ -8,7 +8,7 @@ use std::marker::Model;
 use std::mem;
 use ui_machine::Slot;
 
-/// How often an object is frozen, and the slots whose notification waits.
+/// The freeze count of an object, and the slots whose notifications wait.
 #[derive(Debug, Drop)]
 pub struct NotifyQueue {
     freezes: u64,
@@ -24,7 +24,7 @@ impl Model for NotifyQueue {
 }
 
 impl NotifyQueue {
-    /// Not frozen, and nothing waits. It takes no memory.
+    /// Creates an empty queue that is not frozen. Takes no memory.
     pub fn new(alloc: Global) -> Self
         ensures { result ≡ record { freezes = 0; queue = [] } }
     {
@@ -34,21 +34,21 @@ impl NotifyQueue {
         }
     }
 
-    /// Whether notifications are to be queued: the count is above zero.
+    /// Returns whether notifications are to be queued, which is if the count is above zero.
     pub fn is_frozen(&self) -> bool
         ensures { IsTrue result ↔ (0 < self.now.freezes) }
     {
         self.freezes != 0
     }
 
-    /// Whether there is room for one freeze more: the count is below `u64::MAX`.
+    /// Returns whether one more freeze is possible, which is if the count is below `u64::MAX`.
     pub fn can_freeze(&self) -> bool
         ensures { IsTrue result ↔ (self.now.freezes < 2 ^ 64 - 1) }
     {
         self.freezes < u64::MAX
     }
 
-    /// Adds one to the count. What waits stays.
+    /// Increments the freeze count. The queue stays as it is.
     pub fn freeze(&mut self)
         requires { self.old.freezes < 2 ^ 64 - 1 }
         ensures { self.new ≡ record self.old { freezes = self.old.freezes + 1 } }
@@ -56,8 +56,8 @@ impl NotifyQueue {
         self.freezes += 1;
     }
 
-    /// Takes one off the count. At zero it gives the whole queue, in order of first queueing and so to be notified from its
-    /// end, and leaves an empty one. Above zero it gives nothing, and what waits stays.
+    /// Decrements the freeze count. If it reaches zero, returns the whole queue and leaves an empty one, otherwise returns `None`. The
+    /// slots are in the order in which they were first queued, and are to be notified from the last to the first.
     pub fn thaw(&mut self) -> Option<Vec<Slot>>
         requires { 0 < self.old.freezes }
         ensures count { self.new.freezes + 1 ≡ self.old.freezes }
@@ -75,11 +75,11 @@ impl NotifyQueue {
         Some(mem::replace(&mut self.slots, empty))
     }
 
-    /// Queues the notification of a slot, unless it waits already.
+    /// Queues the notification of a slot, unless it is queued already.
     ///
     /// # Errors
     ///
-    /// `AllocError` if memory is refused. Nothing has changed then.
+    /// `AllocError` if memory is refused. The queue is unchanged then.
     pub fn add(&mut self, slot: Slot) -> Result<(), AllocError>
         ensures ok { OnOk result (self.new ≡ record self.old { queue = queued self.old.queue slot }) }
         ensures err { OnErr result (self.new ≡ self.old) }

@@ -1,4 +1,4 @@
-//! The names of a definition's bindings.
+//! The set of the names of a definition's bindings.
 
 ghost use Rattle.std.specs.Prelude.{◌≡◌, ◌||◌, ℕ, List, IfOk, OnOk, option_map};
 ghost use Rattle.std.specs.List.{list_any};
@@ -11,7 +11,7 @@ use definitions::Definition;
 use std::alloc::{AllocError, Global};
 use std::collections::BTreeSet;
 
-// The names of the bindings.
+// Collects the names of the bindings.
 pub(crate) fn names_of(
     alloc: Global,
     definition: &Definition,
@@ -25,7 +25,7 @@ pub(crate) fn names_of(
     Ok(names)
 }
 
-// The name of the binding of a number, if it has one.
+// Returns the name of the binding with this number, if it has one.
 fn name_at(definition: &Definition, number: usize) -> Option<&str>
     ensures { option_map (λ s. s.now) result ≡ name_at definition.now.bindings number }
 {

@@ -1,4 +1,4 @@
-//! Which kinds of registers fit which.
+//! Tests of whether the kind of a register fits what is wanted.
 
 ghost use Rattle.std.specs.Prelude.{◌≡◌, ◌||◌, Some, is_some};
 ghost use Rattle.g_values.specs.View.{kind_view};
@@ -13,7 +13,7 @@ use bytecode::{Register, RegisterKind};
 use g_values::Kind;
 use type_tree::TypeId;
 
-/// The class or interface that the kind of a register names, if it is one of objects.
+/// Returns the class or interface of a register's objects, or `None` if the register does not have objects.
 pub fn class_of_kind(lookups: &Lookups<'_>, kind: &RegisterKind) -> Option<TypeId>
     ensures { result ≡ class_of_kind lookups.now (register_kind_view kind.now) }
 {
@@ -26,14 +26,14 @@ pub fn class_of_kind(lookups: &Lookups<'_>, kind: &RegisterKind) -> Option<TypeI
     }
 }
 
-/// Whether a register has objects.
+/// Returns whether a register has objects.
 pub fn holds_objects(lookups: &Lookups<'_>, kind: &RegisterKind) -> bool
     ensures { result ≡ holds_objects lookups.now (register_kind_view kind.now) }
 {
     class_of_kind(lookups, kind).is_some()
 }
 
-// Whether it has objects of a type.
+// Returns whether a register has objects of a type.
 fn is_of_class(lookups: &Lookups<'_>, kind: &RegisterKind, t: TypeId) -> bool
     ensures { result ≡ is_of_class lookups.now (register_kind_view kind.now) (Some t) }
 {
@@ -43,7 +43,7 @@ fn is_of_class(lookups: &Lookups<'_>, kind: &RegisterKind, t: TypeId) -> bool
     }
 }
 
-// Whether it has objects of what a kind of values names.
+// Returns whether a register has objects of the type that a kind of values names.
 fn is_of_kind(lookups: &Lookups<'_>, kind: &RegisterKind, wanted: Kind) -> bool
     ensures { result ≡ is_of_class lookups.now (register_kind_view kind.now) (class_of_plain (kind_view wanted)) }
 {
@@ -53,14 +53,14 @@ fn is_of_kind(lookups: &Lookups<'_>, kind: &RegisterKind, wanted: Kind) -> bool
     }
 }
 
-// Whether a register may go where the object of a place or null is wanted.
+// Returns whether a register may be used where the object at a place or null is wanted.
 fn fits_place(kind: &RegisterKind, place: u16) -> bool
     ensures { result ≡ (is_at place (register_kind_view kind.now) || is_at_or_null place (register_kind_view kind.now)) }
 {
     is_at(kind, place) || is_at_or_null(kind, place)
 }
 
-/// Whether a register may go where a kind of values is wanted.
+/// Returns whether a register may be used where this kind of values is wanted.
 pub fn fits_plain(lookups: &Lookups<'_>, kind: &RegisterKind, wanted: &Kind) -> bool
     ensures { result ≡ (is_plain (kind_view wanted.now) (register_kind_view kind.now)
         || is_of_class lookups.now (register_kind_view kind.now) (class_of_plain (kind_view wanted.now))) }
@@ -68,7 +68,7 @@ pub fn fits_plain(lookups: &Lookups<'_>, kind: &RegisterKind, wanted: &Kind) -> 
     is_plain(kind, *wanted) || is_of_kind(lookups, kind, *wanted)
 }
 
-/// Whether what has the first kind may go where the second is wanted.
+/// Returns whether a register of kind `kind` may be used where `wanted` is wanted.
 pub fn fits(lookups: &Lookups<'_>, kind: &RegisterKind, wanted: &RegisterKind) -> bool
     ensures { result ≡ fits lookups.now (register_kind_view kind.now) (register_kind_view wanted.now) }
 {
@@ -81,7 +81,7 @@ pub fn fits(lookups: &Lookups<'_>, kind: &RegisterKind, wanted: &RegisterKind) -
     }
 }
 
-/// Whether each register fits what is wanted of it.
+/// Returns whether each register fits the kind that is wanted of it.
 pub fn kinds_fit(lookups: &Lookups<'_>, kinds: &[RegisterKind], wanted: &[RegisterKind]) -> bool
     ensures { result ≡ kinds_fit lookups.now (kinds_of kinds.now) (kinds_of wanted.now) }
 {

@@ -1,4 +1,4 @@
-//! Kinds of registers, looked at one by one.
+//! Functions on single kinds of registers and of values, which need no definition.
 
 ghost use Rattle.std.specs.Prelude.{◌≡◌, IfOk};
 ghost use Rattle.g_values.specs.View.{kind_view};
@@ -43,7 +43,7 @@ fn is_object(kind: Kind, t: TypeId) -> bool
     }
 }
 
-// Whether two kinds of values are one.
+// Returns whether two kinds of values are the same.
 fn is_same_kind(left: Kind, right: Kind) -> bool
     ensures { result ≡ same_kind (kind_view left) (kind_view right) }
 {
@@ -60,7 +60,7 @@ fn is_same_kind(left: Kind, right: Kind) -> bool
     }
 }
 
-/// The class or interface that a kind of values names, if it is one of objects.
+/// Returns the class or interface that a kind of values names, or `None` if it is not one of objects.
 pub fn class_of_plain(kind: Kind) -> Option<TypeId>
     ensures { result ≡ class_of_plain (kind_view kind) }
 {
@@ -70,7 +70,7 @@ pub fn class_of_plain(kind: Kind) -> Option<TypeId>
     }
 }
 
-/// Whether a register has this kind of values.
+/// Returns whether a register has this kind of values.
 pub fn is_plain(kind: &RegisterKind, wanted: Kind) -> bool
     ensures { result ≡ is_plain (kind_view wanted) (register_kind_view kind.now) }
 {
@@ -80,7 +80,7 @@ pub fn is_plain(kind: &RegisterKind, wanted: Kind) -> bool
     }
 }
 
-/// Whether two registers have one kind of values.
+/// Returns whether two registers have the same kind of values.
 pub fn is_same(left: &RegisterKind, right: &RegisterKind) -> bool
     ensures { result ≡ is_same (register_kind_view left.now) (register_kind_view right.now) }
 {
@@ -90,7 +90,7 @@ pub fn is_same(left: &RegisterKind, right: &RegisterKind) -> bool
     }
 }
 
-// The same, where the first has a kind of values.
+// Returns whether a register has the kind of values `left`.
 fn is_left_of(left: Kind, right: &RegisterKind) -> bool
     ensures { result ≡ is_same (kind_words.plain (kind_view left)) (register_kind_view right.now) }
 {
@@ -100,28 +100,28 @@ fn is_left_of(left: Kind, right: &RegisterKind) -> bool
     }
 }
 
-// Whether a kind is that of truth values.
+// Returns whether a kind is that of truth values.
 fn is_truth(kind: Kind) -> bool
     ensures { result ≡ is_bool (kind_words.plain (kind_view kind)) }
 {
     matches!(kind, Kind::Bool)
 }
 
-// Whether it is one of whole numbers.
+// Returns whether a kind is one of whole numbers.
 fn is_number(kind: Kind) -> bool
     ensures { result ≡ is_whole (kind_words.plain (kind_view kind)) }
 {
     matches!(kind, Kind::Int | Kind::UInt | Kind::Int64 | Kind::UInt64)
 }
 
-// Whether it is that of texts.
+// Returns whether a kind is that of texts.
 fn is_string(kind: Kind) -> bool
     ensures { result ≡ is_text (kind_words.plain (kind_view kind)) }
 {
     matches!(kind, Kind::Text)
 }
 
-/// Whether a register has truth values.
+/// Returns whether a register has truth values.
 pub fn is_bool(kind: &RegisterKind) -> bool
     ensures { result ≡ is_bool (register_kind_view kind.now) }
 {
@@ -131,7 +131,7 @@ pub fn is_bool(kind: &RegisterKind) -> bool
     }
 }
 
-/// Whether it has whole numbers.
+/// Returns whether a register has whole numbers.
 pub fn is_whole(kind: &RegisterKind) -> bool
     ensures { result ≡ is_whole (register_kind_view kind.now) }
 {
@@ -141,7 +141,7 @@ pub fn is_whole(kind: &RegisterKind) -> bool
     }
 }
 
-/// Whether it has texts.
+/// Returns whether a register has texts.
 pub fn is_text(kind: &RegisterKind) -> bool
     ensures { result ≡ is_text (register_kind_view kind.now) }
 {
@@ -151,14 +151,14 @@ pub fn is_text(kind: &RegisterKind) -> bool
     }
 }
 
-/// Whether it has an object, and never null.
+/// Returns whether a register has an object that is never null.
 pub fn is_never_null(kind: &RegisterKind) -> bool
     ensures { result ≡ is_never_null (register_kind_view kind.now) }
 {
     matches!(*kind, RegisterKind::NotNull(_) | RegisterKind::At(_))
 }
 
-// What a kind of values is once null is ruled out.
+// Returns the kind of a register with this kind of values once null is ruled out.
 fn never_null_plain(kind: Kind) -> RegisterKind
     ensures { register_kind_view result ≡ never_null (kind_words.plain (kind_view kind)) }
 {
@@ -168,7 +168,7 @@ fn never_null_plain(kind: Kind) -> RegisterKind
     }
 }
 
-/// What the kind of a register is once null is ruled out.
+/// Returns the kind of a register once null is ruled out.
 pub fn never_null(kind: RegisterKind) -> RegisterKind
     ensures { register_kind_view result ≡ never_null (register_kind_view kind) }
 {
@@ -179,7 +179,7 @@ pub fn never_null(kind: RegisterKind) -> RegisterKind
     }
 }
 
-/// Whether it has the object of a place, and never null.
+/// Returns whether a register has the object at a place, never null.
 pub fn is_at(kind: &RegisterKind, place: u16) -> bool
     ensures { result ≡ is_at place (register_kind_view kind.now) }
 {
@@ -189,7 +189,7 @@ pub fn is_at(kind: &RegisterKind, place: u16) -> bool
     }
 }
 
-/// Whether it has the object of a place or null.
+/// Returns whether a register has the object at a place or null.
 pub fn is_at_or_null(kind: &RegisterKind, place: u16) -> bool
     ensures { result ≡ is_at_or_null place (register_kind_view kind.now) }
 {
@@ -199,11 +199,11 @@ pub fn is_at_or_null(kind: &RegisterKind, place: u16) -> bool
     }
 }
 
-/// The kinds of registers, with this one in place of a register's.
+/// Returns the kinds of registers with `kind` in place of that of the register `to`.
 ///
 /// # Errors
 ///
-/// `AllocError` where no memory is found.
+/// `AllocError` if memory is refused.
 #[tactic(auto, using(crate::proofs::Filled::write_seen))]
 pub fn with_register(
     alloc: Global,

@@ -1,7 +1,8 @@
-//! Operands of instructions, by the kinds of their registers.
+//! Checks the operands of instructions against the kinds of their registers.
 //!
-//! A register has a kind: unset, a kind of values, or objects of a type or of a place. Here are what typing looks up in a definition, which
-//! kinds fit which, and the tests of operands: what a register that is read has to hold, and which rule is broken where it does not.
+//! A register is unset, or it has a kind of values, or objects of a type or of a place. This crate has the look-ups in a definition that
+//! typing needs, the tests of which kinds fit which, and the checks of operands. A check returns the rule that is broken if a register does
+//! not hold what it must.
 #![tactic(auto)]
 
 mod bind_names;

@@ -1,15 +1,15 @@
-//! Lists that are copied and filled up.
+//! Copies and extends lists.
 
 ghost use Rattle.std.specs.Prelude.{◌≡◌, ◌++◌, ◌-◌, length, replicate, IfOk, OnOk};
 ghost use Rattle.ui_machine.specs.Seq.{write};
 
 use std::alloc::{AllocError, Global};
 
-/// The same items once more.
+/// Copies a slice to a new vector.
 ///
 /// # Errors
 ///
-/// `AllocError` where no memory is found.
+/// `AllocError` if memory is refused.
 pub fn copy<T: Copy + Drop>(alloc: Global, items: &[T]) -> Result<Vec<T>, AllocError>
     ensures { IfOk result (λ copied. copied.items ≡ items.now) }
 {
@@ -20,7 +20,7 @@ pub fn copy<T: Copy + Drop>(alloc: Global, items: &[T]) -> Result<Vec<T>, AllocE
     Ok(copied)
 }
 
-// A list that is shorter gets this item again and again, until there are so many.
+// Appends copies of an item until the list has `count` items.
 fn fill<T: Copy + Drop>(items: &mut Vec<T>, count: usize, item: T) -> Result<(), AllocError>
     ensures { OnOk result (items.new.items ≡ items.old.items ++ replicate (count - length items.old.items) item) }
 {
@@ -30,11 +30,11 @@ fn fill<T: Copy + Drop>(items: &mut Vec<T>, count: usize, item: T) -> Result<(),
     Ok(())
 }
 
-/// An item is written. Those before it that are missing are this other one.
+/// Writes an item at index `at`. If the list is too short, copies of `missing` fill the gap before it.
 ///
 /// # Errors
 ///
-/// `AllocError` where no memory is found.
+/// `AllocError` if memory is refused.
 pub fn write<T: Copy + Drop>(
     items: &mut Vec<T>,
     at: usize,

@@ -1,4 +1,4 @@
-//! What typing looks up in a definition.
+//! The look-ups in a definition that typing needs.
 
 ghost use Rattle.std.specs.Prelude.{◌≡◌, ◌≤◌, ℕ, List, Some, length, option_map, slice_get, IfOk, IfSome};
 ghost use Rattle.std.specs.List.{list_any};
@@ -30,14 +30,14 @@ use std::marker::Model;
 use type_tree::{MOST_TYPES, TypeId, TypeTree};
 use ui_machine::{Place, ProgramId, SignalId, Slot};
 
-// The most programs of a definition.
+// The greatest number of programs of a definition.
 const MOST_PROGRAMS: ProgramId = 256;
 
-/// A definition, with a table of which types are which and the names of its bindings. A contract sees the definition.
+/// A definition with a table of which types are which, and with the names of its bindings. The contracts see only the definition.
 #[derive(Drop)]
 pub struct Lookups<'a> {
     definition: &'a Definition,
-    // Of each type, whether it is each other.
+    // For each type, whether it is each of the others.
     ancestry: Vec<Vec<bool>>,
     bind_names: BTreeSet<String>,
 }
@@ -56,11 +56,11 @@ impl<'a> Model for Lookups<'a> {
 }
 
 impl<'a> Lookups<'a> {
-    /// The look-ups of a definition.
+    /// Creates the look-ups of a definition.
     ///
     /// # Errors
     ///
-    /// `AllocError` where no memory is found for the table or the names.
+    /// `AllocError` if memory for the table or the names is refused.
     pub fn new(alloc: Global, definition: &'a Definition) -> Result<Lookups<'a>, AllocError>
         ensures { IfOk result (λ lookups. lookups ≡ definition.now) }
     {
@@ -71,21 +71,21 @@ impl<'a> Lookups<'a> {
         })
     }
 
-    /// The definition itself.
+    /// Returns the definition itself.
     pub fn definition(&self) -> &'a Definition
         ensures { result.now ≡ self.now }
     {
         self.definition
     }
 
-    /// Its types.
+    /// Returns the types of the definition.
     pub fn types(&self) -> &TypeTree
         ensures { result.now ≡ self.now.types }
     {
         self.definition.types()
     }
 
-    /// Whether a type is another, or has it as an ancestor or interface.
+    /// Returns whether a type is `other`, or has it as an ancestor or interface.
     pub fn is_a(&self, t: TypeId, other: TypeId) -> bool
         ensures { result ≡ is_a self.now.types t other }
     {
@@ -95,7 +95,7 @@ impl<'a> Lookups<'a> {
         }
     }
 
-    /// The class of the object or prototype at a place, if there is one.
+    /// Returns the class of the object or prototype at a place, if there is one.
     pub fn class_at(&self, place: Place) -> Option<TypeId>
         ensures { result ≡ class_at self.now place.0 }
     {
@@ -105,14 +105,14 @@ impl<'a> Lookups<'a> {
         }
     }
 
-    /// The place of the object or prototype of an id.
+    /// Returns the place of the object or prototype with this id.
     pub fn place(&self, id: &str) -> Option<Place>
         ensures { option_map (λ p. p.0) result ≡ place_of self.now id.now }
     {
         self.definition.place(id)
     }
 
-    /// Whether a prototype is at a place, and no object, if one of them is there.
+    /// Returns whether the place is that of a prototype rather than an object, or `None` if nothing has this place.
     pub fn is_prototype(&self, place: Place) -> Option<bool>
         ensures { result ≡ option_map is_of_prototype (place_at self.now place.0) }
     {
@@ -122,42 +122,43 @@ impl<'a> Lookups<'a> {
         }
     }
 
-    /// Whether a binding has this name.
+    /// Returns whether a binding has this name.
     pub fn has_binding(&self, name: &str) -> bool
         ensures { result ≡ list_any (is_named name.now) self.now.bindings }
     {
         self.bind_names.contains(name)
     }
 
-    /// The slot of the property of a class that a name names.
+    /// Returns the slot of the property with this name in a class.
     pub fn slot(&self, class: TypeId, name: &str) -> Option<Slot>
         ensures { result ≡ slot_of self.now class name.now }
     {
         self.definition.slot(class, name)
     }
 
-    /// The spec of a property of a class.
+    /// Returns the spec of the property in a slot of a class.
     pub fn spec(&self, class: TypeId, slot: Slot) -> Option<&Spec>
         ensures { option_map (λ s. spec_view s.now) result ≡ spec_of self.now class slot }
     {
         self.definition.spec(class, slot)
     }
 
-    /// The number of the signal of a class that a name names.
+    /// Returns the number of the signal with this name in a class.
     pub fn signal_number(&self, class: TypeId, name: &str) -> Option<SignalId>
         ensures { result ≡ signal_number self.now class name.now }
     {
         self.definition.signal_number(class, name)
     }
 
-    /// A signal of a class.
+    /// Returns the signal with this number in a class.
     pub fn signal(&self, class: TypeId, number: SignalId) -> Option<DeclaredSignal<'_>>
         ensures { option_map declared_view result ≡ signal_of self.now class number }
     {
         self.definition.signal(class, number)
     }
 
-    /// The method of a name that objects of a class are called with: one of the class's shape, or of that of its nearest ancestor with one.
+    /// Returns the method with this name that objects of a class are called with. It is one of the shape of the class, or of its nearest
+    /// ancestor that has a shape.
     pub fn method(&self, class: TypeId, name: &str) -> Option<MethodRef<'_>>
         ensures { known rules.unknown (option_map lent_view result) ≡ method_called self.now class name.now }
     {
@@ -165,7 +166,7 @@ impl<'a> Lookups<'a> {
         shape.method(shape.find(name)?)
     }
 
-    /// How many programs a definition has at most.
+    /// Returns the greatest number of programs that a definition may have.
     pub fn most_programs(&self) -> ProgramId
         ensures { length self.now.programs ≤ result }
     {
@@ -174,14 +175,14 @@ impl<'a> Lookups<'a> {
         MOST_PROGRAMS
     }
 
-    /// The program of a number.
+    /// Returns the program with this number.
     pub fn program(&self, number: ProgramId) -> Option<&Program>
         ensures { option_map (λ p. program_view p.now) result ≡ program_at self.now number }
     {
         self.definition.program(number)
     }
 
-    /// The number of the program of a name.
+    /// Returns the number of the program with this name.
     pub fn program_number(&self, name: &str) -> Option<ProgramId>
         ensures { result ≡ program_of self.now name.now }
     {
@@ -189,7 +190,7 @@ impl<'a> Lookups<'a> {
     }
 }
 
-// Of each type, whether it is each other.
+// Returns the table that has, for each type, whether it is each of the others.
 fn rows(alloc: Global, types: &TypeTree) -> Result<Vec<Vec<bool>>, AllocError>
     ensures { IfOk result (λ rows. AreRows types.now rows.items) }
 {
@@ -201,7 +202,7 @@ fn rows(alloc: Global, types: &TypeTree) -> Result<Vec<Vec<bool>>, AllocError>
     Ok(rows)
 }
 
-// Whether a type is each other.
+// Returns the row of the table that has whether the type `t` is each of the others.
 fn row(alloc: Global, types: &TypeTree, t: TypeId) -> Result<Vec<bool>, AllocError>
     ensures { IfOk result (λ row. IsRow types.now t row.items) }
 {
@@ -212,7 +213,7 @@ fn row(alloc: Global, types: &TypeTree, t: TypeId) -> Result<Vec<bool>, AllocErr
     Ok(row)
 }
 
-// What the table says of two types, if it has them.
+// Returns whether one type is another, or `None` if the table does not have them.
 fn entry(rows: &[Vec<bool>], t: TypeId, other: TypeId) -> Option<bool>
     ensures { IfSome result (λ answer. (types : List GType) → AreRows types rows.now → answer ≡ is_a types t other) }
 {
@@ -222,7 +223,7 @@ fn entry(rows: &[Vec<bool>], t: TypeId, other: TypeId) -> Option<bool>
     entry_in(rows[t.index()].as_slice(), other)
 }
 
-// What a row says of a type, if it has it.
+// Returns the entry of a row for a type, or `None` if the row does not have it.
 fn entry_in(row: &[bool], t: TypeId) -> Option<bool>
     ensures { IfSome result (λ answer. slice_get row.now t ≡ Some answer) }
 {

@@ -1,4 +1,4 @@
-//! Operands of instructions, by the kinds of their registers.
+//! Checks of single operands, by the kinds of their registers.
 
 ghost use Rattle.std.specs.Prelude.{◌≡◌, None, Some, option_map};
 ghost use Rattle.g_values.specs.View.{kind_view};
@@ -19,7 +19,7 @@ use g_values::{Kind, transformable};
 use type_tree::TypeId;
 use ui_machine::Place;
 
-/// The kind of a register.
+/// Returns the kind of a register.
 pub fn kind_in(kinds: &[RegisterKind], register: Register) -> RegisterKind
     ensures { register_kind_view result ≡ kind_in (kinds_of kinds.now) register.0 }
 {
@@ -30,11 +30,11 @@ pub fn kind_in(kinds: &[RegisterKind], register: Register) -> RegisterKind
     }
 }
 
-/// The kind of a register that is set.
+/// Returns the kind of a register, which must be set.
 ///
 /// # Errors
 ///
-/// `Unset` where it is not.
+/// Returns `Unset` if it is not.
 pub fn set_in(kinds: &[RegisterKind], register: Register) -> Result<RegisterKind, Rule>
     ensures { Tests register_kind_view result (set_in (kinds_of kinds.now) register.0) }
 {
@@ -45,7 +45,7 @@ pub fn set_in(kinds: &[RegisterKind], register: Register) -> Result<RegisterKind
     }
 }
 
-// Why a register with a kind of values is no object operand: its object may be null, or it has none.
+// Returns the rule that is broken if a register with this kind of values is used as an object: it may be null, or is no object.
 fn rule_of_value(kind: Kind) -> Rule
     ensures { rule_view result ≡ rule_of_value (kind_view kind) }
 {
@@ -55,7 +55,7 @@ fn rule_of_value(kind: Kind) -> Rule
     }
 }
 
-// The class of the object of a place.
+// Returns the class of the object at a place.
 fn class_of_place(lookups: &Lookups<'_>, place: Place) -> Result<TypeId, Rule>
     ensures { Tests (λ t. t) result (known rules.kind (class_at lookups.now place.0)) }
 {
@@ -65,11 +65,11 @@ fn class_of_place(lookups: &Lookups<'_>, place: Place) -> Result<TypeId, Rule>
     }
 }
 
-/// The class of an object operand.
+/// Returns the class of an object operand.
 ///
 /// # Errors
 ///
-/// `Unset` where the register is not set, `Null` where its object may be null, and `Kind` where it has no object.
+/// Returns `Unset` if the register is not set, `Null` if its object may be null, or `Kind` if it has no object.
 #[tactic(auto, using(crate::proofs::RegisterLists::of_value))]
 pub fn operand(
     lookups: &Lookups<'_>,
@@ -87,11 +87,11 @@ pub fn operand(
     }
 }
 
-/// The kind of an operand with data, if there is one.
+/// Returns the kind of an operand with data, if there is one.
 ///
 /// # Errors
 ///
-/// Those of an object operand.
+/// Returns the errors of `operand` if there is a register.
 #[tactic(auto, unfolding(law_typing::specs::Rules::Typing::data_in))]
 pub fn data_in(
     lookups: &Lookups<'_>,
@@ -107,11 +107,11 @@ pub fn data_in(
     Ok(Some(kind_in(kinds, register)))
 }
 
-/// A register with whole numbers.
+/// Returns the kind of a register, which must have whole numbers.
 ///
 /// # Errors
 ///
-/// `Unset` where it is not set, and `Kind` where it is of another kind.
+/// Returns `Unset` if the register is not set, or `Kind` if it is of another kind.
 #[tactic(auto, unfolding(law_typing::specs::Rules::Typing::passing))]
 pub fn whole_in(kinds: &[RegisterKind], register: Register) -> Result<RegisterKind, Rule>
     ensures { Tests register_kind_view result (passing (kinds_of kinds.now) register.0 is_whole) }
@@ -123,11 +123,11 @@ pub fn whole_in(kinds: &[RegisterKind], register: Register) -> Result<RegisterKi
     Ok(kind)
 }
 
-/// A register with the same kind of values as another.
+/// Returns the kind of a register, which must have the same kind of values as `other`.
 ///
 /// # Errors
 ///
-/// `Unset` where it is not set, and `Kind` where it is of another kind.
+/// Returns `Unset` if the register is not set, or `Kind` if it is of another kind.
 #[tactic(auto, unfolding(law_typing::specs::Rules::Typing::passing))]
 pub fn same_in(
     kinds: &[RegisterKind],
@@ -143,11 +143,11 @@ pub fn same_in(
     Ok(kind)
 }
 
-/// A register with truth values.
+/// Returns the kind of a register, which must have truth values.
 ///
 /// # Errors
 ///
-/// `Unset` where it is not set, and `Kind` where it is of another kind.
+/// Returns `Unset` if the register is not set, or `Kind` if it is of another kind.
 #[tactic(auto, unfolding(law_typing::specs::Rules::Typing::passing))]
 pub fn bool_in(kinds: &[RegisterKind], register: Register) -> Result<RegisterKind, Rule>
     ensures { Tests register_kind_view result (passing (kinds_of kinds.now) register.0 is_bool) }
@@ -159,11 +159,11 @@ pub fn bool_in(kinds: &[RegisterKind], register: Register) -> Result<RegisterKin
     Ok(kind)
 }
 
-/// A register with texts.
+/// Returns the kind of a register, which must have texts.
 ///
 /// # Errors
 ///
-/// `Unset` where it is not set, and `Kind` where it is of another kind.
+/// Returns `Unset` if the register is not set, or `Kind` if it is of another kind.
 #[tactic(auto, unfolding(law_typing::specs::Rules::Typing::passing))]
 pub fn text_in(kinds: &[RegisterKind], register: Register) -> Result<RegisterKind, Rule>
     ensures { Tests register_kind_view result (passing (kinds_of kinds.now) register.0 is_text) }
@@ -175,18 +175,18 @@ pub fn text_in(kinds: &[RegisterKind], register: Register) -> Result<RegisterKin
     Ok(kind)
 }
 
-// Whether two kinds can be compared for being the same: one kind of values, or objects.
+// Returns whether `same` can compare two kinds: they are the same kind of values, or both have objects.
 fn is_comparable(lookups: &Lookups<'_>, left: &RegisterKind, right: &RegisterKind) -> bool
     ensures { result ≡ is_comparable lookups.now (register_kind_view left.now) (register_kind_view right.now) }
 {
     is_same(left, right) || holds_objects(lookups, left) && holds_objects(lookups, right)
 }
 
-/// A register that can be compared with a kind for being the same.
+/// Returns the kind of a register, which `same` must be able to compare with the kind `other`.
 ///
 /// # Errors
 ///
-/// `Unset` where it is not set, and `Kind` where it is of another kind.
+/// Returns `Unset` if the register is not set, or `Kind` if it is of another kind.
 #[tactic(auto, unfolding(law_typing::specs::Rules::Typing::passing))]
 pub fn comparable_in(
     lookups: &Lookups<'_>,
@@ -203,7 +203,7 @@ pub fn comparable_in(
     Ok(kind)
 }
 
-// Whether a kind of values has a transformation to another, none of them of objects.
+// Returns whether there is a transformation from one kind of values to another, neither of them of objects.
 fn is_convertible(lookups: &Lookups<'_>, from: &Kind, to: &Kind) -> bool
     ensures { result ≡ converts_to lookups.now (kind_view to.now) (kinds.plain (kind_view from.now)) }
 {
@@ -212,7 +212,7 @@ fn is_convertible(lookups: &Lookups<'_>, from: &Kind, to: &Kind) -> bool
         && transformable(lookups.types(), *from, *to)
 }
 
-// Whether a register's kind has a transformation to a kind.
+// Returns whether there is a transformation from the kind of a register to a kind of values.
 fn converts_to(lookups: &Lookups<'_>, to: &Kind, kind: &RegisterKind) -> bool
     ensures { result ≡ converts_to lookups.now (kind_view to.now) (register_kind_view kind.now) }
 {
@@ -222,11 +222,11 @@ fn converts_to(lookups: &Lookups<'_>, to: &Kind, kind: &RegisterKind) -> bool
     }
 }
 
-/// A register that can be converted to a kind of values.
+/// Returns the kind of a register, which must be convertible to a kind of values.
 ///
 /// # Errors
 ///
-/// `Unset` where it is not set, and `Kind` where it is of another kind.
+/// Returns `Unset` if the register is not set, or `Kind` if it is of another kind.
 #[tactic(auto, unfolding(law_typing::specs::Rules::Typing::passing))]
 pub fn convertible_in(
     lookups: &Lookups<'_>,
@@ -243,11 +243,11 @@ pub fn convertible_in(
     Ok(kind)
 }
 
-/// A register that fits a kind of values.
+/// Returns the kind of a register, which must fit a kind of values.
 ///
 /// # Errors
 ///
-/// `Unset` where it is not set, and `Kind` where it is of another kind.
+/// Returns `Unset` if the register is not set, or `Kind` if it is of another kind.
 #[tactic(auto, unfolding(law_typing::specs::Rules::Typing::passing))]
 pub fn fitting(
     lookups: &Lookups<'_>,
@@ -264,18 +264,18 @@ pub fn fitting(
     Ok(kind)
 }
 
-// Whether a register may hold null: a text, or an object.
+// Returns whether a register may hold null, which is so for texts and objects.
 fn may_be_null(lookups: &Lookups<'_>, kind: &RegisterKind) -> bool
     ensures { result ≡ may_be_null lookups.now (register_kind_view kind.now) }
 {
     is_text(kind) || holds_objects(lookups, kind)
 }
 
-/// A register that may hold null.
+/// Returns the kind of a register, which must be one that may hold null.
 ///
 /// # Errors
 ///
-/// `Unset` where it is not set, and `Kind` where it is of another kind.
+/// Returns `Unset` if the register is not set, or `Kind` if it is of another kind.
 #[tactic(auto, unfolding(law_typing::specs::Rules::Typing::passing))]
 pub fn nullable_in(
     lookups: &Lookups<'_>,

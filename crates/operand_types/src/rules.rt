@@ -1,4 +1,4 @@
-//! The rules that an instruction may break, and what it leaves where it breaks none.
+//! The rules that an instruction may break, and the register that it writes if it breaks none.
 
 ghost use Rattle.std.specs.Prelude.{◌≡◌};
 ghost use Rattle.bytecode.specs.View.{register_kind_view};
@@ -14,27 +14,27 @@ use std::alloc::{AllocError, AllocFailed};
 pub enum Rule {
     /// A register that is read holds nothing.
     Unset,
-    /// It holds something else, or there are too many or too few arguments.
+    /// A register that is read has another kind, or there are too many or too few arguments.
     Kind,
-    /// An object is wanted that may be null.
+    /// An object is needed, but the register may hold null.
     Null,
-    /// A property, signal, program, id, method or binding is not there.
+    /// A property, signal, program, id, method or binding does not exist.
     Unknown,
     /// A property is not readable, or not writable.
     Flags,
-    /// A property is written by constructions alone.
+    /// A property is written that only constructions set.
     ConstructOnly,
-    /// A detail is none of the signal.
+    /// The signal does not take the detail.
     Detail,
     /// A program does not take what it is given.
     Signature,
-    /// An emission has no result, or a program gives another one.
+    /// An emission has no result to be written, or a program returns something other than its result.
     Result,
-    /// A register does not fit the block that is gone to.
+    /// A register does not fit the block that is jumped to.
     Block,
 }
 
-/// A register that an instruction writes, and its kind from then on.
+/// A register that an instruction writes, and its kind after that.
 #[derive(Clone, Copy, Debug)]
 pub struct Written {
     pub to: Register,
@@ -42,7 +42,7 @@ pub struct Written {
 }
 
 impl Written {
-    /// A register gets a truth value.
+    /// Returns the write of a truth value to a register.
     pub fn truth(to: Register) -> Written
         ensures to { result.to ≡ to }
         ensures truth { register_kind_view result.kind ≡ kinds.plain kinds.bool }
@@ -54,10 +54,10 @@ impl Written {
     }
 }
 
-/// Why an instruction has no type.
+/// The reason why an instruction has no type.
 #[derive(Clone, Copy, Debug, PartialEq, Eq)]
 pub enum TypingError {
-    /// No memory was found.
+    /// Memory was refused.
     OutOfMemory,
     /// The instruction breaks a rule.
     Broken(Rule),

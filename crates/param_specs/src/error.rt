@@ -1,4 +1,4 @@
-//! Why a property is not installed, and why an override is refused.
+//! Errors of installing and overriding properties.
 
 ghost use Rattle.std.specs.Prelude.{◌≡◌};
 ghost use Rattle.param_specs.specs.declared.error.SpecError.TheVariants.{OutOfMemory};
@@ -6,38 +6,38 @@ ghost use Rattle.param_specs.specs.declared.error.SpecError.TheVariants.{OutOfMe
 use std::alloc::{AllocError, AllocFailed};
 use ui_machine::Slot;
 
-/// Why a property is not installed, in the order in which the tests are made.
+/// The reason for which a property is refused. The variants are in the order in which the tests are made.
 #[derive(Clone, Copy, Debug, PartialEq, Eq)]
 pub enum SpecFault {
-    /// The name is not made of segments of ASCII letters and digits between `-` or `_`, a letter first.
+    /// The name is not made of non-empty segments of ASCII letters and digits, separated by `-` or `_`, beginning with a letter.
     BadName,
-    /// The type has a property of that name, its own or an inherited one.
+    /// The type has a property of that name already, its own or an inherited one.
     Duplicate,
-    /// Construct with construct-only, either without writable, or neither readable nor writable.
+    /// The property is both construct and construct-only, is one of these and not writable, or is neither readable nor writable.
     FlagsClash,
-    /// The least number is above the greatest.
+    /// The minimum is above the maximum.
     RangeEmpty,
-    /// The default is not valid.
+    /// The default is not a valid value.
     DefaultInvalid,
-    /// The type has 64 properties.
+    /// The type has 64 properties already.
     Limit,
 }
 
-/// Why an installation gave no property.
+/// The error of an installation.
 #[derive(Clone, Copy, Debug, PartialEq, Eq)]
 pub enum SpecError {
-    /// No memory was found.
+    /// Memory was refused.
     OutOfMemory,
     /// A test refused the property.
     Refused(SpecFault),
 }
 
-/// Why a class does not have an interface's properties: the slot, in the interface, of the first that it lacks or has otherwise.
+/// The first property of an interface that a class lacks or declares differently, with its slot in the interface.
 #[derive(Clone, Copy, Debug, PartialEq, Eq)]
 pub enum OverrideFault {
-    /// The class has no property of the name of this one.
+    /// The class has no property of that name.
     Missing(Slot),
-    /// The class has this property with another kind, range, default, weakness or other flags.
+    /// The class has the property with another kind, range, default, weakness or other flags.
     Differs(Slot),
 }
 

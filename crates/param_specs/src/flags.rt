@@ -5,7 +5,7 @@ ghost use Rattle.param_specs.specs.Flags.{is_clash};
 
 use bitflags::{Flag, Flags, bitflag_items};
 
-/// How a property may be used.
+/// The flags that say how a property may be used.
 #[derive(Clone, Copy, PartialEq, Eq, Debug)]
 pub struct PropertyFlags(pub u32);
 
@@ -43,7 +43,8 @@ impl Flags for PropertyFlags {
 }
 
 impl PropertyFlags {
-    /// Whether the flags go together badly: construct with construct-only, either without writable, or neither readable nor writable.
+    /// Returns whether the flags contradict each other: construct with construct-only, either of these without writable, or neither
+    /// readable nor writable.
     pub fn is_clash(self) -> bool
         ensures { result ≡ is_clash self.0 }
     {

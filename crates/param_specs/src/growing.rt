@@ -1,4 +1,4 @@
-//! The own properties of each type, by their names, as they grow.
+//! The lists of the types' own properties, as they grow.
 
 ghost use Rattle.std.specs.Prelude.{◌≡◌, ℕ, ◌+◌, ◌<◌, ◌≤◌, List, [], ◌∷◌, ◌++◌, map, nat_eq, None, string_bytes, if◌then◌else◌, vec_len, OnOk, OnErr};
 ghost use Rattle.std.specs.Rc.{rc_str_bytes};
@@ -10,7 +10,7 @@ use crate::spec::Spec;
 use indexmap::IndexMap;
 use std::alloc::{AllocError, Global};
 
-/// Makes room for a list at each place below the length: empty lists are added, which changes no list that is read.
+/// Adds empty lists until there are at least `len`. A list that is missing reads as empty, so no type's properties change.
 ///
 /// # Errors
 ///
@@ -30,7 +30,7 @@ pub fn grow(
     Ok(())
 }
 
-/// Adds a spec to one of the lists, under its name, which none of the list has.
+/// Adds a spec under its name to the list at `at`, which has no property of that name.
 ///
 /// # Errors
 ///

@@ -1,4 +1,4 @@
-//! Property specs: what a property may hold and how it may be used, and which properties a type has.
+//! Property specs: what a property may hold, how it may be used, and which properties a type has.
 //!
 //! A contract sees a spec as the pure record of the abstract machine, and a table as the lists of the types' own specs.
 #![tactic(auto)]

@@ -1,4 +1,4 @@
-//! Properties of an interface that a type has to have.
+//! Tests that a type has the properties of an interface.
 
 ghost use Rattle.std.specs.Prelude.{◌≡◌, ◌<◌, length, position, option_map, IfSome};
 ghost use Rattle.param_specs.specs.View.{spec_view};
@@ -17,8 +17,8 @@ impl SpecTable {
     ///
     /// # Errors
     ///
-    /// `Missing` with the interface's slot of the first that the type does not have; else `Differs` with that of the first that
-    /// it has otherwise.
+    /// Returns `Missing` with the first property that the type lacks, or else `Differs` with the first property that the type declares
+    /// differently, both by their slots in the interface.
     pub fn override_from(
         &self,
         tree: &TypeTree,
@@ -36,7 +36,7 @@ impl SpecTable {
         Ok(())
     }
 
-    // The slot of the interface's first property that a type does not have.
+    // Returns the slot of the interface's first property that a type lacks.
     fn first_missing(&self, tree: &TypeTree, t: TypeId, interface: TypeId) -> Option<usize>
         ensures slot { result ≡ position (is_missing (specs_of tree.now self.now t)) (specs_of tree.now self.now interface) }
         ensures few { IfSome result (λ i. i < 16448) }
@@ -49,7 +49,7 @@ impl SpecTable {
         None
     }
 
-    // The slot of the interface's first property that a type has otherwise.
+    // Returns the slot of the interface's first property that a type declares differently.
     fn first_different(&self, tree: &TypeTree, t: TypeId, interface: TypeId) -> Option<usize>
         ensures slot { result ≡ position (differs (specs_of tree.now self.now t)) (specs_of tree.now self.now interface) }
         ensures few { IfSome result (λ i. i < 16448) }
@@ -62,14 +62,14 @@ impl SpecTable {
         None
     }
 
-    // Whether a type has no property of this name.
+    // Returns whether a type has no property with the name of `wanted`.
     fn is_missing(&self, tree: &TypeTree, t: TypeId, wanted: &Spec) -> bool
         ensures { result ≡ is_missing (specs_of tree.now self.now t) (spec_view wanted.now) }
     {
         self.slot(tree, t, wanted.name.as_str()).is_none()
     }
 
-    /// The property of a type that a name names, its own or inherited, in any spelling.
+    /// Returns the property of a type, its own or inherited, with this name in any spelling.
     #[tactic(auto, using(crate::proofs::Within::slot_within))]
     pub fn named(&self, tree: &TypeTree, t: TypeId, name: &str) -> Option<&Spec>
         ensures { option_map (λ s. spec_view s.now) result ≡ spec_named (specs_of tree.now self.now t) name.now }
@@ -80,7 +80,7 @@ impl SpecTable {
         }
     }
 
-    // Whether a type has another property of this name.
+    // Returns whether a type has a property with the name of `wanted` that differs from it.
     fn differs(&self, tree: &TypeTree, t: TypeId, wanted: &Spec) -> bool
         ensures { result ≡ differs (specs_of tree.now self.now t) (spec_view wanted.now) }
     {
@@ -91,21 +91,21 @@ impl SpecTable {
     }
 }
 
-/// Whether two properties have one kind, range, default, weakness and flags.
+/// Returns whether two properties have the same kind, range, default, weakness and flags.
 pub fn is_same_spec(a: &Spec, b: &Spec) -> bool
     ensures { result ≡ same_spec (spec_view a.now) (spec_view b.now) }
 {
     has_same_range(a, b) && has_same_rest(a, b)
 }
 
-// Whether two properties have one kind and range.
+// Returns whether two properties have the same kind and range.
 fn has_same_range(a: &Spec, b: &Spec) -> bool
     ensures { result ≡ same_range (spec_view a.now) (spec_view b.now) }
 {
     a.kind == b.kind && a.min == b.min && a.max == b.max
 }
 
-// Whether two properties have one default, weakness and flags.
+// Returns whether two properties have the same default, weakness and flags.
 fn has_same_rest(a: &Spec, b: &Spec) -> bool
     ensures { result ≡ same_rest (spec_view a.now) (spec_view b.now) }
 {

@@ -1,4 +1,4 @@
-//! Where the properties of types are, found once for each slot.
+//! A table of the properties behind the slots of all types.
 
 ghost use Rattle.std.specs.Prelude.{◌≡◌, ◌<◌, ◌++◌, ◌≤◌, ◌+◌, ◌*◌, [], Some, IfOk, OnOk, length, map, slice_get};
 ghost use Rattle.ui_machine.specs.Seq.{listed, read};
@@ -11,16 +11,16 @@ use std::alloc::{AllocError, Global};
 use std::marker::Model;
 use type_tree::{TypeId, TypeTree};
 
-/// Where a property is: the type that it was installed for, and its place among that type's own.
+/// The property behind a slot: the type that it was installed for, and its index among that type's own properties.
 #[derive(Clone, Copy, Debug, PartialEq, Eq)]
 pub struct SlotPlace {
     pub owner: TypeId,
     pub at: u16,
 }
 
-/// Where the property of each slot of each type is, inherited ones among them. A contract sees the lists of the types' slots.
+/// For each slot of each type, inherited ones included, the property behind it. A contract sees the lists of the types' slots.
 ///
-/// It is made once, when all properties are installed, so that a slot of a type costs the same however many ancestors the type has.
+/// The table is built once, when all properties are installed, so that a look-up costs the same however many ancestors a type has.
 #[derive(Drop)]
 pub struct SlotTable {
     rows: Vec<Vec<SlotPlace>>,
@@ -40,7 +40,7 @@ impl Model for SlotTable {
 }
 
 impl SlotTable {
-    /// The slots of all types of a tree.
+    /// Builds the table for all types of a tree.
     ///
     /// # Errors
     ///
@@ -58,7 +58,7 @@ impl SlotTable {
         Ok(SlotTable { rows })
     }
 
-    // The slots of a type.
+    // Returns the slots of a type.
     fn row(&self, t: TypeId) -> &[SlotPlace]
         ensures row { result.now ≡ read [] self.now t }
         ensures few { length result.now ≤ 16448 }
@@ -71,7 +71,7 @@ impl SlotTable {
         }
     }
 
-    /// How many slots a type has.
+    /// Returns the number of slots of a type.
     pub fn count(&self, t: TypeId) -> usize
         ensures count { result ≡ length (read [] self.now t) }
         ensures few { result ≤ 16448 }
@@ -79,7 +79,7 @@ impl SlotTable {
         self.row(t).len()
     }
 
-    /// Where the property of a slot of a type is, if the type has so many.
+    /// Returns the property behind a slot of a type, or `None` if the type has no such slot.
     pub fn place(&self, t: TypeId, slot: usize) -> Option<SlotPlace>
         ensures { result ≡ slice_get (read [] self.now t) slot }
     {
@@ -87,7 +87,7 @@ impl SlotTable {
     }
 }
 
-// The slots that a type has from its parent.
+// Copies the slots that a type inherits from its parent. Empty for a type without a parent.
 fn inherited(
     alloc: Global,
     tree: &TypeTree,
@@ -105,7 +105,7 @@ fn inherited(
     Ok(row)
 }
 
-// The slots of a type: those of its parent, and then those of its own properties.
+// Builds the slots of a type: first the inherited ones, then one for each property of its own.
 fn row_of(
     alloc: Global,
     tree: &TypeTree,
@@ -126,7 +126,7 @@ fn row_of(
     Ok(row)
 }
 
-// Adds the slots of a type's own properties.
+// Appends the slots of a type's own properties.
 fn add_own(row: &mut Vec<SlotPlace>, t: TypeId, count: usize) -> Result<(), AllocError>
     requires few { count ≤ 64 }
     ensures { OnOk result (row.new.items ≡ row.old.items ++ listed (own_place t) count) }

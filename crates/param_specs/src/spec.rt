@@ -10,59 +10,59 @@ use bitflags::Flags;
 use g_values::{Kind, Value};
 use std::rc::RcStr;
 
-/// What a property may hold, and how it may be used.
+/// The specification of a property: what it may hold and how it may be used.
 #[derive(Debug, Drop)]
 pub struct Spec {
-    /// The name; a table keeps it in the canonical spelling, with `-` for `_`. Whoever notifies of the property shares it.
+    /// The name. A table stores it in the canonical spelling, with `-` for `_`. Notifications of the property share it.
     pub name: RcStr,
     pub kind: Kind,
     pub flags: PropertyFlags,
     pub default: Value,
-    /// The least number, at a kind of whole numbers; 0 elsewhere.
+    /// The minimum for an integer kind, 0 for other kinds.
     pub min: i128,
-    /// The greatest number, at a kind of whole numbers; 0 elsewhere.
+    /// The maximum for an integer kind, 0 for other kinds.
     pub max: i128,
-    /// Whether an object is not kept alive by the property.
+    /// Whether the property holds its object weakly, so that it does not keep the object alive.
     pub weak: bool,
 }
 
 impl Spec {
-    /// Whether the property may be read.
+    /// Returns whether the property may be read.
     pub fn is_readable(&self) -> bool
         ensures { result ≡ is_readable (spec_view self.now) }
     {
         self.flags.contains(PropertyFlags::READABLE)
     }
 
-    /// Whether it may be written.
+    /// Returns whether the property may be written.
     pub fn is_writable(&self) -> bool
         ensures { result ≡ is_writable (spec_view self.now) }
     {
         self.flags.contains(PropertyFlags::WRITABLE)
     }
 
-    /// Whether it is written by a construction alone.
+    /// Returns whether the property can be set only during construction.
     pub fn is_construct_only(&self) -> bool
         ensures { result ≡ is_construct_only (spec_view self.now) }
     {
         self.flags.contains(PropertyFlags::CONSTRUCT_ONLY)
     }
 
-    /// Whether a construction sets it.
+    /// Returns whether the property is set during construction.
     pub fn is_at_construction(&self) -> bool
         ensures { result ≡ is_at_construction (spec_view self.now) }
     {
         self.flags.contains(PropertyFlags::CONSTRUCT) || self.is_construct_only()
     }
 
-    /// Whether a set takes what validation makes of a value that is not valid.
+    /// Returns whether setting an invalid value stores what validation makes of it.
     pub fn is_lax(&self) -> bool
         ensures { result ≡ is_lax (spec_view self.now) }
     {
         self.flags.contains(PropertyFlags::LAX_VALIDATION)
     }
 
-    /// Whether a set is notified only where the value changes.
+    /// Returns whether a set notifies only if the value changes.
     pub fn is_explicit_notify(&self) -> bool
         ensures { result ≡ is_explicit_notify (spec_view self.now) }
     {

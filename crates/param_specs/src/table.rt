@@ -1,4 +1,4 @@
-//! Which properties the types have.
+//! The table of the properties of all types.
 
 ghost use Rattle.std.specs.Prelude.{◌≡◌, ◌≢◌, ◌<◌, ◌≤◌, ◌+◌, ◌*◌, List, [], map, length, string_bytes, slice_get, position, option_map, None, Some, IfSome, IfNone, true, OnOk, OnErr};
 ghost use Rattle.std.specs.Rc.{rc_str_bytes};
@@ -22,11 +22,11 @@ use type_tree::{
 };
 use ui_machine::Slot;
 
-/// The most properties of a type, with the inherited ones.
+/// The most properties of a type, including the inherited ones.
 pub const MOST_PROPERTIES: usize = 64;
 
-/// The properties of each type's own, by their canonical names. Those of its ancestors come before them: a type's slots are numbered from the
-/// root down. A contract sees the list of the types' own lists.
+/// For each type, the properties that were installed for it, by their canonical names. A type's slots are numbered from the root down, so
+/// inherited properties come before its own. A contract sees the list of the types' own lists.
 #[derive(Drop)]
 pub struct SpecTable {
     own: Vec<IndexMap<String, Spec>>,
@@ -46,7 +46,7 @@ impl Model for SpecTable {
 }
 
 impl SpecTable {
-    /// A table without properties. It takes no memory.
+    /// Creates a table without properties. Takes no memory.
     pub fn new(alloc: Global) -> Self
         ensures { result ≡ [] }
     {
@@ -55,7 +55,7 @@ impl SpecTable {
         }
     }
 
-    // The properties of a type's own, if it was given some.
+    // Returns the properties installed for a type itself, or `None` if there is no list for it.
     fn own(&self, t: TypeId) -> Option<&IndexMap<String, Spec>>
         ensures own { map spec_view (specs_in (entries_or_none (option_map (λ m. m.now.entries) result))) ≡ own_of self.now t }
         ensures few { IfSome result (λ m. length m.now.entries ≤ 64) }
@@ -69,7 +69,7 @@ impl SpecTable {
         }
     }
 
-    /// How many properties a type has of its own.
+    /// Returns the number of properties installed for a type itself.
     pub fn own_count(&self, t: TypeId) -> usize
         ensures count { result ≡ length (own_of self.now t) }
         ensures few { result ≤ 64 }
@@ -80,7 +80,7 @@ impl SpecTable {
         }
     }
 
-    /// How many properties a type has, with the inherited ones.
+    /// Returns the number of properties of a type, including the inherited ones.
     pub fn slots_of(&self, tree: &TypeTree, t: TypeId) -> usize
         ensures count { result ≡ length (specs_of tree.now self.now t) }
         ensures bound { result ≤ 64 * (t + 1) }
@@ -94,7 +94,7 @@ impl SpecTable {
         }
     }
 
-    // The slot of a property of a type's own, counted from the first of them.
+    // Returns the index of a type's own property with this name, in any spelling.
     fn own_slot(&self, t: TypeId, name: &str) -> Option<usize>
         ensures slot { result ≡ slot_named (own_of self.now t) name.now }
         ensures within { IfSome result (λ i. i < 64) }
@@ -102,7 +102,7 @@ impl SpecTable {
         position_of(self.own(t)?, name)
     }
 
-    /// The property of a slot of a type's own, counted from the first of them.
+    /// Returns a type's own property by its index among the type's own.
     pub fn own_spec(&self, t: TypeId, slot: usize) -> &Spec
         requires { slot < length (own_of self.now t) }
         ensures { slice_get (own_of self.now t) slot ≡ Some (spec_view result.now) }
@@ -116,7 +116,7 @@ impl SpecTable {
         spec
     }
 
-    // The slot of a property of a type, its own or inherited.
+    // Returns the slot of a type's property with this name, its own or inherited, in any spelling.
     pub(crate) fn slot(&self, tree: &TypeTree, t: TypeId, name: &str) -> Option<usize>
         ensures slot { result ≡ slot_named (specs_of tree.now self.now t) name.now }
         ensures bound { IfSome result (λ i. i < 16448) }
@@ -131,7 +131,7 @@ impl SpecTable {
         }
     }
 
-    // The property of a slot.
+    // Returns the property in a slot of a type.
     pub(crate) fn spec_at(&self, tree: &TypeTree, t: TypeId, slot: usize) -> &Spec
         requires { slot < length (specs_of tree.now self.now t) }
         ensures { slice_get (specs_of tree.now self.now t) slot ≡ Some (spec_view result.now) }
@@ -147,7 +147,7 @@ impl SpecTable {
         }
     }
 
-    // Adds a property of a type's own, under its name.
+    // Adds a property under this name to a type's own.
     fn add_own(&mut self, t: TypeId, name: String, spec: Spec) -> Result<(), AllocError>
         requires room { length (own_of self.old t) < 64 }
         requires named { string_bytes name ≡ rc_str_bytes spec.name }
@@ -162,7 +162,7 @@ impl SpecTable {
         Ok(())
     }
 
-    // Why a property is not installed.
+    // Returns why a property may not be installed, or `None` if it may.
     fn install_fault(&self, tree: &TypeTree, t: TypeId, spec: &Spec) -> Option<SpecFault>
         requires { IsKnown tree.now spec.now.kind }
         ensures fault { result ≡ install_fault tree.now (specs_of tree.now self.now t) (spec_view spec.now) }
@@ -191,17 +191,17 @@ impl SpecTable {
         None
     }
 
-    // The allocator that the table was made with.
+    // Returns the allocator that the table was created with.
     fn allocator(&self) -> Global {
         *self.own.allocator()
     }
 
-    /// Adds a property to a type, under its canonical name, and answers its slot. The name is tested first, then whether the type has it already, its
-    /// own or inherited, the flags, the range, the default, and room.
+    /// Installs a property for a type, under its canonical name, and returns its slot. Tests, in this order: the form of the name, whether
+    /// the type has a property of that name, its own or inherited, the flags, the range, the default, and the number of properties.
     ///
     /// # Errors
     ///
-    /// The first cause, in this order, or want of memory. The properties are as they were.
+    /// Returns `Refused` with the first test that fails, or `OutOfMemory` if memory is refused. The properties are unchanged then.
     pub fn install(&mut self, tree: &TypeTree, t: TypeId, spec: Spec) -> Result<Slot, SpecError>
         requires { IsKnown tree.now spec.kind }
         ensures { let specs = specs_of tree.now self.old t in
@@ -218,7 +218,7 @@ impl SpecTable {
         Ok(slot as Slot)
     }
 
-    /// The slot of a property of a type, its own or inherited, by any spelling of its name.
+    /// Returns the slot of a type's property with this name, its own or inherited, in any spelling.
     pub fn find(&self, tree: &TypeTree, t: TypeId, name: &str) -> Option<Slot>
         ensures { result ≡ slot_named (specs_of tree.now self.now t) name.now }
     {
@@ -226,7 +226,7 @@ impl SpecTable {
         Some(slot as Slot)
     }
 
-    /// The property of a slot of a type.
+    /// Returns the property in a slot of a type.
     pub fn spec(&self, tree: &TypeTree, t: TypeId, slot: Slot) -> &Spec
         requires { slot < length (specs_of tree.now self.now t) }
         ensures { slice_get (specs_of tree.now self.now t) slot ≡ Some (spec_view result.now) }
@@ -235,7 +235,8 @@ impl SpecTable {
     }
 }
 
-// Where a property is, by any spelling of its name. One in the canonical spelling is not searched for.
+// Returns the index of the property with this name, in any spelling. A name in the canonical spelling is looked up directly, without
+// walking over the names.
 fn position_of(own: &IndexMap<String, Spec>, name: &str) -> Option<usize>
     requires { AreNamed own.now.entries }
     ensures place { result ≡ slot_named (map spec_view (specs_in own.now.entries)) name.now }
@@ -248,7 +249,7 @@ fn position_of(own: &IndexMap<String, Spec>, name: &str) -> Option<usize>
     }
 }
 
-// The same, by walking over the names.
+// Like `position_of`, but walks over the names.
 fn spelled_position(own: &IndexMap<String, Spec>, name: &str) -> Option<usize>
     ensures place { result ≡ position (λ k. same_name (string_bytes k) (canonical name.now)) (keys own.now) }
     ensures within { IfSome result (λ i. i < length own.now.entries) }
@@ -256,7 +257,7 @@ fn spelled_position(own: &IndexMap<String, Spec>, name: &str) -> Option<usize>
     own.keys().position(|key| is_spelling(key.as_str(), name))
 }
 
-// The same property under another name.
+// Returns the property under another name.
 fn renamed(spec: Spec, name: RcStr) -> Spec
     ensures { spec_view result ≡ record (spec_view spec) { name = rc_str_bytes name } }
 {

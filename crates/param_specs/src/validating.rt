@@ -1,4 +1,4 @@
-//! Validation: how a value is brought into its property's spec (GObject manual, g_param_value_validate).
+//! Validation, which brings a value into the range of its property's spec (GObject manual, g_param_value_validate).
 
 ghost use Rattle.std.specs.Prelude.{◌≡◌, ◌↔◌, IsTrue, ◌≤ℤ◌, ℤ, ℕ, pos, cond, false, not, nat_eq, bit_and, List, Option, None, Some, IfSome};
 ghost use Rattle.std.specs.Ordering.{int_eq};
@@ -19,9 +19,10 @@ use g_values::{Kind, Value, kind_of};
 use type_tree::{TypeId, TypeTree};
 use ui_machine::ObjectId;
 
-/// A value as the property takes it, and whether it was changed: a number goes to the nearer end of the range, one that is no member becomes the
-/// default, unknown bits are cleared, and an object of another type becomes null. An object's value has to name the object's own class. The value
-/// keeps its kind, so an object's value its declared type. A value for which the spec has none of that kind (`takes`) comes back as it is.
+/// Validates a value for a property, and returns it with whether it was changed. A number is clamped to the range, a number that is not of
+/// an enum member becomes the default, unknown bits are cleared, and an object of another type becomes null. The declared type of an object
+/// value has to be the object's own class. The result has the kind of the given value, and so for an object its declared type. A value that
+/// the spec does not take (see `takes`) is returned unchanged.
 #[tactic(auto, using(crate::proofs::Same::same_value_refl))]
 pub fn validate(tree: &TypeTree, spec: &Spec, value: Value) -> (Value, bool)
     ensures value { Takes tree.now spec.now value → (living_class : ℕ → Option ℕ) → KnowsClass living_class value
@@ -40,8 +41,8 @@ pub fn validate(tree: &TypeTree, spec: &Spec, value: Value) -> (Value, bool)
     }
 }
 
-/// Whether a spec has for each value of this kind one that is valid: a number's range lies within the number's kind, and an enum's default is of
-/// that enum.
+/// Returns whether validation can make each value of this value's kind valid: for an integer, the spec's range lies within its kind, and
+/// for an enum, the spec's default is of that enum.
 pub fn takes(tree: &TypeTree, spec: &Spec, value: &Value) -> bool
     ensures { IsTrue result ↔ Takes tree.now spec.now value.now }
 {
@@ -58,35 +59,35 @@ pub fn takes(tree: &TypeTree, spec: &Spec, value: &Value) -> bool
     }
 }
 
-// Whether the ends of the range are numbers of the kind.
+// Returns whether both ends of the range fit an `i32`.
 fn has_range_of_int(spec: &Spec) -> bool
     ensures { IsTrue result ↔ IsWithin int spec.now }
 {
     has_range_within(spec, i128::from(i32::MIN), i128::from(i32::MAX))
 }
 
-// The same for numbers of 32 bits.
+// Returns whether both ends of the range fit a `u32`.
 fn has_range_of_uint(spec: &Spec) -> bool
     ensures { IsTrue result ↔ IsWithin uint spec.now }
 {
     has_range_within(spec, 0, i128::from(u32::MAX))
 }
 
-// The same for numbers of 64 bits with a sign.
+// Returns whether both ends of the range fit an `i64`.
 fn has_range_of_int64(spec: &Spec) -> bool
     ensures { IsTrue result ↔ IsWithin int64 spec.now }
 {
     has_range_within(spec, i128::from(i64::MIN), i128::from(i64::MAX))
 }
 
-// The same for numbers of 64 bits.
+// Returns whether both ends of the range fit a `u64`.
 fn has_range_of_uint64(spec: &Spec) -> bool
     ensures { IsTrue result ↔ IsWithin uint64 spec.now }
 {
     has_range_within(spec, 0, i128::from(u64::MAX))
 }
 
-// Whether the ends of the range lie between two numbers, both included.
+// Returns whether both ends of the range lie from `low` to `high`, both included.
 fn has_range_within(spec: &Spec, low: i128, high: i128) -> bool
     ensures min { IsTrue result → (low ≤ℤ spec.now.min) × (spec.now.min ≤ℤ high) }
     ensures max { IsTrue result → (low ≤ℤ spec.now.max) × (spec.now.max ≤ℤ high) }
@@ -95,14 +96,14 @@ fn has_range_within(spec: &Spec, low: i128, high: i128) -> bool
     lies_within(spec.min, low, high) && lies_within(spec.max, low, high)
 }
 
-// Whether a number lies between two others, both included.
+// Returns whether a number lies from `low` to `high`, both included.
 fn lies_within(number: i128, low: i128, high: i128) -> bool
     ensures { IsTrue result ↔ (low ≤ℤ number) × (number ≤ℤ high) }
 {
     low <= number && number <= high
 }
 
-// What takes the value's place, if it is not valid.
+// Returns the value that replaces `value`, or `None` if `value` is valid.
 fn corrected(tree: &TypeTree, spec: &Spec, value: &Value) -> Option<Value>
     requires { Takes tree.now spec.now value.now }
     ensures kind { IfSome result (λ w. value_kind w ≡ value_kind value.now) }
@@ -123,7 +124,7 @@ fn corrected(tree: &TypeTree, spec: &Spec, value: &Value) -> Option<Value>
     }
 }
 
-// The number of the range that is nearest.
+// Clamps a number to the range of a spec.
 fn nearest(spec: &Spec, number: i128) -> i128
     ensures nearest { result ≡ limited spec.now.min spec.now.max number }
     ensures low { (n : ℤ) → n ≤ℤ spec.now.min → n ≤ℤ spec.now.max → n ≤ℤ number → n ≤ℤ result }
@@ -234,7 +235,7 @@ fn corrected_object(tree: &TypeTree, spec: &Spec, t: TypeId, id: ObjectId) -> Op
     }
 }
 
-/// Whether the default of a spec may be in the property; an object's default is null.
+/// Returns whether the default of a spec is a valid value for it. The default of an object property has to be null.
 pub fn is_valid_default(tree: &TypeTree, spec: &Spec) -> bool
     requires { IsKnown tree.now spec.now.kind }
     ensures { result ≡ is_valid (λ id. None) tree.now (spec_view spec.now) (value_view spec.now.default) }
@@ -263,7 +264,7 @@ fn is_valid_text(spec: &Spec) -> bool
     }
 }
 
-// Whether a number lies in the range of a spec.
+// Returns whether a number lies within the range of a spec.
 fn is_in_range(spec: &Spec, number: i128) -> bool
     ensures { result ≡ int_eq (limited spec.now.min spec.now.max number) number }
 {

@@ -1,4 +1,4 @@
-//! Methods of peers, and shapes: lists of methods with names of their own.
+//! The methods of peers, and shapes, which are lists of methods with distinct names.
 #![tactic(auto)]
 
 mod methods;

@@ -3,7 +3,7 @@
 use g_values::Kind;
 use std::alloc::AllocError;
 
-/// A method of a shape. Its kinds are plain ones: truth values, whole numbers and texts.
+/// A method of a shape. Its kinds are plain ones: booleans, integers and texts.
 #[derive(Debug, Drop)]
 pub struct Method {
     pub name: String,
@@ -11,7 +11,7 @@ pub struct Method {
     pub result: Kind,
 }
 
-/// What a method takes and answers, under its name.
+/// The parameter kinds and the result kind of a method, without its name.
 #[derive(Drop)]
 pub(crate) struct Signature {
     pub(crate) params: Vec<Kind>,
@@ -32,7 +32,7 @@ impl Clone for Signature {
     }
 }
 
-/// A method of a shape, lent.
+/// A borrowed method of a shape.
 #[derive(Clone, Copy, Debug)]
 pub struct MethodRef<'a> {
     pub name: &'a str,

@@ -1,4 +1,4 @@
-//! Shapes.
+//! Shapes, which are lists of methods with distinct names.
 
 ghost use Rattle.std.specs.Prelude.{◌≡◌, ◌<◌, ◌∷◌, ◌++◌, [], None, IfOk, IfSome, OnOk, length, option_map, slice_get, string_bytes};
 ghost use Rattle.ui_machine.specs.Definition.Names.{place_named};
@@ -9,7 +9,7 @@ use indexmap::IndexMap;
 use std::alloc::{AllocError, Global};
 use std::marker::Model;
 
-/// Methods in their order, in which a call names them by number, each found by its name. A contract sees the list of the methods.
+/// A list of methods, which calls name by their numbers, with a look-up by name. A contract sees the list of the methods.
 #[derive(Drop)]
 pub struct Shape {
     methods: IndexMap<String, Signature>,
@@ -26,7 +26,7 @@ impl Model for Shape {
 }
 
 impl Shape {
-    /// No methods. It takes no memory.
+    /// Creates a shape without methods. Takes no memory.
     pub fn new(alloc: Global) -> Self
         ensures { result ≡ [] }
     {
@@ -35,14 +35,14 @@ impl Shape {
         }
     }
 
-    /// How many methods there are.
+    /// Returns the number of methods.
     pub fn len(&self) -> usize
         ensures { result ≡ length self.now }
     {
         self.methods.len()
     }
 
-    /// The number of the method of a name.
+    /// Returns the number of the method with this name, or `None` if no method has it.
     pub fn find(&self, name: &str) -> Option<usize>
         ensures found { result ≡ place_named (λ m. m.name) self.now name.now }
         ensures within { IfSome result (λ k. k < length self.now) }
@@ -50,7 +50,7 @@ impl Shape {
         self.methods.get_index_of(name)
     }
 
-    /// The method of a number, if there are so many.
+    /// Returns the method with this number, or `None` if there are not so many.
     pub fn method(&self, number: usize) -> Option<MethodRef<'_>>
         ensures { option_map lent_view result ≡ slice_get self.now number }
     {
@@ -62,7 +62,7 @@ impl Shape {
         })
     }
 
-    /// The same methods once more.
+    /// Copies the shape.
     ///
     /// # Errors
     ///
@@ -74,11 +74,11 @@ impl Shape {
         Ok(Shape { methods })
     }
 
-    /// Adds a method, whose name is a new one.
+    /// Adds a method at the end. No method has its name yet.
     ///
     /// # Errors
     ///
-    /// `AllocError` if memory is refused. The shape is as it was.
+    /// `AllocError` if memory is refused.
     pub fn add(&mut self, method: Method) -> Result<(), AllocError>
         requires { place_named (λ m. m.name) self.old (string_bytes method.name) ≡ None }
         ensures { OnOk result (self.new ≡ self.old ++ method_view method ∷ []) }

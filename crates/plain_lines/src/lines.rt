@@ -1,4 +1,4 @@
-//! Lines of the plain forms, read token by token.
+//! Reads lines of the plain forms token by token.
 
 ghost use Rattle.std.specs.Prelude.{◌≡◌, [], ◌∷◌, Some, IfSome, IfOk, codes};
 ghost use Rattle.json.specs.Token.{begin_object, end_object, begin_array, end_array, string, key};
@@ -15,7 +15,7 @@ use json::{Reader, Scratch, Token};
 use serde_json::Value;
 use std::alloc::{AllocError, Global};
 
-/// What a plain line says. Its texts lie in the line, or where they have escapes, in the scratch.
+/// A plain line. Its texts are slices of the line or, if they have escapes, of the scratch buffer.
 #[derive(Drop)]
 pub enum PlainLine<'a> {
     /// `{"set":[id,name,value]}`
@@ -41,7 +41,7 @@ pub enum PlainLine<'a> {
     },
 }
 
-// The bracket of a list of words, with the id and the name that it begins with.
+// Reads the opening bracket of a list of words, and the id and the name that follow it.
 fn open_words<'a>(reader: &mut Reader<'a>) -> Option<(&'a str, &'a str)>
     ensures { IfSome result (λ w. reader.old ≡ begin_array ∷ string w.0.now ∷ string w.1.now ∷ reader.new) }
 {
@@ -51,7 +51,7 @@ fn open_words<'a>(reader: &mut Reader<'a>) -> Option<(&'a str, &'a str)>
     Some((id, name))
 }
 
-// The brackets behind the words, which end the line.
+// Reads the brackets after the words, which end the line.
 fn close_words(reader: &mut Reader<'_>) -> Option<()>
     ensures { IfSome result (λ _. reader.old ≡ end_array ∷ end_object ∷ []) }
 {
@@ -60,7 +60,7 @@ fn close_words(reader: &mut Reader<'_>) -> Option<()>
     end_line(reader)
 }
 
-// The values of a list behind its opening bracket. None where one of them is a list or an object.
+// Reads the values of a list after its opening bracket. Returns `None` if one of them is a list or an object.
 fn next_scalars(alloc: Global, reader: &mut Reader<'_>) -> Result<Option<Vec<Value>>, AllocError>
     ensures { IfOk result (λ values. IfSome values (λ vs. AreNext reader.old (items_view vs.items) reader.new)) }
 {
@@ -77,7 +77,7 @@ fn next_scalars(alloc: Global, reader: &mut Reader<'_>) -> Result<Option<Vec<Val
     Ok(None)
 }
 
-// A set, behind its key.
+// Reads a set after its key.
 fn read_set<'a>(alloc: Global, reader: &mut Reader<'a>) -> Result<Option<PlainLine<'a>>, AllocError>
     ensures { IfOk result (λ line. IfSome line (λ p. Says (begin_object ∷ key (codes "set") ∷ reader.old) p)) }
 {
@@ -93,7 +93,7 @@ fn read_set<'a>(alloc: Global, reader: &mut Reader<'a>) -> Result<Option<PlainLi
     Ok(Some(PlainLine::Set { id, name, value }))
 }
 
-// A get, behind its key.
+// Reads a get after its key.
 fn read_get<'a>(reader: &mut Reader<'a>) -> Option<PlainLine<'a>>
     ensures { IfSome result (λ p. Says (begin_object ∷ key (codes "get") ∷ reader.old) p) }
 {
@@ -102,7 +102,7 @@ fn read_get<'a>(reader: &mut Reader<'a>) -> Option<PlainLine<'a>>
     Some(PlainLine::Get { id, name })
 }
 
-// A release, behind its key.
+// Reads a release after its key.
 fn read_release<'a>(reader: &mut Reader<'a>) -> Option<PlainLine<'a>>
     ensures { IfSome result (λ p. Says (begin_object ∷ key (codes "release") ∷ reader.old) p) }
 {
@@ -112,7 +112,7 @@ fn read_release<'a>(reader: &mut Reader<'a>) -> Option<PlainLine<'a>>
     Some(PlainLine::Release { id })
 }
 
-// An emission without a detail, behind its key.
+// Reads an emission without a detail after its key.
 fn read_emit<'a>(
     alloc: Global,
     reader: &mut Reader<'a>,
@@ -134,7 +134,7 @@ fn read_emit<'a>(
     Ok(Some(PlainLine::Emit { id, name, args }))
 }
 
-// The brace that opens a line, and its first key.
+// Reads the brace that opens a line, and its first key.
 fn open_line<'a>(reader: &mut Reader<'a>) -> Option<&'a str>
     ensures { IfSome result (λ k. reader.old ≡ begin_object ∷ key k.now ∷ reader.new) }
 {
@@ -142,7 +142,7 @@ fn open_line<'a>(reader: &mut Reader<'a>) -> Option<&'a str>
     next_key(reader)
 }
 
-// What tokens say, if they are those of a plain line.
+// Reads a plain line from its tokens, or returns `None` if they are not those of one.
 fn read_line<'a>(
     alloc: Global,
     reader: &mut Reader<'a>,
@@ -168,11 +168,11 @@ fn read_line<'a>(
 }
 
 impl<'a> PlainLine<'a> {
-    /// Reads a text that is a plain line. `None` says nothing of the text: it may still be JSON.
+    /// Reads a text that is a plain line. `None` does not mean that the text is at fault: it may still be JSON.
     ///
     /// # Errors
     ///
-    /// `AllocError` where the scratch cannot grow to the length of the text, or there is no memory for a value.
+    /// `AllocError` if the scratch buffer can't grow to the length of the text, or memory for a value is refused.
     #[tactic(auto, using(crate::proofs::PlainRead::read_plain))]
     pub fn read(
         alloc: Global,

@@ -1,4 +1,4 @@
-//! Numbers, as `serde_json` reads them.
+//! Reads numbers as `serde_json` does.
 
 ghost use Rattle.std.specs.Prelude.{◌≡◌, true, false, option_map, length, ◌<◌, IsTrue, slice_index, ◌==◌};
 ghost use Rattle.serde_json.specs.Read.{number_of, number_from, float_of};
@@ -7,7 +7,7 @@ ghost use Rattle.serde_json.specs.View.{number_view};
 use fast_float::Numeral;
 use serde_json::Number;
 
-// Whether the text of a number begins with a minus.
+// Returns whether the text of a number begins with a minus.
 fn begins_with_minus(bytes: &[u8]) -> bool
     ensures first { result ≡ (slice_index bytes.now 0 == 45) }
     ensures length { IsTrue result → 0 < length bytes.now }
@@ -15,14 +15,14 @@ fn begins_with_minus(bytes: &[u8]) -> bool
     !bytes.is_empty() && bytes[0] == b'-'
 }
 
-// The float nearest to a numeral, unless the numeral is too large for one.
+// Returns the float nearest to a numeral, or `None` if the numeral is too large for one.
 fn nearest_float(is_negative: bool, numeral: &Numeral<'_>) -> Option<Number>
     ensures { option_map number_view result ≡ float_of is_negative numeral.now }
 {
     Number::from_f64(numeral.to_float::<f64>(is_negative))
 }
 
-// The number of a numeral that stands behind no minus.
+// Returns the number of a numeral without a minus before it.
 fn without_minus(numeral: &Numeral<'_>) -> Option<Number>
     ensures { option_map number_view result ≡ number_from false numeral.now }
 {
@@ -32,7 +32,7 @@ fn without_minus(numeral: &Numeral<'_>) -> Option<Number>
     }
 }
 
-// The number of a numeral that stands behind a minus. A negative zero is a float.
+// Returns the number of a numeral with a minus before it. A negative zero is a float.
 fn with_minus(numeral: &Numeral<'_>) -> Option<Number>
     ensures { option_map number_view result ≡ number_from true numeral.now }
 {
@@ -44,7 +44,7 @@ fn with_minus(numeral: &Numeral<'_>) -> Option<Number>
     nearest_float(true, numeral)
 }
 
-// The number that a text writes, unless it is too large for a float.
+// Returns the number that a text denotes, or `None` if it is too large for a float.
 pub(crate) fn number_in(text: &str) -> Option<Number>
     ensures { option_map number_view result ≡ number_of text.now }
 {

@@ -1,4 +1,4 @@
-//! Single tokens of a line, each asked for by what it should be.
+//! Reads single tokens of a line, with one function for each sort that a caller may expect.
 
 ghost use Rattle.std.specs.Prelude.{◌≡◌, [], ◌∷◌, IfSome, IfOk, option_map};
 ghost use Rattle.json.specs.Reads.{token_of};
@@ -11,7 +11,7 @@ use json::{Reader, Token};
 use serde_json::Value;
 use std::alloc::{AllocError, Global};
 
-// The brace that opens an object.
+// Reads the brace that opens an object.
 pub(crate) fn open_object(reader: &mut Reader<'_>) -> Option<()>
     ensures { IfSome result (λ _. reader.old ≡ begin_object ∷ reader.new) }
 {
@@ -21,7 +21,7 @@ pub(crate) fn open_object(reader: &mut Reader<'_>) -> Option<()>
     }
 }
 
-// The brace that closes an object.
+// Reads the brace that closes an object.
 pub(crate) fn close_object(reader: &mut Reader<'_>) -> Option<()>
     ensures { IfSome result (λ _. reader.old ≡ end_object ∷ reader.new) }
 {
@@ -31,7 +31,7 @@ pub(crate) fn close_object(reader: &mut Reader<'_>) -> Option<()>
     }
 }
 
-// The bracket that opens an array.
+// Reads the bracket that opens an array.
 pub(crate) fn open_array(reader: &mut Reader<'_>) -> Option<()>
     ensures { IfSome result (λ _. reader.old ≡ begin_array ∷ reader.new) }
 {
@@ -41,7 +41,7 @@ pub(crate) fn open_array(reader: &mut Reader<'_>) -> Option<()>
     }
 }
 
-// The bracket that closes an array.
+// Reads the bracket that closes an array.
 pub(crate) fn close_array(reader: &mut Reader<'_>) -> Option<()>
     ensures { IfSome result (λ _. reader.old ≡ end_array ∷ reader.new) }
 {
@@ -51,7 +51,7 @@ pub(crate) fn close_array(reader: &mut Reader<'_>) -> Option<()>
     }
 }
 
-// A member's key.
+// Reads the key of a member.
 pub(crate) fn next_key<'a>(reader: &mut Reader<'a>) -> Option<&'a str>
     ensures { IfSome result (λ s. reader.old ≡ key s.now ∷ reader.new) }
 {
@@ -61,7 +61,7 @@ pub(crate) fn next_key<'a>(reader: &mut Reader<'a>) -> Option<&'a str>
     }
 }
 
-// A string.
+// Reads a string.
 pub(crate) fn next_string<'a>(reader: &mut Reader<'a>) -> Option<&'a str>
     ensures { IfSome result (λ s. reader.old ≡ string s.now ∷ reader.new) }
 {
@@ -71,7 +71,7 @@ pub(crate) fn next_string<'a>(reader: &mut Reader<'a>) -> Option<&'a str>
     }
 }
 
-// The end of the line.
+// Checks that the line has ended.
 pub(crate) fn end_line(reader: &mut Reader<'_>) -> Option<()>
     ensures { IfSome result (λ _. reader.old ≡ []) }
 {
@@ -81,7 +81,7 @@ pub(crate) fn end_line(reader: &mut Reader<'_>) -> Option<()>
     }
 }
 
-// The value of a token that is one by itself. None where it is none, or a number that is too large.
+// Returns the value that a token is by itself, or `None` if it is none or a number that is too large.
 pub(crate) fn value_of(alloc: Global, token: Token<'_>) -> Result<Option<Value>, AllocError>
     ensures { IfOk result (λ value. option_map view value ≡ scalar_data (token_of token.entry)) }
 {
@@ -97,7 +97,7 @@ pub(crate) fn value_of(alloc: Global, token: Token<'_>) -> Result<Option<Value>,
     }
 }
 
-// A value that is no list and no object.
+// Reads a value that is no list and no object.
 pub(crate) fn next_scalar(
     alloc: Global,
     reader: &mut Reader<'_>,

@@ -1,4 +1,4 @@
-//! The handlers that objects name for themselves, and what they are for.
+//! The handlers that objects themselves have, and their meanings.
 
 ghost use Rattle.std.specs.Prelude.{◌≡◌, ◌++◌, ◌<◌, ◌∷◌, [], Some, length, map, slice_get, IfOk, OnOk};
 ghost use Rattle.ui_machine.specs.Definition.Lookups.{place_at};
@@ -17,14 +17,14 @@ use std::alloc::{AllocError, Global};
 use type_tree::TypeId;
 use ui_machine::{Channel, Place, ProgramId};
 
-/// A handler of an object, and what it is for.
+/// A handler of an object, with the meaning of its signal and detail.
 #[derive(Clone, Copy, Debug, Drop)]
 pub struct AttachedHandler {
     pub program: ProgramId,
     pub meaning: Meaning,
 }
 
-// The handlers of an object of a class.
+// Returns the handlers of an object of this class.
 fn handlers_in(
     alloc: Global,
     lookups: &Lookups<'_>,
@@ -43,7 +43,7 @@ fn handlers_in(
     Ok(handlers)
 }
 
-// The handlers of a place.
+// Returns the handlers of a place.
 fn handlers_at(
     alloc: Global,
     lookups: &Lookups<'_>,
@@ -57,11 +57,11 @@ fn handlers_at(
     handlers_in(alloc, lookups, entry.class, entry.signals)
 }
 
-/// The handlers of all places.
+/// Returns the handlers of each place.
 ///
 /// # Errors
 ///
-/// `AllocError` where no memory is found.
+/// `AllocError` if memory is refused.
 pub fn attached_handlers(
     alloc: Global,
     lookups: &Lookups<'_>,
@@ -76,7 +76,7 @@ pub fn attached_handlers(
     Ok(lists)
 }
 
-// One of some handlers.
+// Returns the handler at an index of a slice.
 fn handler_at(handlers: &[AttachedHandler], number: usize) -> AttachedHandler
     requires { number < length handlers.now }
     ensures { Some (handler_view result) ≡ slice_get (map handler_view handlers.now) number }
@@ -84,7 +84,7 @@ fn handler_at(handlers: &[AttachedHandler], number: usize) -> AttachedHandler
     handlers[number]
 }
 
-// The program of a handler, where it is for the channel.
+// Adds the program of a handler if it is for the channel.
 fn add_program(
     programs: &mut Vec<ProgramId>,
     handler: &AttachedHandler,
@@ -99,7 +99,7 @@ fn add_program(
     Ok(())
 }
 
-// The programs of those that are for a channel.
+// Returns the programs of those handlers that are for a channel.
 fn programs_for(
     alloc: Global,
     handlers: &[AttachedHandler],
@@ -114,11 +114,11 @@ fn programs_for(
     Ok(programs)
 }
 
-/// The programs that a channel's object names for it.
+/// Returns the programs that a channel's object names for it.
 ///
 /// # Errors
 ///
-/// `AllocError` where no memory is found.
+/// `AllocError` if memory is refused.
 pub fn attached_for(
     alloc: Global,
     lookups: &Lookups<'_>,

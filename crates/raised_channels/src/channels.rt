@@ -1,4 +1,4 @@
-//! What runs at each channel of a definition.
+//! Sketches what runs at each channel of a definition.
 
 ghost use Rattle.std.specs.Prelude.{◌≡◌, ◌<◌, ◌≤◌, length, map, IfOk};
 ghost use Rattle.law_typing.specs.Graph.{handlers_for};
@@ -21,14 +21,14 @@ use operand_types::Lookups;
 use std::alloc::{AllocError, Global};
 use ui_machine::{Channel, Member, ProgramId};
 
-/// What runs at the channels of a definition, and the groups of programs that bytecode may connect alike.
+/// The programs and bindings that run at the channels of a definition, and the groups of programs that bytecode may connect alike.
 #[derive(Debug, Drop)]
 pub struct RaisedChannels {
     pub channels: Vec<SketchedChannel>,
     pub groups: Vec<Vec<ProgramId>>,
 }
 
-// What the channels of a definition are put together from.
+// The parts from which the channels of a definition are put together.
 #[derive(Drop)]
 struct ChannelParts {
     attached: Vec<Vec<AttachedHandler>>,
@@ -36,7 +36,7 @@ struct ChannelParts {
     connects: Connects,
 }
 
-// Whether an emission begins at a channel.
+// Returns whether an emission begins at a channel.
 fn emits(channel: &Channel) -> bool
     ensures { result ≡ emits_at (channel_of channel.now) }
 {
@@ -46,7 +46,7 @@ fn emits(channel: &Channel) -> bool
     }
 }
 
-// The programs of the objects' handlers at a channel; of a construction those of its classes.
+// Returns the programs of the objects' handlers at a channel, or for a construction those of its classes.
 fn handlers_for(
     alloc: Global,
     lookups: &Lookups<'_>,
@@ -62,7 +62,7 @@ fn handlers_for(
     }
 }
 
-// The groups that may be at a channel.
+// Returns the groups that may be connected at a channel.
 fn groups_at(
     alloc: Global,
     at: &[Vec<PlacedGroup>],
@@ -78,7 +78,7 @@ fn groups_at(
     Ok(groups)
 }
 
-// What runs at the channel of a number.
+// Sketches what runs at the channel with this number.
 fn raised_channel(
     alloc: Global,
     lookups: &Lookups<'_>,
@@ -113,7 +113,7 @@ fn raised_channel(
     })
 }
 
-// The parts of a definition's channels.
+// Collects the parts of a definition's channels.
 fn parts_of(
     alloc: Global,
     lookups: &Lookups<'_>,
@@ -129,7 +129,7 @@ fn parts_of(
     })
 }
 
-// The connections of a definition whose programs may connect handlers; else none.
+// Returns the connections of a definition's programs. There are none if its limits allow no handlers to be connected.
 fn connections_if(alloc: Global, lookups: &Lookups<'_>) -> Result<Connects, AllocError>
     ensures connected { IfOk result (λ x. AreConnected lookups.now x (connections_if lookups.now)) }
     ensures few { IfOk result (λ x. length x.groups.items ≤ 131072) }
@@ -140,7 +140,7 @@ fn connections_if(alloc: Global, lookups: &Lookups<'_>) -> Result<Connects, Allo
     connections(alloc, lookups)
 }
 
-// What runs at all channels.
+// Sketches what runs at all channels.
 fn all_channels(
     alloc: Global,
     lookups: &Lookups<'_>,
@@ -161,11 +161,11 @@ fn all_channels(
     Ok(channels)
 }
 
-/// What runs at the channels of a definition, in the order of the report.
+/// Sketches what runs at the channels of a definition, in the order of the report.
 ///
 /// # Errors
 ///
-/// `AllocError` where no memory is found.
+/// `AllocError` if memory is refused.
 pub fn raised_channels(
     alloc: Global,
     lookups: &Lookups<'_>,

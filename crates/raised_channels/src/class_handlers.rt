@@ -1,4 +1,4 @@
-//! What classes run at channels: class handlers, and the programs of constructions.
+//! The programs that classes run at channels: class handlers, and the programs of constructions.
 
 ghost use Rattle.std.specs.Prelude.{◌≡◌, ◌++◌, ◌<◌, ◌∷◌, [], codes, cond, length, true, IfOk, OnOk};
 ghost use Rattle.std.specs.List.{filter};
@@ -19,7 +19,7 @@ use std::alloc::{AllocError, Global};
 use type_tree::TypeId;
 use ui_machine::{Channel, Member, Place, ProgramId, SignalId};
 
-// The program that a class with properties runs for `notify`.
+// Returns the program that a class with properties runs for `notify`.
 fn notify_handler(definition: &Definition, class: TypeId) -> Option<ProgramId>
     ensures { 0 < length (specs_of definition.now class) → result ≡ class_handler_of definition.now class (codes "notify") }
 {
@@ -29,7 +29,7 @@ fn notify_handler(definition: &Definition, class: TypeId) -> Option<ProgramId>
     definition.class_handler(class, 0)
 }
 
-/// The class handler's program at a channel.
+/// Returns the program of the class handler at a channel.
 pub fn class_handler(lookups: &Lookups<'_>, channel: &Channel) -> Option<ProgramId>
     ensures { is_channel lookups.now (channel_of channel.now) ≡ true
         → listed_if result ≡ of_class (class_handler_for lookups.now (channel_of channel.now)) (class_at lookups.now channel.now.place.0) }
@@ -44,14 +44,14 @@ pub fn class_handler(lookups: &Lookups<'_>, channel: &Channel) -> Option<Program
     }
 }
 
-// One where it is so.
+// Returns 1 if a condition holds, or else 0.
 fn one_if(is_so: bool) -> u32
     ensures { result ≡ cond is_so 1 0 }
 {
     if is_so { 1 } else { 0 }
 }
 
-// How many stages of the class handler these flags name.
+// Returns how many stages of the class handler these flags name.
 fn stage_count(flags: SignalFlags) -> u32
     ensures { result ≡ length (filter (λ stage. has_flags stage flags.0) (1 ∷ 2 ∷ 4 ∷ [])) }
 {
@@ -60,7 +60,7 @@ fn stage_count(flags: SignalFlags) -> u32
         + one_if(flags.contains(SignalFlags::RUN_CLEANUP))
 }
 
-// The stages of a signal of a class.
+// Returns the number of stages of a signal of a class.
 fn signal_stages(lookups: &Lookups<'_>, class: TypeId, number: SignalId) -> u32
     ensures { result ≡ stages_of (signal_of lookups.now class number) }
 {
@@ -70,7 +70,7 @@ fn signal_stages(lookups: &Lookups<'_>, class: TypeId, number: SignalId) -> u32
     }
 }
 
-/// How often the class handler runs at a channel.
+/// Returns how often the class handler runs at a channel.
 pub fn stages(lookups: &Lookups<'_>, channel: &Channel) -> u32
     ensures { result ≡ stages_at lookups.now (channel_of channel.now) }
 {
@@ -84,7 +84,7 @@ pub fn stages(lookups: &Lookups<'_>, channel: &Channel) -> u32
     }
 }
 
-// The program that a class itself names for its constructed objects.
+// Adds the program that a class itself names for its constructed objects.
 fn add_own(
     programs: &mut Vec<ProgramId>,
     definition: &Definition,
@@ -98,7 +98,7 @@ fn add_own(
     Ok(())
 }
 
-// The programs of a class and its ancestors, from the root on.
+// Adds the programs of a class and its ancestors, from the root on.
 fn add_constructed(
     programs: &mut Vec<ProgramId>,
     definition: &Definition,
@@ -114,11 +114,11 @@ fn add_constructed(
     Ok(())
 }
 
-/// The programs that the construction of the object of a place runs.
+/// Returns the programs that the construction of the object at a place runs.
 ///
 /// # Errors
 ///
-/// `AllocError` where no memory is found.
+/// `AllocError` if memory is refused.
 pub fn constructed_at(
     alloc: Global,
     lookups: &Lookups<'_>,

@@ -1,4 +1,4 @@
-//! The keys of connections: those with the same key may be at the same channels.
+//! The keys of connections. Connections with the same key may be at the same channels.
 
 ghost use Rattle.std.specs.Prelude.{◌≡◌, ◌<◌, option_map, string_bytes};
 ghost use Rattle.ui_machine.specs.Definition.Lookups.{slot_of};
@@ -12,17 +12,17 @@ use operand_types::Lookups;
 use type_tree::TypeId;
 use ui_machine::{Place, SignalId};
 
-/// A type or a place, what sort of connection it is, and the signal's number or the slot of the property that the detail names.
+/// A type or a place, the sort of the connection, and the number of the signal or the slot of the property that the detail names.
 pub type Key = (u16, u16, u16);
 
-// The number of a type.
+// Returns the number of a type.
 fn number_of(t: TypeId) -> u16
     ensures { result ≡ t }
 {
     t.index() as u16
 }
 
-// The key of a property that a detail names.
+// Returns the key of the property that a detail names.
 fn property_key(
     lookups: &Lookups<'_>,
     x: u16,
@@ -38,7 +38,7 @@ fn property_key(
     }
 }
 
-// The key of a signal of a class, where a detail counts for `notify` alone.
+// Returns the key of a signal of a class. A detail only matters for `notify`.
 fn signal_key(
     lookups: &Lookups<'_>,
     x: u16,
@@ -62,7 +62,7 @@ fn signal_key(
     property_key(lookups, x, sort + 1, class, text.as_str())
 }
 
-// The key of a signal of a place.
+// Returns the key of a signal of a place.
 fn place_key(
     lookups: &Lookups<'_>,
     place: Place,
@@ -77,7 +77,7 @@ fn place_key(
     signal_key(lookups, place.0, 2, class, signal, detail)
 }
 
-/// The key of a connection to what a kind covers, where its names are known.
+/// Returns the key of a connection to objects that a kind covers, or `None` if a name in it is not known.
 pub fn connection_key(
     lookups: &Lookups<'_>,
     kind: &RegisterKind,

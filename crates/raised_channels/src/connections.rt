@@ -1,4 +1,4 @@
-//! The programs that bytecode may connect: those that may be connected alike are one group.
+//! Groups the programs that bytecode may connect. Those that may be connected alike are in one group.
 
 ghost use Rattle.std.specs.Prelude.{◌≡◌, ◌++◌, ◌∷◌, ◌+◌, ◌<◌, ◌≤◌, [], Some, ℕ, cond, length, map, nat_eq, option_map, slice_get, string_bytes, IfOk, OnOk};
 ghost use Rattle.bytecode.specs.Shape.{instructions_in};
@@ -24,14 +24,14 @@ use std::alloc::{AllocError, Global};
 use std::collections::BTreeMap;
 use ui_machine::{Channel, Place, ProgramId};
 
-/// A group at a place, and what it is for.
+/// A group at a place, with the meaning of its signal and detail there.
 #[derive(Clone, Copy, Debug, Drop)]
 pub struct PlacedGroup {
     pub group: u32,
     pub meaning: Meaning,
 }
 
-/// Groups of programs that bytecode may connect alike, the groups at each place, and the number of the group of each key that was met.
+/// The groups of programs that bytecode may connect alike, the groups at each place, and the number of the group for each key so far.
 #[derive(Drop)]
 pub struct Connects {
     pub groups: Vec<Vec<ProgramId>>,
@@ -40,7 +40,7 @@ pub struct Connects {
 }
 
 impl Connects {
-    /// No groups.
+    /// Creates an empty set of groups.
     ///
     /// # Errors
     ///
@@ -60,7 +60,7 @@ impl Connects {
         })
     }
 
-    // A group is put to a place.
+    // Adds a group to a place, if the kind covers the place.
     fn place_at(
         &mut self,
         lookups: &Lookups<'_>,
@@ -97,7 +97,7 @@ impl Connects {
         Ok(())
     }
 
-    // A new group of a program, at the places that a kind covers.
+    // Adds a group with one program at the places that a kind covers, and returns its number.
     fn add(
         &mut self,
         alloc: Global,
@@ -122,7 +122,7 @@ impl Connects {
         Ok(group)
     }
 
-    // A program is put to a group, if that is there.
+    // Adds a program to a group. Does nothing if there is no such group.
     fn put(&mut self, group: usize, program: ProgramId) -> Result<(), AllocError>
         ensures at { OnOk result (self.new.at ≡ self.old.at) }
         ensures numbers { OnOk result (self.new.numbers ≡ self.old.numbers) }
@@ -138,7 +138,7 @@ impl Connects {
         Ok(())
     }
 
-    // A program is put to the group of a key.
+    // Adds a program to the group with this key, or to a new group if there is none.
     fn add_keyed(
         &mut self,
         alloc: Global,
@@ -168,7 +168,7 @@ impl Connects {
         Ok(())
     }
 
-    // A connection that a program may make.
+    // Adds a connection that a program may make. One without a key gets a group of its own.
     fn connect(
         &mut self,
         alloc: Global,
@@ -204,7 +204,7 @@ impl Connects {
         }
     }
 
-    // The connection of an instruction, if it makes one.
+    // Adds the connection that an instruction may make, if it makes one.
     fn add_signal(
         &mut self,
         alloc: Global,
@@ -263,7 +263,7 @@ impl Connects {
         }
     }
 
-    // The connections of a block.
+    // Adds the connections of a block.
     fn add_block(
         &mut self,
         alloc: Global,
@@ -287,7 +287,7 @@ impl Connects {
         Ok(())
     }
 
-    // The connections of a program.
+    // Adds the connections of a program.
     fn add_program(
         &mut self,
         alloc: Global,
@@ -307,11 +307,11 @@ impl Connects {
     }
 }
 
-/// The connections of all programs.
+/// Returns the connections of all programs.
 ///
 /// # Errors
 ///
-/// `AllocError` where no memory is found.
+/// `AllocError` if memory is refused.
 pub fn connections(alloc: Global, lookups: &Lookups<'_>) -> Result<Connects, AllocError>
     ensures connected { IfOk result (λ x. AreConnected lookups.now x (connections lookups.now (sites lookups.now))) }
     ensures few { IfOk result (λ x. length x.groups.items ≤ 131072) }
@@ -328,7 +328,7 @@ pub fn connections(alloc: Global, lookups: &Lookups<'_>) -> Result<Connects, All
     Ok(connects)
 }
 
-// One of some groups.
+// Returns the group at an index of a slice.
 fn group_at(groups: &[PlacedGroup], number: usize) -> PlacedGroup
     requires { number < length groups.now }
     ensures { Some (group_view result) ≡ slice_get (map group_view groups.now) number }
@@ -336,7 +336,7 @@ fn group_at(groups: &[PlacedGroup], number: usize) -> PlacedGroup
     groups[number]
 }
 
-// A group, where it is for the channel.
+// Adds the number of a group if it is for the channel.
 fn add_group(found: &mut Vec<u32>, group: &PlacedGroup, channel: &Channel) -> Result<(), AllocError>
     ensures { OnOk result (found.new.items ≡ found.old.items ++ meant (channel_of channel.now) (group_view group.now ∷ [])) }
 {
@@ -347,11 +347,11 @@ fn add_group(found: &mut Vec<u32>, group: &PlacedGroup, channel: &Channel) -> Re
     Ok(())
 }
 
-/// The groups at a place that are for a channel.
+/// Returns the numbers of the groups at a place that are for a channel.
 ///
 /// # Errors
 ///
-/// `AllocError` where no memory is found.
+/// `AllocError` if memory is refused.
 pub fn groups_for(
     alloc: Global,
     groups: &[PlacedGroup],

@@ -1,6 +1,6 @@
-//! What runs at the channels of a definition, by their numbers.
+//! Sketches what runs at the channels of a definition, by their numbers.
 //!
-//! What a handler's signal and detail mean is looked up once for each place, and programs that bytecode may connect alike are one group.
+//! The meaning of a handler's signal and detail is looked up once for each place. Programs that bytecode may connect alike are one group.
 #![tactic(auto)]
 
 mod attached_handlers;

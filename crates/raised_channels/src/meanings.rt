@@ -1,4 +1,4 @@
-//! What the signal and the detail of a handler mean in a class.
+//! The meanings of the signals and details of handlers in a class.
 
 ghost use Rattle.std.specs.Prelude.{◌≡◌, option_map, string_bytes};
 ghost use Rattle.ui_machine.specs.Definition.Lookups.{slot_of};
@@ -10,25 +10,25 @@ use operand_types::Lookups;
 use type_tree::TypeId;
 use ui_machine::{Channel, Member, SignalId, Slot};
 
-/// What a detail means.
+/// The meaning of a detail.
 #[derive(Clone, Copy, Debug)]
 pub enum Detail {
-    /// There is none.
+    /// There is no detail.
     Any,
-    /// It names this property.
+    /// The detail names this property.
     Property(Slot),
-    /// It names no property of the class.
+    /// The detail names no property of the class.
     Unknown,
 }
 
-/// A signal of a class, if the class has it, with a detail.
+/// The signal that a handler is for, if the class has it, and the detail.
 #[derive(Clone, Copy, Debug)]
 pub struct Meaning {
     pub signal: Option<SignalId>,
     pub detail: Detail,
 }
 
-// What a detail means in a class.
+// Returns the meaning of a detail in a class.
 fn detail_of(lookups: &Lookups<'_>, class: TypeId, detail: &Option<String>) -> Detail
     ensures { detail_view result ≡ option_map (slot_of lookups.now class) (option_map string_bytes detail.now) }
 {
@@ -41,7 +41,7 @@ fn detail_of(lookups: &Lookups<'_>, class: TypeId, detail: &Option<String>) -> D
     }
 }
 
-/// What a signal with a detail means in a class.
+/// Returns the meaning of a signal with a detail in a class.
 pub fn meaning_of(
     lookups: &Lookups<'_>,
     class: TypeId,
@@ -56,7 +56,7 @@ pub fn meaning_of(
     }
 }
 
-// Whether a number is there, and is this one.
+// Returns whether a number was found and is this one.
 fn is_number(number: u16, found: Option<u16>) -> bool
     ensures { result ≡ is_number number found }
 {
@@ -66,7 +66,7 @@ fn is_number(number: u16, found: Option<u16>) -> bool
     }
 }
 
-// Whether a detail, if there is one, is a property.
+// Returns whether a detail is for a property. `Any` is for every property.
 fn names(detail: Detail, slot: Slot) -> bool
     ensures { result ≡ names (detail_view detail) slot }
 {
@@ -77,7 +77,7 @@ fn names(detail: Detail, slot: Slot) -> bool
     }
 }
 
-/// Whether a channel may be meant.
+/// Returns whether a handler with this meaning may be for a channel.
 pub fn is_meant(channel: &Channel, meaning: &Meaning) -> bool
     ensures { result ≡ is_meant (channel_of channel.now) (meaning_view meaning.now) }
 {

@@ -1,4 +1,4 @@
-//! The bindings that lead from channels one way.
+//! The bindings that lead one way from each channel.
 
 ghost use Rattle.std.specs.Prelude.{◌≡◌, ◌++◌, ◌+◌, ◌<◌, ◌∷◌, [], ℕ, List, cond, length, nat_eq, slice_get, Some, IfOk, OnOk};
 ghost use Rattle.std.specs.List.{filter_map};
@@ -16,14 +16,14 @@ use operand_types::Lookups;
 use std::alloc::{AllocError, Global};
 use ui_machine::{Channel, Member};
 
-// Whether a binding goes both ways.
+// Returns whether a binding goes both ways.
 fn is_pair(binding: &Bind) -> bool
     ensures { result ≡ is_pair (bind_view binding.now) }
 {
     binding.flags.contains(BindingFlags::BIDIRECTIONAL)
 }
 
-// The property that a binding leads from.
+// Returns the property that a binding leads from.
 fn source_of(binding: &Bind) -> Channel
     ensures { channel_of result ≡ source_of (bind_view binding.now) }
 {
@@ -33,7 +33,7 @@ fn source_of(binding: &Bind) -> Channel
     }
 }
 
-// The property that a binding leads to.
+// Returns the property that a binding leads to.
 fn target_of(binding: &Bind) -> Channel
     ensures { channel_of result ≡ target_of (bind_view binding.now) }
 {
@@ -43,7 +43,7 @@ fn target_of(binding: &Bind) -> Channel
     }
 }
 
-// So many empty lists.
+// Returns `count` empty lists.
 fn empty_lists(alloc: Global, count: usize) -> Result<Vec<Vec<Option<u32>>>, AllocError>
     ensures count { IfOk result (λ lists. length lists.items ≡ count) }
     ensures empty { IfOk result (λ lists. (n : ℕ) → list_at lists.items n ≡ []) }
@@ -55,7 +55,7 @@ fn empty_lists(alloc: Global, count: usize) -> Result<Vec<Vec<Option<u32>>>, All
     Ok(lists)
 }
 
-// One more at the end of a list.
+// Appends an item to the list at an index.
 fn push_at(
     lists: &mut Vec<Vec<Option<u32>>>,
     at: usize,
@@ -70,7 +70,7 @@ fn push_at(
     Ok(())
 }
 
-// A binding that goes one way.
+// Adds a binding to the list of its source. Does nothing for one that goes both ways, or whose source is no channel.
 fn add_binding(
     lists: &mut Vec<Vec<Option<u32>>>,
     numbers: &ChannelNumbers,
@@ -94,11 +94,11 @@ fn add_binding(
     Ok(())
 }
 
-/// Of each channel the bindings that lead from it one way, each by the number of its target, if that is a channel.
+/// Returns the bindings that lead one way from each channel. A binding is the number of its target, or `None` if the target is no channel.
 ///
 /// # Errors
 ///
-/// `AllocError` where no memory is found.
+/// `AllocError` if memory is refused.
 pub fn transfers(
     alloc: Global,
     lookups: &Lookups<'_>,
@@ -118,7 +118,7 @@ pub fn transfers(
     Ok(lists)
 }
 
-// One of some targets.
+// Returns the target at an index of a slice.
 fn target_at(targets: &[Option<u32>], number: usize) -> Option<u32>
     requires { number < length targets.now }
     ensures { Some result ≡ slice_get targets.now number }
@@ -126,7 +126,7 @@ fn target_at(targets: &[Option<u32>], number: usize) -> Option<u32>
     targets[number]
 }
 
-// A target, where it is there.
+// Adds a target if it is a channel.
 fn add_known(numbers: &mut Vec<u32>, target: Option<u32>) -> Result<(), AllocError>
     ensures { OnOk result (numbers.new.items ≡ numbers.old.items ++ filter_map (λ o. o) (target ∷ [])) }
 {
@@ -136,11 +136,11 @@ fn add_known(numbers: &mut Vec<u32>, target: Option<u32>) -> Result<(), AllocErr
     Ok(())
 }
 
-/// Those that are there.
+/// Returns the numbers of the targets that are channels.
 ///
 /// # Errors
 ///
-/// `AllocError` where no memory is found.
+/// `AllocError` if memory is refused.
 pub fn known(alloc: Global, targets: &[Option<u32>]) -> Result<Vec<u32>, AllocError>
     ensures { IfOk result (λ numbers. numbers.items ≡ filter_map (λ o. o) targets.now) }
 {

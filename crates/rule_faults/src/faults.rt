@@ -1,4 +1,4 @@
-//! The first rule that a definition breaks.
+//! Finds the first rule that a definition breaks.
 
 ghost use Rattle.std.specs.Prelude.{◌≡◌, Some, option_map, IfOk, IfSome};
 ghost use Rattle.law_judging.specs.FirstFaults.{first_fault};
@@ -14,7 +14,7 @@ use instruction_types::{IllTyped, typing_fault};
 use operand_types::Lookups;
 use std::alloc::{AllocError, Global};
 
-/// A rule that a definition breaks, and where.
+/// A rule that a definition breaks, with the part that breaks it.
 #[derive(Clone, Copy, Debug, PartialEq, Eq)]
 pub enum RuleFault {
     /// An instruction breaks a rule of typing.
@@ -23,13 +23,13 @@ pub enum RuleFault {
     HandlerSignature(Handling),
     /// A binding does not fit the properties that it binds.
     BindingRule(BrokenBinding),
-    /// A binding goes both ways and has an end that an earlier one has.
+    /// A binding goes both ways and shares an end with an earlier one.
     SecondPair(SecondPair),
     /// The freezes and thaws of a block do not match.
     Unbalanced(Unbalanced),
 }
 
-// The first fault of the rules behind those of instructions and handlers.
+// Returns the first fault of the rules of bindings, of pairs, and of freezes and thaws.
 fn later_fault(alloc: Global, lookups: &Lookups<'_>) -> Result<Option<RuleFault>, AllocError>
     ensures { IfOk result (λ r. option_map fault_view r ≡ later_fault lookups.now) }
 {
@@ -45,7 +45,7 @@ fn later_fault(alloc: Global, lookups: &Lookups<'_>) -> Result<Option<RuleFault>
     }
 }
 
-// The first fault of all rules.
+// Returns the first fault of all rules.
 fn first_fault(alloc: Global, lookups: &Lookups<'_>) -> Result<Option<RuleFault>, AllocError>
     ensures { IfOk result (λ r. option_map fault_view r ≡ first_fault lookups.now) }
 {
@@ -58,11 +58,11 @@ fn first_fault(alloc: Global, lookups: &Lookups<'_>) -> Result<Option<RuleFault>
     later_fault(alloc, lookups)
 }
 
-/// The first rule that a definition breaks. A definition that breaks one is refused for it.
+/// Returns the first rule that a definition breaks, for which it is refused.
 ///
 /// # Errors
 ///
-/// `AllocError` where no memory is found.
+/// `AllocError` if memory is refused.
 pub fn rule_fault(alloc: Global, definition: &Definition) -> Result<Option<RuleFault>, AllocError>
     ensures first { IfOk result (λ r. option_map fault_view r ≡ first_fault definition.now) }
     ensures judged { IfOk result (λ r. IfSome r (λ fault. Judges definition.now (Some (fault_view fault)))) }

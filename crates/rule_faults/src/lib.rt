@@ -1,7 +1,7 @@
-//! The first rule that a definition breaks, and how the refusal is printed.
+//! Finds the first rule that a definition breaks, and writes the text of the refusal.
 //!
-//! The rules come in this order: of instructions, of handlers, of bindings, of pairs, and of freezes and thaws. Cycles of channels and bounds are
-//! not looked at.
+//! The rules are tested in this order: those of instructions, of handlers, of bindings, of pairs, and of freezes and thaws. Cycles of
+//! channels and bounds are not tested here.
 #![tactic(auto)]
 
 mod faults;

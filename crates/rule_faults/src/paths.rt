@@ -1,4 +1,4 @@
-//! The places of a definition's parts in its document.
+//! The paths of a definition's parts in its document.
 
 ghost use Rattle.std.specs.Prelude.{◌≡◌, ◌<◌, ◌++◌, length, string_bytes, IfOk};
 ghost use Rattle.ui_machine.specs.Output.Text.{no_type};
@@ -15,14 +15,14 @@ use std::alloc::{AllocError, Global};
 use type_tree::{TypeId, TypeSort, TypeTree};
 use ui_machine::Place;
 
-// An entry of a member that is a list, by its number in it.
+// Returns the path of entry `number` of the list `member`.
 fn entry_of(alloc: Global, member: &str, number: usize) -> Result<String, AllocError>
     ensures { IfOk result (λ text. string_bytes text ≡ entry_of member.now number) }
 {
     format!(in alloc; "/{member}/{number}")
 }
 
-// Whether a type is a class.
+// Returns whether a type is a class.
 fn is_class(types: &TypeTree, t: TypeId) -> bool
     requires { t < length types.now }
     ensures { result ≡ is_class (read no_type types.now t) }
@@ -30,7 +30,7 @@ fn is_class(types: &TypeTree, t: TypeId) -> bool
     matches!(types.sort(t), TypeSort::Class)
 }
 
-// How many classes come before a type.
+// Returns the number of classes before a type.
 fn classes_before(types: &TypeTree, class: TypeId) -> usize
     ensures { result ≡ classes_before types.now class }
 {
@@ -43,7 +43,7 @@ fn classes_before(types: &TypeTree, class: TypeId) -> usize
     count
 }
 
-// The path of a class.
+// Returns the path of a class.
 fn class_path(alloc: Global, definition: &Definition, class: TypeId) -> Result<String, AllocError>
     ensures { IfOk result (λ text. string_bytes text ≡ class_path definition.now class) }
 {
@@ -51,7 +51,7 @@ fn class_path(alloc: Global, definition: &Definition, class: TypeId) -> Result<S
     entry_of(alloc, "classes", before.saturating_sub(2))
 }
 
-// Whether two places have the same parent, or none.
+// Returns whether two objects have the same parent, or both have none.
 fn same_parent(parent: Option<Place>, other: Option<Place>) -> bool
     ensures { result ≡ same_parent (place_number parent) (place_number other) }
 {
@@ -64,7 +64,7 @@ fn same_parent(parent: Option<Place>, other: Option<Place>) -> bool
     }
 }
 
-// Whether a place is in the same list as another.
+// Returns whether two places are in the same list of the document.
 fn is_beside(entry: &ObjectEntry<'_>, other: &ObjectEntry<'_>) -> bool
     ensures { result ≡ is_beside (entry_view entry.now) (entry_view other.now) }
 {
@@ -74,7 +74,7 @@ fn is_beside(entry: &ObjectEntry<'_>, other: &ObjectEntry<'_>) -> bool
     !other.is_prototype && same_parent(entry.parent, other.parent)
 }
 
-// How many places before this one are in the same list.
+// Returns how many places before this one are in the same list.
 fn before_in_list(definition: &Definition, place: usize, entry: &ObjectEntry<'_>) -> usize
     ensures { result ≡ before_in_list definition.now place (entry_view entry.now) }
 {
@@ -90,14 +90,14 @@ fn before_in_list(definition: &Definition, place: usize, entry: &ObjectEntry<'_>
     count
 }
 
-// A text and another behind it.
+// Joins two texts.
 fn joined(alloc: Global, text: &str, more: &str) -> Result<String, AllocError>
     ensures { IfOk result (λ whole. string_bytes whole ≡ text.now ++ more.now) }
 {
     format!(in alloc; "{text}{more}")
 }
 
-// The path of a place that has no more than so many above it. Each step leads from a child to its parent.
+// Returns the path of a place that has at most `steps` places above it. Each step leads from a child to its parent.
 fn path_within(
     alloc: Global,
     definition: &Definition,
@@ -125,18 +125,18 @@ fn path_within(
     joined(alloc, above.as_str(), own.as_str())
 }
 
-// The path of a place.
+// Returns the path of a place.
 fn place_path(alloc: Global, definition: &Definition, place: Place) -> Result<String, AllocError>
     ensures { IfOk result (λ text. string_bytes text ≡ place_path definition.now place.0) }
 {
     path_within(alloc, definition, place.0, place)
 }
 
-/// Where a program is named that does not take what it is given there.
+/// Returns the path where a program is named that does not take what it is given there.
 ///
 /// # Errors
 ///
-/// `AllocError` where no memory is found.
+/// `AllocError` if memory is refused.
 pub(crate) fn handling_path(
     alloc: Global,
     definition: &Definition,
@@ -162,11 +162,11 @@ pub(crate) fn handling_path(
     }
 }
 
-/// The path of a binding.
+/// Returns the path of a binding.
 ///
 /// # Errors
 ///
-/// `AllocError` where no memory is found.
+/// `AllocError` if memory is refused.
 pub(crate) fn binding_path(
     alloc: Global,
     definition: &Definition,

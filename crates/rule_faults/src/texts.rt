@@ -1,4 +1,4 @@
-//! The texts of refusals.
+//! Writes the texts of refusals.
 
 ghost use Rattle.std.specs.Prelude.{◌≡◌, string_bytes, IfOk};
 ghost use Rattle.law_typing.specs.Verdict.FaultText.{block_text, fault_text, program_text, then_text, word_of_binding, word_of_rule};
@@ -17,7 +17,7 @@ use operand_types::Rule;
 use std::alloc::{AllocError, Global};
 use ui_machine::ProgramId;
 
-// The word of a rule of typing.
+// Returns the word for a rule of typing.
 fn word_of_rule(rule: Rule) -> &'static str
     ensures { result.now ≡ word_of_rule (rule_view rule) }
 {
@@ -35,7 +35,7 @@ fn word_of_rule(rule: Rule) -> &'static str
     }
 }
 
-// The word of a rule of bindings.
+// Returns the word for a rule of bindings.
 fn word_of_binding(rule: BindingRule) -> &'static str
     ensures { result.now ≡ word_of_binding (word_view rule) }
 {
@@ -49,14 +49,14 @@ fn word_of_binding(rule: BindingRule) -> &'static str
     }
 }
 
-// A text after another, with a blank between.
+// Joins two texts with a blank between them.
 fn then_text(alloc: Global, text: &str, more: &str) -> Result<String, AllocError>
     ensures { IfOk result (λ whole. string_bytes whole ≡ then_text text.now more.now) }
 {
     format!(in alloc; "{text} {more}")
 }
 
-// The name of a program.
+// Returns the name of a program.
 fn program_text(definition: &Definition, program: ProgramId) -> &str
     ensures { result.now ≡ program_text definition.now program }
 {
@@ -66,7 +66,7 @@ fn program_text(definition: &Definition, program: ProgramId) -> &str
     }
 }
 
-// A program and the number of a block.
+// Returns the name of a program and the number of a block.
 fn block_text(
     alloc: Global,
     definition: &Definition,
@@ -80,7 +80,7 @@ fn block_text(
     format!(in alloc; "{name} {number}")
 }
 
-// An instruction that breaks a rule.
+// Returns the text for an instruction that breaks a rule.
 fn ill_typed_text(
     alloc: Global,
     definition: &Definition,
@@ -96,7 +96,7 @@ fn ill_typed_text(
     then_text(alloc, "IllTyped", place.as_str())
 }
 
-// A binding that breaks a rule.
+// Returns the text for a binding that breaks a rule.
 fn broken_text(
     alloc: Global,
     definition: &Definition,
@@ -109,11 +109,11 @@ fn broken_text(
     then_text(alloc, "BindingRule", fields.as_str())
 }
 
-/// A fault's name and its fields, with one blank between them: what is written behind `refused: `.
+/// Returns the fault's name and fields, separated by single blanks, which are written after `refused: `.
 ///
 /// # Errors
 ///
-/// `AllocError` where no memory is found.
+/// `AllocError` if memory is refused.
 pub fn fault_text(
     alloc: Global,
     definition: &Definition,

@@ -1,4 +1,4 @@
-//! What an emission of a type's signal begins with.
+//! The beginning of an emission of a type's signal.
 
 ghost use Rattle.std.specs.Prelude.{◌≡◌, ℕ, option_map, slice_get};
 ghost use Rattle.std.specs.Rc.{rc_str_bytes};
@@ -14,8 +14,8 @@ use type_tree::{TypeId, TypeTree};
 use ui_machine::{ObjectId, SignalId};
 
 impl SignalTable {
-    /// What an emission by an object begins with: of the signal of a number, with a detail. The type is the object's own class. `None` where it
-    /// has no signal of the number.
+    /// Returns the emission with which an object emits the signal with this number and a detail. The type is the object's own class.
+    /// Returns `None` if the type has no signal with this number.
     pub fn emission(
         &self,
         tree: &TypeTree,

@@ -7,7 +7,7 @@ use std::marker::Model;
 use type_tree::is_spelling;
 use ui_machine::ProgramId;
 
-/// The program that a class names for a signal, by the signal's canonical name. A contract sees the machine's.
+/// The program that a class names for a signal, by the signal's canonical name. A contract sees a class handler of the machine.
 #[derive(Drop)]
 pub struct ClassHandler {
     signal: String,
@@ -30,28 +30,28 @@ impl ClassHandler {
         ClassHandler { signal, program }
     }
 
-    /// Whether it is for the signal of a name in canonical spelling.
+    /// Returns whether it is for the signal with this canonical name.
     pub(crate) fn is_for(&self, name: &str) -> bool
         ensures { result ≡ same_name self.now.signal name.now }
     {
         self.signal.as_str() == name
     }
 
-    /// Whether it is for the signal that a name spells.
+    /// Returns whether it is for the signal with this name, in any spelling.
     pub(crate) fn is_spelled(&self, name: &str) -> bool
         ensures { result ≡ same_name self.now.signal (canonical name.now) }
     {
         is_spelling(self.signal.as_str(), name)
     }
 
-    /// The signal, by its canonical name.
+    /// Returns the canonical name of the signal.
     pub fn signal(&self) -> &str
         ensures { result.now ≡ self.now.signal }
     {
         self.signal.as_str()
     }
 
-    /// The program, by its number.
+    /// Returns the number of the program.
     pub fn program(&self) -> ProgramId
         ensures { result ≡ self.now.program }
     {

@@ -17,12 +17,12 @@ use type_tree::{TypeId, TypeTree};
 use ui_machine::{ProgramId, SignalId};
 
 impl SignalTable {
-    /// Names the program that a class runs for a signal of a number, in place of the one that it named before (GObject manual, Signals:
-    /// `g_signal_override_class_handler`). An error changes nothing.
+    /// Sets the program that a class runs for the signal with this number, in place of the one that it named before (GObject manual,
+    /// Signals: `g_signal_override_class_handler`).
     ///
     /// # Errors
     ///
-    /// `AllocError` if memory is refused.
+    /// `AllocError` if memory is refused. Nothing has changed then.
     pub fn set_class_handler(
         &mut self,
         tree: &TypeTree,
@@ -47,12 +47,12 @@ impl SignalTable {
         self.add_handler(t, ClassHandler::new(name, program))
     }
 
-    /// Adds a class handler behind those that a class names itself. The signal goes by any spelling of its name, and need not be one of the
-    /// class's. An error changes nothing.
+    /// Appends a class handler to those that a class names itself. The signal is given by any spelling of its name, and need not be one of
+    /// the class's.
     ///
     /// # Errors
     ///
-    /// `AllocError` if memory is refused.
+    /// `AllocError` if memory is refused. Nothing has changed then.
     pub fn add_class_handler(
         &mut self,
         t: TypeId,
@@ -67,14 +67,15 @@ impl SignalTable {
         self.add_handler(t, ClassHandler::new(name, program))
     }
 
-    /// Whether a class itself names a program for a signal, by any spelling of the signal's name.
+    /// Returns whether a class itself names a program for the signal with this name, in any spelling.
     pub fn has_class_handler(&self, t: TypeId, signal: &str) -> bool
         ensures { result ≡ is_handled (named_of self.now.handlers t) signal.now }
     {
         any_for(self.own_handlers(t), signal)
     }
 
-    /// The program that a class runs for the signal of a number: its own, or that of its nearest ancestor that names one.
+    /// Returns the program that a class runs for the signal with this number. The class itself names it, or else its nearest ancestor that
+    /// names one.
     pub fn class_handler(&self, tree: &TypeTree, t: TypeId, number: SignalId) -> Option<ProgramId>
         ensures { result ≡ option_and_then (λ s. class_handler_named tree.now self.now.handlers t s.name)
             (slice_get (signals_of tree.now self.now.signals t) number) }
@@ -85,7 +86,8 @@ impl SignalTable {
         }
     }
 
-    /// The same, by the signal's canonical name.
+    /// Returns the program that a class runs for the signal with this canonical name. The class itself names it, or else its nearest
+    /// ancestor that names one.
     pub(crate) fn handler_named(&self, tree: &TypeTree, t: TypeId, name: &str) -> Option<ProgramId>
         ensures { result ≡ class_handler_named tree.now self.now.handlers t name.now }
     {
@@ -101,7 +103,7 @@ impl SignalTable {
         }
     }
 
-    // The program that a class itself names.
+    // Returns the program that a class itself names for the signal with this canonical name.
     fn own_handler(&self, t: TypeId, name: &str) -> Option<ProgramId>
         ensures { result ≡ handler_in (named_of self.now.handlers t) name.now }
     {
@@ -110,14 +112,14 @@ impl SignalTable {
     }
 }
 
-// The first class handler of a name.
+// Returns the first class handler for the signal with this canonical name.
 fn first_for<'a>(handlers: &'a [ClassHandler], name: &str) -> Option<&'a ClassHandler>
     ensures { option_map (λ h. h.now) result ≡ find (λ h. same_name h.signal name.now) handlers.now }
 {
     handlers.iter().find(|handler| handler.is_for(name))
 }
 
-// Whether one of some class handlers is for the signal that a name spells.
+// Returns whether one of the class handlers is for the signal with this name, in any spelling.
 fn any_for(handlers: &[ClassHandler], signal: &str) -> bool
     ensures { result ≡ list_any (λ h. same_name h.signal (canonical signal.now)) handlers.now }
 {

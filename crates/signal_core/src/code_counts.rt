@@ -1,4 +1,4 @@
-//! How many handlers bytecode has connected.
+//! Counts of the handlers that bytecode has connected.
 
 ghost use Rattle.std.specs.Prelude.{◌≡◌, ◌+◌, ◌-◌, ◌<◌, ◌^◌, OnErr, OnOk, ℕ};
 ghost use Rattle.signal_core.specs.Kept.{count_at, one_at};
@@ -6,14 +6,14 @@ ghost use Rattle.signal_core.specs.Kept.{count_at, one_at};
 use std::alloc::{AllocError, Global};
 use std::collections::BTreeMap;
 
-/// How many of the handlers that are connected to a signal of an object bytecode connected.
+/// For each signal of each object, how many of the handlers connected to it were connected by bytecode.
 #[derive(Debug, Drop)]
 pub(crate) struct CodeCounts {
     counts: BTreeMap<(u64, u64), usize>,
 }
 
 impl CodeCounts {
-    /// None is counted. It takes no memory.
+    /// Creates counts that are all 0. Takes no memory.
     pub(crate) fn new(alloc: Global) -> Self
         ensures { (o s : ℕ) → count_at result o s ≡ 0 }
     {
@@ -22,7 +22,7 @@ impl CodeCounts {
         }
     }
 
-    /// How many there are to a signal of an object.
+    /// Returns the count for a signal of an object.
     pub(crate) fn count(&self, object: u64, signal: u64) -> usize
         ensures { result ≡ count_at self.now object signal }
     {
@@ -32,7 +32,7 @@ impl CodeCounts {
         }
     }
 
-    /// Counts one more.
+    /// Raises the count for a signal of an object by one.
     pub(crate) fn add(&mut self, object: u64, signal: u64) -> Result<(), AllocError>
         requires { count_at self.old object signal < 2 ^ 64 - 1 }
         ensures ok { OnOk result ((o s : ℕ) → count_at self.new o s ≡ count_at self.old o s + one_at object signal o s) }
@@ -43,7 +43,7 @@ impl CodeCounts {
         Ok(())
     }
 
-    /// Counts one less.
+    /// Lowers the count for a signal of an object by one, unless it is 0.
     pub(crate) fn remove(&mut self, object: u64, signal: u64)
         ensures { (o s : ℕ) → count_at self.new o s ≡ count_at self.old o s - one_at object signal o s }
     {

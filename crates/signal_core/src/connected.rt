@@ -1,4 +1,4 @@
-//! A handler that is connected.
+//! A connected handler.
 
 ghost use Rattle.std.specs.Prelude.{◌≡◌, nat_lt, option_map, string_bytes};
 ghost use Rattle.ui_machine.specs.declared.ids.ObjectId.{ObjectId};
@@ -13,7 +13,7 @@ use crate::turn::Turn;
 use std::marker::Model;
 use ui_machine::{ObjectId, ProgramId, SignalId};
 
-/// A connection under its number, and how often it is blocked.
+/// A connection with its number and its block count.
 #[derive(Debug, Drop)]
 pub(crate) struct Handler {
     number: u64,
@@ -36,7 +36,7 @@ impl Handler {
     ghost use Rattle.signal_core.specs.Emission.{has_next_turn, is_ahead, of_handler};
     ghost use Rattle.ui_machine.specs.Rules.Connections.{new_handler};
 
-    /// A handler that nothing blocks.
+    /// Creates a handler that is not blocked.
     pub(crate) fn new(number: u64, connection: Connection) -> Self
         ensures { result ≡ new_handler number (connection_of connection) }
     {
@@ -47,63 +47,63 @@ impl Handler {
         }
     }
 
-    /// Whether bytecode connected it.
+    /// Returns whether bytecode connected the handler.
     pub(crate) fn is_by_code(&self) -> bool
         ensures { result ≡ self.now.by_code }
     {
         self.connection.by_code
     }
 
-    /// The object whose signal it is connected to.
+    /// Returns the object whose signal the handler is connected to.
     pub(crate) fn object(&self) -> ObjectId
         ensures { result.0 ≡ self.now.object }
     {
         self.connection.object
     }
 
-    /// The signal, by its number.
+    /// Returns the number of the signal.
     pub(crate) fn signal(&self) -> SignalId
         ensures { result ≡ self.now.signal }
     {
         self.connection.signal
     }
 
-    /// Whether it runs after the class handler.
+    /// Returns whether the handler runs after the class handler.
     pub(crate) fn is_after(&self) -> bool
         ensures { result ≡ self.now.after }
     {
         self.connection.after
     }
 
-    /// The detail as it is at the signal.
+    /// Returns the detail for which the handler is connected, if there is one.
     pub(crate) fn detail(&self) -> &Option<String>
         ensures { option_map (λ d. string_bytes d) result.now ≡ self.now.detail }
     {
         &self.connection.detail
     }
 
-    /// The program that it runs.
+    /// Returns the program that the handler runs.
     pub(crate) fn program(&self) -> ProgramId
         ensures { result ≡ self.now.program }
     {
         self.connection.program
     }
 
-    /// The object that it has as data.
+    /// Returns the data object, if there is one.
     pub(crate) fn data(&self) -> Option<ObjectId>
         ensures { option_map (λ (id : ObjectId). id.0) result ≡ self.now.arg }
     {
         self.connection.data
     }
 
-    /// Whether it is on the object and runs the program.
+    /// Returns whether the handler is on the object and runs the program.
     pub(crate) fn is_on(&self, object: ObjectId, program: ProgramId) -> bool
         ensures { result ≡ is_on object.0 program self.now }
     {
         self.connection.object == object && self.connection.program == program
     }
 
-    /// Whether it is on the object, or has it as data.
+    /// Returns whether the handler is on the object or has it as data.
     pub(crate) fn is_of_object(&self, object: ObjectId) -> bool
         ensures { result ≡ is_of_object object.0 self.now }
     {
@@ -125,7 +125,8 @@ impl Handler {
         self.number
     }
 
-    // Whether it is still to come in an emission, after the number `given`: before the class handler, or after it.
+    // Returns whether the handler has a turn in an emission after the number `given`, and runs after the class handler or before it, as
+    // `after` says. It does not matter here whether the handler is blocked.
     fn is_ahead(&self, cursor: &Cursor, given: u64, after: bool) -> bool
         ensures { result ≡ is_ahead cursor.now given after self.now }
     {
@@ -136,14 +137,14 @@ impl Handler {
                 && to.after == after)
     }
 
-    /// Whether it has the next turn of such an emission, if none before it has: it is to come and not blocked.
+    /// Returns whether the handler may have the next turn after the number `given` in an emission: it is still to come and not blocked.
     pub(crate) fn has_next_turn(&self, cursor: &Cursor, given: u64, after: bool) -> bool
         ensures { result ≡ has_next_turn cursor.now given after self.now }
     {
         self.is_ahead(cursor, given, after) && self.blocks == 0
     }
 
-    /// Its step in an emission, which is there once it is taken.
+    /// Returns the handler's step in an emission, which is at `then_at` once the step is taken.
     pub(crate) fn step(&self, then_at: Stage) -> Step
         ensures { result ≡ (of_handler (λ number. then_at) self.now).step }
     {
@@ -157,21 +158,21 @@ impl Handler {
         }
     }
 
-    /// Whether something blocks it.
+    /// Returns whether the handler is blocked.
     pub(crate) fn is_blocked(&self) -> bool
         ensures { result ≡ nat_lt 0 self.now.blocks }
     {
         self.blocks > 0
     }
 
-    /// Blocks it once more, or leaves it at the greatest count.
+    /// Raises the block count by one, unless it is at its maximum.
     pub(crate) fn block(&mut self)
         ensures { self.new ≡ blocked self.old }
     {
         self.blocks = self.blocks.saturating_add(1);
     }
 
-    /// Blocks it once less, if it is blocked.
+    /// Lowers the block count by one, unless it is 0.
     pub(crate) fn unblock(&mut self)
         ensures { self.new ≡ unblocked self.old }
     {

@@ -1,4 +1,4 @@
-//! What a handler is to be connected with.
+//! A handler that is to be connected.
 
 use ui_machine::{ObjectId, ProgramId, SignalId};
 
@@ -7,9 +7,9 @@ use ui_machine::{ObjectId, ProgramId, SignalId};
 pub struct Connection {
     /// The object whose signal it is connected to.
     pub object: ObjectId,
-    /// The signal, by its number in the list of the object's class; 0 is `notify`.
+    /// The number of the signal in the list of the object's class. 0 is `notify`.
     pub signal: SignalId,
-    /// The detail as it is at the signal. At `notify` it is a property's canonical name.
+    /// The detail for which the handler runs, if there is one. For `notify` it is a property's canonical name.
     pub detail: Option<String>,
     /// The program that it runs.
     pub program: ProgramId,
@@ -17,7 +17,7 @@ pub struct Connection {
     pub after: bool,
     /// Whether the program is given the data first and the instance last (`G_CONNECT_SWAPPED`).
     pub swapped: bool,
-    /// The object that is handed to the program as data.
+    /// The object that is passed to the program as data.
     pub data: Option<ObjectId>,
     /// Whether bytecode connects it. Otherwise the builder does.
     pub by_code: bool,

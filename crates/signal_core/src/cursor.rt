@@ -1,4 +1,4 @@
-//! An emission that goes on.
+//! An emission that is under way.
 
 ghost use Rattle.std.specs.Prelude.{◌≡◌, ◌&&◌, nat_eq, nat_le, nat_lt, option_map, string_bytes};
 ghost use Rattle.g_values.specs.View.{value_view};
@@ -15,10 +15,10 @@ use g_values::Value;
 use std::marker::Model;
 use ui_machine::{ObjectId, SignalId};
 
-/// Where an emission is, and the value that it has accumulated. It has no list of its turns, and takes no memory.
+/// The stage of an emission, and the value accumulated so far. It has no list of its turns, and takes no memory.
 ///
-/// It goes by the numbers of handlers: those above the one that had its turn last are to come, up to the last one that was connected before
-/// the emission began.
+/// It goes by the numbers of handlers: those above the one that had its turn last are still to come, up to the last one that was connected
+/// before the emission began.
 #[derive(Debug, Drop)]
 pub struct Cursor {
     emission: Emission,
@@ -38,7 +38,7 @@ impl Model for Cursor {
 impl Cursor {
     ghost use Rattle.signal_core.specs.Emission.{begun, collected, first_step, from_cleanup, of_bindings, of_class, stage_after, stopped, with_value};
 
-    /// An emission at its beginning. The last handler that was connected has the number `greatest`.
+    /// Creates an emission at its beginning. `greatest` is the number of the handler that was connected last.
     pub(crate) fn new(emission: Emission, greatest: u64) -> Self
         ensures { result ≡ begun emission greatest }
     {
@@ -56,14 +56,14 @@ impl Cursor {
         self.stage
     }
 
-    /// Whether a handler under this number was connected before the emission began, and is after the number `given`.
+    /// Returns whether a handler with this number was connected before the emission began and comes after the number `given`.
     pub(crate) fn is_ahead(&self, number: u64, given: u64) -> bool
         ensures { result ≡ (nat_lt given number && nat_le number self.now.greatest) }
     {
         given < number && number <= self.greatest
     }
 
-    /// Whether it is an emission of this signal of the object.
+    /// Returns whether this is an emission of the signal by the object.
     pub(crate) fn is_of(&self, object: ObjectId, signal: SignalId) -> bool
         ensures { result ≡ (nat_eq object.0 self.now.object && nat_eq signal self.now.signal) }
     {
@@ -79,7 +79,7 @@ impl Cursor {
         }
     }
 
-    /// Whether a handler of this detail runs in the emission.
+    /// Returns whether a handler with this detail runs in the emission.
     pub(crate) fn has_detail_for(&self, detail: &Option<String>) -> bool
         ensures { result ≡ fits_detail (option_map (λ d. string_bytes d) detail.now) self.now.detail }
     {
@@ -92,7 +92,7 @@ impl Cursor {
         }
     }
 
-    /// The class handler's step, if it runs under these flags.
+    /// Returns the step of the class handler, if there is one and the signal has these flags.
     pub(crate) fn class_step(&self, flags: SignalFlags, then_at: Stage) -> Option<Step>
         ensures { result
             ≡ first_step (of_class (has_flags flags.0 self.now.flags) self.now.class_program then_at) }
@@ -108,7 +108,7 @@ impl Cursor {
         }
     }
 
-    /// The step of the bindings, in a notification.
+    /// Returns the step of the bindings, if the emission is a notification.
     pub(crate) fn transfers_step(&self) -> Option<Step>
         ensures { result ≡ first_step (of_bindings self.now) }
     {
@@ -122,14 +122,14 @@ impl Cursor {
         }
     }
 
-    /// The step of the cleanup.
+    /// Returns the step of the cleanup stage.
     pub(crate) fn from_cleanup(&self) -> Option<Step>
         ensures { result ≡ first_step (from_cleanup self.now) }
     {
         self.class_step(SignalFlags::RUN_CLEANUP, Stage::Over)
     }
 
-    /// Goes on with a step. Without one the emission is over.
+    /// Moves on by a step. Without a step the emission is over.
     pub(crate) fn go_on(&mut self, step: Option<Step>)
         ensures { self.new ≡ record self.old { stage = stage_after step } }
     {
@@ -139,7 +139,8 @@ impl Cursor {
         };
     }
 
-    /// Stops the emission: what is left of it is its cleanup stage. In that it does nothing (GObject manual, Signals: `g_signal_stop_emission`).
+    /// Stops the emission, of which only the cleanup stage remains then. Has no effect in the cleanup stage (GObject manual, Signals:
+    /// `g_signal_stop_emission`).
     pub fn stop(&mut self)
         ensures { self.new ≡ stopped self.old }
     {
@@ -148,8 +149,8 @@ impl Cursor {
         }
     }
 
-    /// Takes the value that the program of the last turn gave. The accumulator may stop the emission by it. In the cleanup stage the value is
-    /// dropped.
+    /// Takes the value that the program of the last turn returned. The accumulator may stop the emission because of it. In the cleanup
+    /// stage the value is dropped.
     pub fn accumulate(&mut self, value: Value)
         ensures { self.new ≡ with_value (value_view value) self.old }
     {
@@ -157,7 +158,7 @@ impl Cursor {
         self.collect(value, is_last);
     }
 
-    /// The same, where the caller says whether the value is the last one, which stops the emission.
+    /// Like `accumulate`, but the caller says whether the value is the last one, which stops the emission.
     pub fn collect(&mut self, value: Value, is_last: bool)
         ensures { self.new ≡ collected (value_view value) is_last self.old }
     {
@@ -170,28 +171,28 @@ impl Cursor {
         }
     }
 
-    /// The object that emits.
+    /// Returns the object that emits.
     pub fn object(&self) -> ObjectId
         ensures { result.0 ≡ self.now.object }
     {
         self.emission.object
     }
 
-    /// The signal, by its number in the list of the object's class; 0 is `notify`.
+    /// Returns the number of the signal in the list of the object's class. 0 is `notify`.
     pub fn signal(&self) -> SignalId
         ensures { result ≡ self.now.signal }
     {
         self.emission.signal
     }
 
-    /// The value that the emission has accumulated so far.
+    /// Returns the value that the emission has accumulated so far.
     pub fn accumulated(&self) -> Option<&Value>
         ensures { option_map (λ v. value_view v.now) result ≡ self.now.value }
     {
         self.value.as_ref()
     }
 
-    /// The value that the emission has accumulated.
+    /// Returns the value that the emission has accumulated.
     pub fn value(self) -> Option<Value>
         ensures { option_map (λ v. value_view v) result ≡ self.value }
     {

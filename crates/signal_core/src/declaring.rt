@@ -1,4 +1,4 @@
-//! Which signals may be declared.
+//! Declaration of signals.
 
 ghost use Rattle.std.specs.Prelude.{◌≡◌, ◌<◌, ◌≤◌, IfNone, length, option_map, string_bytes, true};
 ghost use Rattle.g_values.specs.View.{kind_view};
@@ -18,12 +18,11 @@ use type_tree::{TypeId, TypeTree, canonical_name, is_property_name};
 impl SignalTable {
     /// Declares a signal for a type of the tree, under its canonical name. It comes last among the type's own.
     ///
-    /// The name is tested first, then whether the type has it already, the accumulator, and room. The first that fails is reported. Then
-    /// `OutOfMemory`. An error changes nothing.
+    /// Tests, in this order: the form of the name, whether the type has a signal of that name, the accumulator, and the number of signals.
     ///
     /// # Errors
     ///
-    /// The first cause, in this order, or want of memory. The signals are as they were.
+    /// Returns `Refused` with the first test that fails, otherwise `OutOfMemory` if memory is refused. The signals are unchanged then.
     pub fn declare(&mut self, tree: &TypeTree, t: TypeId, signal: Signal) -> Result<(), SignalError>
         requires { t < length tree.now }
         ensures { let s = signal_view signal in
@@ -38,7 +37,7 @@ impl SignalTable {
         Ok(())
     }
 
-    // Why a signal is not declared.
+    // Returns why a signal may not be declared, or `None` if it may.
     fn declare_fault(&self, tree: &TypeTree, t: TypeId, signal: &Signal) -> Option<SignalFault>
         ensures fault { result ≡ declare_fault tree.now self.now.signals t (signal_view signal.now) }
         ensures named { IfNone result (is_property_name (string_bytes signal.now.name) ≡ true) }
@@ -61,7 +60,7 @@ impl SignalTable {
     }
 }
 
-// Whether results of a kind can be put together so.
+// Returns whether an accumulator can combine results of this kind.
 fn takes_result(accumulator: Option<Accumulator>, kind: Option<Kind>) -> bool
     ensures { result ≡ takes_result (option_map accumulator_of accumulator) (option_map kind_view kind) }
 {
@@ -72,7 +71,7 @@ fn takes_result(accumulator: Option<Accumulator>, kind: Option<Kind>) -> bool
     }
 }
 
-// The same signal under another name.
+// Returns the signal under another name.
 fn renamed(signal: Signal, name: String) -> Signal
     ensures { signal_view result ≡ record (signal_view signal) { name = string_bytes name } }
 {

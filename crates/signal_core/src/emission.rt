@@ -1,4 +1,4 @@
-//! What an emission begins with.
+//! An emission before it begins.
 
 ghost use Rattle.std.specs.Prelude.{◌≡◌, option_map};
 ghost use Rattle.g_values.specs.View.{value_view};
@@ -10,17 +10,17 @@ use g_values::Value;
 use std::rc::RcStr;
 use ui_machine::{ObjectId, ProgramId, SignalId};
 
-/// How the results of an emission's programs are put together (GObject manual, Signals: GSignalAccumulator). Without an accumulator the last
-/// one counts.
+/// The rule by which the results of an emission's programs are combined (GObject manual, Signals: GSignalAccumulator). Without an
+/// accumulator the last result counts.
 #[derive(Clone, Copy, Debug, PartialEq, Eq)]
 pub enum Accumulator {
-    /// The last one, and the emission stops at the first that is TRUE (`g_signal_accumulator_true_handled`).
+    /// The last result counts, and the emission stops at the first one that is TRUE (`g_signal_accumulator_true_handled`).
     TrueHandled,
-    /// The first one, and the emission stops there (`g_signal_accumulator_first_wins`).
+    /// The first result counts, and the emission stops there (`g_signal_accumulator_first_wins`).
     FirstWins,
 }
 
-/// Whether a value that a program gave is the last one, which stops the emission.
+/// Returns whether a value that a program returned is the last one, which stops the emission.
 pub fn is_last(accumulator: Option<Accumulator>, value: &Value) -> bool
     ensures { result ≡ is_last (option_map accumulator_of accumulator) (value_view value.now) }
 {
@@ -36,9 +36,9 @@ pub fn is_last(accumulator: Option<Accumulator>, value: &Value) -> bool
 pub struct Emission {
     /// The object that emits.
     pub object: ObjectId,
-    /// The signal, by its number in the list of the object's class; 0 is `notify`.
+    /// The number of the signal in the list of the object's class. 0 is `notify`.
     pub signal: SignalId,
-    /// The detail, which is shared with whoever named it. Of `notify` it is the canonical name of a property.
+    /// The detail, which is shared with whoever gave it. For `notify` it is a property's canonical name.
     pub detail: Option<RcStr>,
     /// The flags of the signal.
     pub flags: SignalFlags,

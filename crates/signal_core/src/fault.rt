@@ -1,4 +1,4 @@
-//! Why a signal is not declared, and why a handler is not connected.
+//! Errors of declaring signals and connecting handlers.
 
 ghost use Rattle.std.specs.Prelude.{◌≡◌};
 ghost use Rattle.signal_core.specs.declared.fault.ConnectError.TheVariants.{OutOfMemory};
@@ -7,23 +7,24 @@ ghost use Rattle.signal_core.specs.declared.fault.SignalError.TheVariants as sig
 use std::alloc::{AllocError, AllocFailed};
 use thiserror::Error;
 
-/// Why a signal is not declared, in the order in which the tests are made.
+/// The reason for which a signal is refused. The variants are in the order in which the tests are made.
 #[derive(Clone, Copy, Debug, PartialEq, Eq)]
 pub enum SignalFault {
-    /// The name is not made of segments of ASCII letters and digits between `-` or `_`, a letter first.
+    /// The name is not made of non-empty segments of ASCII letters and digits, separated by `-` or `_`, beginning with a letter.
     BadName,
-    /// The type has a signal of that name: `notify`, one of its own, of an ancestor, or of an interface that it or an ancestor implements.
+    /// The type has a signal of that name already: `notify`, one of its own, of an ancestor, or of an interface that it or an ancestor
+    /// implements.
     Duplicate,
-    /// The accumulator goes by TRUE and the result is no truth value, or it takes the first and there is no result.
+    /// The accumulator stops at TRUE and the result is not a boolean, or it takes the first result and there is no result.
     AccumulatorKind,
-    /// The type and its ancestors have 64 signals of their own. `notify` and the signals of interfaces do not count.
+    /// The type and its ancestors have 64 signals of their own already. `notify` and the signals of interfaces do not count.
     Limit,
 }
 
-/// Why a declaration gave no signal.
+/// The error of a declaration.
 #[derive(Clone, Copy, Debug, PartialEq, Eq)]
 pub enum SignalError {
-    /// No memory was found.
+    /// Memory was refused.
     OutOfMemory,
     /// A test refused the signal.
     Refused(SignalFault),
@@ -45,7 +46,7 @@ impl<T: Drop> From<AllocFailed<T>> for SignalError {
     }
 }
 
-/// Why a handler is not connected.
+/// The reason for which a handler is not connected.
 #[derive(Clone, Copy, Debug, PartialEq, Eq, Error)]
 pub enum ConnectError {
     #[error("no more handlers can be connected")]

@@ -4,7 +4,7 @@ ghost use Rattle.std.specs.Prelude.{⊤, [], ◌∷◌, codes};
 
 use bitflags::{Flag, Flags, bitflag_items};
 
-/// When the class handler of a signal runs, and whether the signal takes details.
+/// The stages in which the class handler of a signal runs, and whether the signal takes details.
 #[derive(Clone, Copy, Debug, PartialEq, Eq)]
 pub struct SignalFlags(pub u32);
 

@@ -5,7 +5,8 @@ ghost use Rattle.signal_core.specs.Growing.{AddsItem, SameItems};
 
 use std::alloc::{AllocError, Global};
 
-/// Adds an item to one of the lists. Empty lists are made up to it, which changes no list that is read. An error changes none.
+/// Adds an item to the list at `at`, after adding empty lists up to it. A list that is missing reads as empty, so no other list changes. An
+/// error changes none.
 pub(crate) fn add<T: Drop>(
     alloc: Global,
     lists: &mut Vec<Vec<T>>,
@@ -22,7 +23,7 @@ pub(crate) fn add<T: Drop>(
     Ok(())
 }
 
-// Makes empty lists until there are so many.
+// Adds empty lists until there are at least `len`.
 fn grow<T: Drop>(alloc: Global, lists: &mut Vec<Vec<T>>, len: usize) -> Result<(), AllocError>
     requires { len ≤ 65536 }
     ensures same { SameItems (λ v. v.items) lists.old.items lists.new.items }

@@ -1,4 +1,4 @@
-//! The handlers that are connected.
+//! The connected handlers.
 
 ghost use Rattle.std.specs.Prelude.{◌≡◌, ◌↔◌, ◌+◌, ◌&&◌, OnOk, OnErr, IfOk, cond, count_by, false, map, nat_eq, not, option_map};
 ghost use Rattle.std.specs.List.{filter, find};
@@ -16,10 +16,10 @@ use std::collections::BTreeMap;
 use std::marker::Model;
 use ui_machine::{ObjectId, ProgramId, SignalId};
 
-/// Handlers in order of connection, by numbers from 1 that are never used again.
+/// Handlers in order of connection, with numbers from 1 that are never reused.
 ///
-/// The numbers of the handlers that the builder is still to connect are kept for it. What is done to a handler, and looking for the next one of
-/// an emission, costs the logarithm of how many are connected.
+/// Numbers are reserved for the handlers that the builder is still to connect. Changing a handler, and finding the next one of an emission,
+/// takes time logarithmic in the number of connected handlers.
 #[derive(Debug, Drop)]
 pub struct Handlers {
     connected: BTreeMap<u64, Handler>,
@@ -47,7 +47,8 @@ impl Handlers {
     ghost use Rattle.signal_core.specs.Connected.{without_matched, with_blocked, with_unblocked, without_object};
     ghost use Rattle.signal_core.specs.Emission.{has_next_turn};
 
-    /// No handlers. Bytecode may connect so many to one signal of an object, and the builder is to connect so many. It takes no memory.
+    /// Creates a collection without handlers. Bytecode may connect at most `most` handlers to one signal of an object, and the builder is
+    /// to connect `to_come`. Takes no memory.
     pub fn new(alloc: Global, most: u32, to_come: u64) -> Self
         ensures { result ≡ none_connected most to_come }
     {
@@ -60,15 +61,14 @@ impl Handlers {
         }
     }
 
-    /// Connects a handler, and gives its number.
-    ///
-    /// `HandlerLimit` where bytecode has connected as many as it may to the signal of the object, or where no number is left for it; for the
-    /// builder only where 2^64 - 1 numbers are used up, and so never while some of its handlers are to come. Then `OutOfMemory`. An error
-    /// changes nothing.
+    /// Connects a handler, and returns its number.
     ///
     /// # Errors
     ///
-    /// `HandlerLimit` where as many are connected as may be, then `OutOfMemory`. The handlers are as they were.
+    /// Returns `HandlerLimit` if bytecode connects the handler and has connected as many as it may to the signal of the object, or no
+    /// number is left for it beside those reserved for the builder. For a handler of the builder, returns it only if 2^64 - 1 numbers are
+    /// used up, and so never while some of its handlers are to come. Otherwise returns `OutOfMemory` if memory is refused. The handlers are
+    /// unchanged then.
     pub fn connect(&mut self, connection: Connection) -> Result<u64, ConnectError>
         ensures ok { OnOk result (self.new ≡ with_connection self.old (connection_of connection)) }
         ensures number { IfOk result (λ number. number ≡ self.old.last + 1) }
@@ -93,7 +93,7 @@ impl Handlers {
         Ok(number)
     }
 
-    /// The number of the handler that was connected last. Those that are connected have rising numbers up to it.
+    /// Returns the number of the handler that was connected last. The numbers of connected handlers rise up to it.
     pub fn last(&self) -> u64
         ensures number { result ≡ self.now.last }
         ensures rises { Numbered 0 self.now.handlers self.now.last }
@@ -101,12 +101,13 @@ impl Handlers {
         self.last
     }
 
-    /// The next handler of an emission after the number `given`, before the class handler or after it, that is not blocked.
+    /// Returns the next handler of an emission after the number `given` that is not blocked, and that runs after the class handler or
+    /// before it, as `after` says.
     pub(crate) fn next_handler(&self, cursor: &Cursor, given: u64, after: bool) -> Option<&Handler>
         ensures { option_map (λ h. h.now) result
             ≡ find (has_next_turn cursor.now given after) self.now.handlers }
     {
-        // For the proof: that the numbers rise.
+        // For the proof: the numbers rise.
         let _ = self.last();
         let mut at = given;
         'handlers: while let Some(number) = self.next_to(cursor, after, at) {
@@ -118,7 +119,7 @@ impl Handlers {
         None
     }
 
-    // The handler of a number, if it has the next turn.
+    // Returns the handler with this number, if it may have the next turn.
     fn with_next_turn(
         &self,
         number: u64,
@@ -137,7 +138,7 @@ impl Handlers {
         }
     }
 
-    // The number that a handler would get, if it may be connected.
+    // Returns the number that a handler would get, or `None` if it may not be connected.
     fn number_for(&self, connection: &Connection) -> Option<u64>
         ensures { result ≡ cond (has_room self.now (connection_of connection.now)) (Some (self.now.last + 1)) None }
     {
@@ -147,7 +148,7 @@ impl Handlers {
         self.last.checked_add(1)
     }
 
-    // Whether bytecode may connect one more to a signal of an object.
+    // Returns whether bytecode may connect one more handler to a signal of an object.
     fn has_room_for_code(&self, object: ObjectId, signal: SignalId) -> bool
         ensures { result ≡ has_room_for_code self.now object.0 signal }
     {
@@ -155,20 +156,21 @@ impl Handlers {
             && self.last < u64::MAX - self.to_come
     }
 
-    // How many bytecode has connected to a signal of an object.
+    // Returns how many handlers bytecode has connected to a signal of an object.
     fn count_by_code(&self, object: ObjectId, signal: SignalId) -> usize
         ensures { result ≡ count_by (by_code_to object.0 signal) self.now.handlers }
     {
         self.listings.by_code.count(object.0, u64::from(signal))
     }
 
-    /// Disconnects all handlers of a program on an object, and counts them (GObject manual, Signals: `g_signal_handlers_disconnect_matched`).
+    /// Disconnects all handlers that run the program on the object, and returns their number (GObject manual, Signals:
+    /// `g_signal_handlers_disconnect_matched`).
     pub fn disconnect_matched(&mut self, object: ObjectId, program: ProgramId) -> usize
         ensures count { result ≡ count_by (is_on object.0 program) self.old.handlers }
         ensures left { self.new
             ≡ record self.old { handlers = without_matched object.0 program self.old.handlers } }
     {
-        // For the proof: that the numbers rise.
+        // For the proof: the numbers rise.
         let _ = self.last();
         let mut count = 0;
         let mut at = 0;
@@ -179,13 +181,13 @@ impl Handlers {
         count
     }
 
-    /// Blocks all handlers of a program on an object once more, and counts them (`g_signal_handlers_block_matched`).
+    /// Blocks all handlers that run the program on the object once more, and returns their number (`g_signal_handlers_block_matched`).
     pub fn block_matched(&mut self, object: ObjectId, program: ProgramId) -> usize
         ensures count { result ≡ count_by (is_on object.0 program) self.old.handlers }
         ensures blocked { self.new
             ≡ record self.old { handlers = with_blocked object.0 program self.old.handlers } }
     {
-        // For the proof: that the numbers rise.
+        // For the proof: the numbers rise.
         let _ = self.last();
         let mut count = 0;
         let mut at = 0;
@@ -196,14 +198,14 @@ impl Handlers {
         count
     }
 
-    /// Blocks all handlers of a program on an object once less, and counts them (`g_signal_handlers_unblock_matched`). What is not blocked
-    /// stays so.
+    /// Unblocks all handlers that run the program on the object once, and returns their number (`g_signal_handlers_unblock_matched`).
+    /// Handlers that are not blocked are not changed.
     pub fn unblock_matched(&mut self, object: ObjectId, program: ProgramId) -> usize
         ensures count { result ≡ count_by (is_on object.0 program) self.old.handlers }
         ensures unblocked { self.new
             ≡ record self.old { handlers = with_unblocked object.0 program self.old.handlers } }
     {
-        // For the proof: that the numbers rise.
+        // For the proof: the numbers rise.
         let _ = self.last();
         let mut count = 0;
         let mut at = 0;
@@ -214,13 +216,13 @@ impl Handlers {
         count
     }
 
-    /// Disconnects all handlers that are on an object or have it as data, and counts them.
+    /// Disconnects all handlers that are on the object or have it as data, and returns their number.
     pub fn disconnect_object(&mut self, object: ObjectId) -> usize
         ensures count { result ≡ count_by (is_of_object object.0) self.old.handlers }
         ensures left { self.new
             ≡ record self.old { handlers = without_object object.0 self.old.handlers } }
     {
-        // For the proof: that the numbers rise.
+        // For the proof: the numbers rise.
         let _ = self.last();
         let mut count = 0;
         let mut at = 0;
@@ -231,8 +233,8 @@ impl Handlers {
         count
     }
 
-    // A number of handlers up to which none after the number `given` runs in an emission, before the class handler or after it, and is not
-    // blocked. It is that of the next one, unless the handlers are not listed.
+    // Returns a number after `given` below which no unblocked handler after `given` runs in the emission, after the class handler or before
+    // it, as `after` says. It is the number of the next such handler, unless the index by signal is incomplete.
     fn next_to(&self, cursor: &Cursor, after: bool, given: u64) -> Option<u64>
         ensures { IsNextOf (may_run cursor.now after) given self.now.handlers result }
     {
@@ -246,7 +248,7 @@ impl Handlers {
         }
     }
 
-    // The next handler of a program on an object after a number.
+    // Returns the next number after `given` of a handler that runs the program on the object.
     fn next_on(&self, object: ObjectId, program: ProgramId, given: u64) -> Option<u64>
         ensures { IsNextOf (is_on object.0 program) given self.now.handlers result }
     {
@@ -255,14 +257,14 @@ impl Handlers {
             .next(object.0, u64::from(program), 0, given)
     }
 
-    // The next handler after a number that is on an object or has it as data.
+    // Returns the next number after `given` of a handler that is on the object or has it as data.
     fn next_of(&self, object: ObjectId, given: u64) -> Option<u64>
         ensures { IsNextOf (is_of_object object.0) given self.now.handlers result }
     {
         self.listings.by_object.next(object.0, 0, 0, given)
     }
 
-    // The handler of a number.
+    // Returns the handler with this number.
     fn handler(&self, number: u64) -> Option<&Handler>
         ensures found { option_map (λ h. h.now) result ≡ find (λ h. nat_eq h.number number) self.now.handlers }
         ensures rises { Numbered 0 self.now.handlers self.now.last }
@@ -270,7 +272,7 @@ impl Handlers {
         self.connected.get(&number)
     }
 
-    // Disconnects the handler of a number if it runs the program on the object, and counts it.
+    // Disconnects the handler with this number if it runs the program on the object. Returns how many were disconnected, 0 or 1.
     fn disconnect_on(&mut self, number: u64, object: ObjectId, program: ProgramId) -> usize
         ensures count { result ≡ count_by (is_numbered (is_on object.0 program) number) self.old.handlers }
         ensures left { self.new
@@ -286,7 +288,7 @@ impl Handlers {
         1
     }
 
-    // Disconnects the handler of a number if it is on the object or has it as data, and counts it.
+    // Disconnects the handler with this number if it is on the object or has it as data. Returns how many were disconnected, 0 or 1.
     fn disconnect_of(&mut self, number: u64, object: ObjectId) -> usize
         ensures count { result ≡ count_by (is_numbered (is_of_object object.0) number) self.old.handlers }
         ensures left { self.new
@@ -302,7 +304,7 @@ impl Handlers {
         1
     }
 
-    // Disconnects the handler of a number.
+    // Disconnects the handler with this number.
     fn disconnect(&mut self, number: u64)
         ensures { self.new
             ≡ record self.old { handlers = filter (λ h. not (nat_eq h.number number)) self.old.handlers } }
@@ -313,7 +315,7 @@ impl Handlers {
         self.listings.remove(&handler);
     }
 
-    // Blocks the handler of a number once more if it runs the program on the object, and counts it.
+    // Blocks the handler with this number once more if it runs the program on the object. Returns how many matched, 0 or 1.
     fn block_on(&mut self, number: u64, object: ObjectId, program: ProgramId) -> usize
         ensures count { result ≡ count_by (is_numbered (is_on object.0 program) number) self.old.handlers }
         ensures blocked { self.new
@@ -329,7 +331,7 @@ impl Handlers {
         1
     }
 
-    // Blocks the handler of a number once more.
+    // Blocks the handler with this number once more.
     fn block(&mut self, number: u64)
         ensures { self.new
             ≡ record self.old { handlers = map (λ h. cond (nat_eq h.number number) (blocked h) h) self.old.handlers } }
@@ -341,7 +343,7 @@ impl Handlers {
         self.listings.leave(handler);
     }
 
-    // Blocks the handler of a number once less if it runs the program on the object, and counts it.
+    // Unblocks the handler with this number once if it runs the program on the object. Returns how many matched, 0 or 1.
     fn unblock_on(&mut self, number: u64, object: ObjectId, program: ProgramId) -> usize
         ensures count { result ≡ count_by (is_numbered (is_on object.0 program) number) self.old.handlers }
         ensures unblocked { self.new
@@ -357,7 +359,7 @@ impl Handlers {
         1
     }
 
-    // Blocks the handler of a number once less.
+    // Unblocks the handler with this number once.
     fn unblock(&mut self, number: u64)
         ensures { self.new
             ≡ record self.old { handlers = map (λ h. cond (nat_eq h.number number) (unblocked h) h) self.old.handlers } }

@@ -1,15 +1,15 @@
-//! Signals: which ones types have, which handlers are connected to them, and the emissions that run these.
+//! Signals: the signals of types, the handlers that are connected to them, and the emissions that run these.
 //!
-//! A [`SignalTable`] has the signals that were declared for types, and the programs that classes name for them (GObject manual, Signals:
+//! A [`SignalTable`] holds the signals that were declared for types, and the programs that classes name for them (GObject manual, Signals:
 //! `g_signal_newv`, `g_signal_override_class_handler`). A contract sees the lists of the types' own signals and class handlers.
 //!
 //! A handler runs a program for the emissions of one signal of one object (`g_signal_connect_data`). While it is blocked it is passed over.
-//! [`Handlers`] has them in order of connection, and finds those of an emission, of a program or of an object without looking at the others.
-//! Objects go by identity, signals by their number in the list of the object's class, where 0 is `notify`, and programs by number. A contract
-//! sees the machine's list of handlers, with the number of the last one connected.
+//! [`Handlers`] holds the handlers in order of connection, and finds those of an emission, of a program or of an object without looking at
+//! the others. Objects are given by identity, signals by their number in the list of the object's class, where 0 is `notify`, and programs
+//! by number. A contract sees the machine's list of handlers, with the number of the last one connected.
 //!
-//! An emission is a [`Cursor`]: it goes from turn to turn without a list of them, by the numbers of the handlers. A contract sees it as a
-//! walk, whose turns still to come are taken from the handlers as they are.
+//! An emission is a [`Cursor`], which goes from turn to turn by the numbers of the handlers, without a list of them. A contract sees it as
+//! a walk, whose turns still to come are taken from the handlers as they are.
 #![tactic(auto)]
 
 mod beginning;

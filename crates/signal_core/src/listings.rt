@@ -1,4 +1,4 @@
-//! What handlers are looked up by.
+//! Indexes by which handlers are looked up.
 
 ghost use Rattle.std.specs.Prelude.{◌≡◌, ◌+◌, ◌-◌, ◌<◌, ◌^◌, OnErr, OnOk, cond, true, ℕ};
 ghost use Rattle.ui_machine.specs.Rules.Connections.{by_code_to};
@@ -13,23 +13,25 @@ use crate::listing::{Listing, least};
 use std::alloc::{AllocError, Global};
 use ui_machine::SignalId;
 
-/// The numbers of handlers by what they are looked up by, and how many bytecode connected.
+/// The numbers of handlers, listed by signal, program and object, and how many of them bytecode connected.
 #[derive(Debug, Drop)]
 pub(crate) struct Listings {
     pub(crate) details: Details,
-    /// Those that nothing blocks, by the object, the signal with the place of the class handler, and the detail's number.
+    /// Lists the handlers that are not blocked, by object, by channel (the signal and whether they run after the class handler), and by the
+    /// number of their detail.
     pub(crate) by_signal: Listing,
-    /// By the object and the program, with 0.
+    /// Lists handlers by object and program. The third key is 0.
     pub(crate) by_program: Listing,
-    /// By each object that a handler is on or has as data, with 0 twice.
+    /// Lists handlers by each object that they are on or have as data. The second and third keys are 0.
     pub(crate) by_object: Listing,
     pub(crate) by_code: CodeCounts,
-    /// Whether each one that nothing blocks is listed by its signal. It is not, once there was no memory for one that was unblocked.
+    /// Whether each handler that is not blocked is listed by its signal. This is no longer so once memory was refused for one that was
+    /// unblocked.
     pub(crate) is_whole: bool,
 }
 
 impl Listings {
-    /// Nothing is listed. It takes no memory.
+    /// Creates empty indexes. Takes no memory.
     pub(crate) fn new(alloc: Global) -> Self
         ensures { (o s : ℕ) → count_at result.by_code o s ≡ 0 }
     {
@@ -43,7 +45,8 @@ impl Listings {
         }
     }
 
-    /// The next handler of an emission after a number, before the class handler or after it, that is not blocked.
+    /// Returns the number of the next handler of an emission after the number `given` that is not blocked, and that runs after the class
+    /// handler or before it, as `after` says.
     pub(crate) fn next_to(&self, cursor: &Cursor, after: bool, given: u64) -> Option<u64>
         requires { self.now.is_whole ≡ true }
         ensures above { IsAbove given result }
@@ -61,7 +64,7 @@ impl Listings {
         least(plain, self.by_signal.next(object, channel, detail, given))
     }
 
-    /// Lists and counts a handler. An error lists and counts none.
+    /// Lists a handler in all indexes and counts it. Lists and counts nothing on an error.
     pub(crate) fn add(&mut self, handler: &Handler) -> Result<(), AllocError>
         requires { count_at self.old.by_code handler.now.object handler.now.signal < 2 ^ 64 - 1 }
         ensures listed { OnOk result (IsListed self.new handler.now) }
@@ -76,7 +79,7 @@ impl Listings {
         added
     }
 
-    // Lists a handler, and counts it last.
+    // Lists a handler in all indexes, and counts it last. If memory is refused, it remains listed in some of them.
     fn add_all(&mut self, handler: &Handler) -> Result<(), AllocError>
         requires { count_at self.old.by_code handler.now.object handler.now.signal < 2 ^ 64 - 1 }
         ensures listed { OnOk result (IsListed self.new handler.now) }
@@ -101,7 +104,7 @@ impl Listings {
         Ok(())
     }
 
-    /// Takes a handler out that is listed and counted.
+    /// Removes a handler from all indexes and from the count.
     pub(crate) fn remove(&mut self, handler: &Handler)
         ensures stays { (h : machine.Handler) → (h.number ≡ handler.now.number → ⊥) → IsListed self.old h → IsListed self.new h }
         ensures counts { (o s : ℕ) → count_at self.new.by_code o s ≡ count_at self.old.by_code o s - cond (by_code_to o s handler.now) 1 0 }
@@ -113,7 +116,7 @@ impl Listings {
         }
     }
 
-    /// Takes a handler that was blocked out of those of its signal.
+    /// Removes a handler that was blocked from the index by signal.
     pub(crate) fn leave(&mut self, handler: &Handler)
         requires { 0 < handler.now.blocks }
         ensures stays { (h : machine.Handler) → (h.number ≡ handler.now.number → ⊥) → IsListed self.old h → IsListed self.new h }
@@ -127,7 +130,7 @@ impl Listings {
         }
     }
 
-    /// Lists a handler by its signal that was unblocked.
+    /// Adds a handler that was unblocked to the index by signal. The index is no longer whole if memory is refused.
     pub(crate) fn enter(&mut self, handler: &Handler)
         ensures stays { (h : machine.Handler) → IsListed self.old h → IsListed self.new h }
         ensures listed { (h : machine.Handler) → IsListed self.old h → IsBeside handler.now h → IsListed self.new handler.now }
@@ -148,7 +151,7 @@ impl Listings {
         };
     }
 
-    // Takes a handler out of what is listed.
+    // Removes a handler from all indexes.
     fn unlist(&mut self, handler: &Handler)
         ensures stays { (h : machine.Handler) → (h.number ≡ handler.now.number → ⊥) → IsListed self.old h → IsListed self.new h }
         ensures counts { self.new.by_code ≡ self.old.by_code }
@@ -168,7 +171,7 @@ impl Listings {
     }
 }
 
-// A signal, and whether a handler runs after the class handler, as one number.
+// Combines a signal and whether a handler runs after the class handler into one number.
 fn channel(signal: SignalId, after: bool) -> u64
     ensures { result ≡ channel signal after }
 {

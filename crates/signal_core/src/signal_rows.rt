@@ -1,4 +1,4 @@
-//! Where the signals of types are, found once for each signal of each type.
+//! A table of the declarations behind the signals of all types.
 
 ghost use Rattle.std.specs.Prelude.{◌≡◌, ◌<◌, ◌≤◌, ◌++◌, [], IfOk, OnOk, length, map, slice_get};
 ghost use Rattle.ui_machine.specs.Seq.{listed, read};
@@ -9,17 +9,16 @@ use std::alloc::{AllocError, Global};
 use std::marker::Model;
 use type_tree::{TypeId, TypeTree};
 
-/// Where a signal is that was declared: the type that it was declared for, and its place among that type's own.
+/// The declaration of a signal: the type for which it was declared, and its index among that type's own signals.
 #[derive(Clone, Copy, Debug, PartialEq, Eq)]
 pub struct SignalPlace {
     pub owner: TypeId,
     pub at: u16,
 }
 
-/// Where each signal of each type is that was declared, by type and number. `notify` is not among them. A contract sees the lists of the types'
-/// signals.
+/// For each type, the declarations of its signals, by number. `notify` is not among them. A contract sees the lists of the types' signals.
 ///
-/// It is made once, when all signals are declared, so that a signal of a type costs the same however many types bring signals to it.
+/// The table is built once, when all signals are declared, so that a look-up costs the same however many types contribute signals.
 #[derive(Drop)]
 pub struct SignalRows {
     rows: Vec<Vec<SignalPlace>>,
@@ -38,7 +37,7 @@ impl Model for SignalRows {
 }
 
 impl SignalRows {
-    /// The signals of all types of a tree.
+    /// Builds the table for all types of a tree.
     ///
     /// # Errors
     ///
@@ -60,7 +59,7 @@ impl SignalRows {
         Ok(SignalRows { rows })
     }
 
-    // The places of a type's signals.
+    // Returns the declarations of a type's signals.
     fn row(&self, t: TypeId) -> &[SignalPlace]
         ensures row { result.now ≡ read [] self.now t }
         ensures few { length result.now ≤ 16384 }
@@ -73,7 +72,7 @@ impl SignalRows {
         }
     }
 
-    /// How many signals a type has that were declared.
+    /// Returns the number of declared signals of a type, without `notify`.
     pub fn count(&self, t: TypeId) -> usize
         ensures count { result ≡ length (read [] self.now t) }
         ensures few { result ≤ 16384 }
@@ -81,7 +80,7 @@ impl SignalRows {
         self.row(t).len()
     }
 
-    /// Where a signal of a type is, if the type has so many that were declared.
+    /// Returns the declaration of a type's signal by its index among the declared ones, or `None` if there are not so many.
     pub fn place(&self, t: TypeId, at: usize) -> Option<SignalPlace>
         ensures { result ≡ slice_get (read [] self.now t) at }
     {
@@ -89,7 +88,7 @@ impl SignalRows {
     }
 }
 
-/// Adds the places of a type's own signals.
+/// Appends the declarations of a type's own signals.
 pub(crate) fn add_places(
     places: &mut Vec<SignalPlace>,
     t: TypeId,

@@ -1,6 +1,7 @@
-//! Whose signals a type has, in the order in which they come.
+//! The types from which a type has its signals, in their order.
 //!
-//! A type brings itself and, as a class, the interfaces that it names. What its ancestors bring comes before that.
+//! The sources of a type are the type itself and, if it is a class, the interfaces that it names. The sources of its ancestors come before
+//! them.
 
 ghost use Rattle.std.specs.Prelude.{◌≡◌, ◌+◌, ◌<◌, [], IsSome, None, Some, length, nat_eq, take};
 ghost use Rattle.std.specs.List.{list_any};
@@ -10,7 +11,7 @@ ghost use Rattle.signal_core.specs.Sources.{AreMarked, ancestor_of, brought_abov
 
 use type_tree::{MOST_TYPES, TypeId, TypeSort, TypeTree};
 
-/// The type without a parent above a type, and how far above it is.
+/// Returns the topmost ancestor of a type, and how many steps it is above the type.
 pub(crate) fn root(tree: &TypeTree, t: TypeId) -> (TypeId, usize)
     ensures above { ancestor_of tree.now t result.1 ≡ Some result.0 }
     ensures root { parent_of tree.now result.0 ≡ None }
@@ -27,7 +28,7 @@ pub(crate) fn root(tree: &TypeTree, t: TypeId) -> (TypeId, usize)
     }
 }
 
-/// The type so far above a type.
+/// Returns the ancestor that is `height` steps above a type.
 pub(crate) fn ancestor(tree: &TypeTree, t: TypeId, height: usize) -> TypeId
     requires { IsSome (ancestor_of tree.now t height) }
     ensures { ancestor_of tree.now t height ≡ Some result }
@@ -42,14 +43,14 @@ pub(crate) fn ancestor(tree: &TypeTree, t: TypeId, height: usize) -> TypeId
     class
 }
 
-/// How many types a type brings.
+/// Returns the number of sources of a type, without those of its ancestors.
 pub(crate) fn source_count(tree: &TypeTree, t: TypeId) -> usize
     ensures { result ≡ length (brought_by tree.now t) }
 {
     implemented(tree, t).len() + 1
 }
 
-/// What a type brings at a place.
+/// Returns the source of a type at a place.
 pub(crate) fn source_at(tree: &TypeTree, t: TypeId, place: usize) -> TypeId
     requires { place < length (brought_by tree.now t) }
     ensures { result ≡ brought_at tree.now t place }
@@ -61,14 +62,15 @@ pub(crate) fn source_at(tree: &TypeTree, t: TypeId, place: usize) -> TypeId
     }
 }
 
-/// Marks for the types of a tree, where nothing was brought yet.
+/// Creates marks for the types of a tree, none of which is marked.
 pub(crate) fn unmarked() -> [bool; MOST_TYPES]
     ensures { AreMarked result [] }
 {
     [false; MOST_TYPES]
 }
 
-/// Whether what a type brings at a place was brought before. What was is marked, by its number.
+/// Returns whether the source at a place came before, as a source of an ancestor or at an earlier place. Types that came before are marked
+/// by their numbers.
 pub(crate) fn came_before(tree: &TypeTree, t: TypeId, place: usize, marks: &[bool]) -> bool
     requires place { place < length (brought_by tree.now t) }
     requires marks { AreMarked marks.now (brought_until tree.now t place) }
@@ -81,7 +83,7 @@ pub(crate) fn came_before(tree: &TypeTree, t: TypeId, place: usize, marks: &[boo
     stands_above(tree, t, source) || stands_among(tree, t, place, source)
 }
 
-/// Marks what a type brings at a place.
+/// Marks the source of a type at a place.
 pub(crate) fn mark(tree: &TypeTree, t: TypeId, place: usize, marks: &mut [bool])
     requires place { place < length (brought_by tree.now t) }
     requires marks { AreMarked marks.old (brought_until tree.now t place) }
@@ -93,7 +95,7 @@ pub(crate) fn mark(tree: &TypeTree, t: TypeId, place: usize, marks: &mut [bool])
     }
 }
 
-// Whether an ancestor of a type brings another type.
+// Returns whether `source` is a source of an ancestor of a type.
 fn stands_above(tree: &TypeTree, t: TypeId, source: TypeId) -> bool
     ensures { result ≡ list_any (nat_eq source) (brought_above tree.now t) }
 {
@@ -103,7 +105,7 @@ fn stands_above(tree: &TypeTree, t: TypeId, source: TypeId) -> bool
     }
 }
 
-// Whether another type is among the first that a type brings.
+// Returns whether `source` is among the first `count` sources of a type.
 fn stands_among(tree: &TypeTree, t: TypeId, count: usize, source: TypeId) -> bool
     requires { count < length (brought_by tree.now t) }
     ensures { result ≡ list_any (nat_eq source) (take count (brought_by tree.now t)) }
@@ -117,7 +119,7 @@ fn contains(types: &[TypeId], source: TypeId) -> bool
     types.iter().any(|t| source == *t)
 }
 
-// The interfaces that a type names as a class.
+// Returns the interfaces that a class names. Empty for types that are not classes.
 fn implemented(tree: &TypeTree, t: TypeId) -> &[TypeId]
     ensures { result.now ≡ implemented_by tree.now t }
 {

@@ -5,7 +5,7 @@ ghost use Rattle.ui_machine.specs.Definition.Names.{canonical};
 
 use std::alloc::{AllocError, Global};
 
-/// A text with `-` for `_`, which is the canonical spelling of a name.
+/// Returns a text with `-` in place of each `_`, which is the canonical spelling of a name.
 ///
 /// # Errors
 ///
@@ -20,7 +20,7 @@ pub fn canonical_text(alloc: Global, text: &str) -> Result<String, AllocError>
     Ok(out)
 }
 
-// A character, or `-` for `_`.
+// Returns `-` for `_`, and any other character unchanged.
 fn dashed(c: char) -> char
     ensures { result ≡ (if c == 95 then 45 else c) }
 {

@@ -1,19 +1,20 @@
-//! Where an emission is.
+//! The stages of an emission.
 
-/// A stage of an emission (GObject manual, Signals: GSignalFlags), with the number of the last handler of it that had its turn.
+/// A stage of an emission (GObject manual, Signals: GSignalFlags). In the stages of handlers it has the number of the handler that had its
+/// turn last.
 #[derive(Clone, Copy, Debug, PartialEq, Eq)]
 pub(crate) enum Stage {
-    /// The class handler is to come, if it is run first.
+    /// The class handler is to come, if the signal is run first.
     First,
-    /// The transfers of bindings are to come, in a notification.
+    /// The transfers of bindings are to come, if the emission is a notification.
     Transfers,
-    /// The handlers are to come that are connected before the class handler and have a number above this one.
+    /// The handlers that run before the class handler and have a number above this one are to come.
     Before(u64),
-    /// The class handler is to come, if it is run last.
+    /// The class handler is to come, if the signal is run last.
     Last,
-    /// The handlers are to come that are connected after the class handler and have a number above this one.
+    /// The handlers that run after the class handler and have a number above this one are to come.
     After(u64),
-    /// The class handler is to come, if it is run in the cleanup.
+    /// The class handler is to come, if the signal is run in the cleanup stage.
     Cleanup,
     /// Nothing is to come.
     Over,

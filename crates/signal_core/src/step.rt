@@ -3,7 +3,7 @@
 use crate::stage::Stage;
 use crate::turn::Turn;
 
-/// A turn, and where the emission is once it is taken.
+/// A turn, and the stage of the emission once the turn is taken.
 #[derive(Clone, Copy, Debug, PartialEq, Eq)]
 pub(crate) struct Step {
     pub(crate) turn: Turn,

@@ -1,4 +1,4 @@
-//! Which signals the types have, and the programs that classes name for them.
+//! The table of the signals of types, and of the programs that classes name for them.
 
 ghost use Rattle.std.specs.Prelude.{◌≡◌, ◌*◌, ◌+◌, ◌<◌, ◌≤◌, ◌++◌, List, [], None, Some, IfErr, IfNone, IfOk, IfSome, OnErr, OnOk, length, map, option_and_then, option_map, position, slice_get, string_bytes, true};
 ghost use Rattle.ui_machine.specs.Definition.Names.{canonical, place_named, same_name};
@@ -24,13 +24,13 @@ use ui_machine::{ProgramId, SignalId};
 /// The most signals of a type and its ancestors. `notify` and the signals of interfaces do not count.
 pub const MOST_SIGNALS: usize = 64;
 
-// The most signals of a type, those of interfaces among them: those of 256 types.
+// The most declared signals of a type, including those of interfaces: 64 for each of 256 types.
 const MOST_DECLARED: usize = 16384;
 
-/// The signals of each type's own, in the order of declaration, and the class handlers that it names.
+/// The own signals of each type, in the order of declaration, and the class handlers that it names.
 ///
-/// A type's signals have numbers: 0 is `notify`, then from the root down come each class's own and those of the interfaces that it names. An
-/// interface counts once, where it comes first. A contract sees the lists of the types' own signals and class handlers.
+/// The signals of a type are numbered: 0 is `notify`, then from the root down come each class's own signals and those of the interfaces
+/// that it names. An interface counts only where it comes first. A contract sees the lists of the types' own signals and class handlers.
 #[derive(Drop)]
 pub struct SignalTable {
     own: Vec<Vec<Signal>>,
@@ -50,7 +50,7 @@ impl Model for SignalTable {
 }
 
 impl SignalTable {
-    /// A table without signals but `notify`. It takes no memory.
+    /// Creates a table without signals other than `notify`. Takes no memory.
     pub fn new(alloc: Global) -> Self
         ensures { result ≡ nothing_declared }
     {
@@ -60,12 +60,12 @@ impl SignalTable {
         }
     }
 
-    /// The allocator that the table was made with.
+    /// Returns the allocator that the table was created with.
     pub(crate) fn allocator(&self) -> Global {
         *self.own.allocator()
     }
 
-    /// Adds a signal to a type's own.
+    /// Appends a signal to a type's own.
     pub(crate) fn add_own(&mut self, t: TypeId, signal: Signal) -> Result<(), AllocError>
         requires within { t < 256 }
         requires room { length (own_of self.old.signals t) < 64 }
@@ -77,7 +77,7 @@ impl SignalTable {
         add(alloc, &mut self.own, t.index(), signal)
     }
 
-    /// Adds a class handler to those that a type names.
+    /// Appends a class handler to those that a type names.
     pub(crate) fn add_handler(&mut self, t: TypeId, handler: ClassHandler) -> Result<(), AllocError>
         ensures ok { OnOk result (AddsHandler self.old.handlers self.new.handlers t handler) }
         ensures err { OnErr result (SameHandlers self.old.handlers self.new.handlers) }
@@ -87,7 +87,7 @@ impl SignalTable {
         add(alloc, &mut self.handlers, t.index(), handler)
     }
 
-    /// The class handlers that a type names itself, in the order of naming.
+    /// Returns the class handlers that a type names itself, in the order in which they were named.
     pub fn own_handlers(&self, t: TypeId) -> &[ClassHandler]
         ensures { result.now ≡ named_of self.now.handlers t }
     {
@@ -99,7 +99,7 @@ impl SignalTable {
         }
     }
 
-    /// Gives a program to the class handlers of a name that a type names itself.
+    /// Sets the program of each class handler that a type names itself for the signal with this canonical name.
     pub(crate) fn replace_program(&mut self, t: TypeId, name: &str, program: ProgramId)
         ensures handlers { RenamesHandlers self.old.handlers self.new.handlers t name.now program }
         ensures signals { self.new.signals ≡ self.old.signals }
@@ -110,7 +110,7 @@ impl SignalTable {
         }
     }
 
-    /// The signals of a type's own.
+    /// Returns the signals declared for a type itself.
     pub fn own(&self, t: TypeId) -> &[Signal]
         ensures own { map signal_view result.now ≡ own_of self.now.signals t }
         ensures few { length result.now ≤ 64 }
@@ -123,7 +123,7 @@ impl SignalTable {
         }
     }
 
-    /// How many signals a type and its ancestors have of their own.
+    /// Returns the number of signals declared for a type and its ancestors themselves.
     pub fn line_count(&self, tree: &TypeTree, t: TypeId) -> usize
         ensures count { result ≡ line_count tree.now self.now.signals t }
         ensures bound { result ≤ 64 * (t + 1) }
@@ -141,8 +141,8 @@ impl SignalTable {
         }
     }
 
-    // The signals that come with what a type brings at a place: its own, or those of an interface that it names. What was brought before is
-    // marked.
+    // Returns the signals that the source of a type at a place contributes, which are its own unless it came before. Sources that came
+    // before are marked.
     fn added(&self, tree: &TypeTree, t: TypeId, place: usize, marks: &[bool]) -> &[Signal]
         requires place { place < length (brought_by tree.now t) }
         requires marks { AreMarked marks.now (brought_until tree.now t place) }
@@ -155,7 +155,8 @@ impl SignalTable {
         }
     }
 
-    // Where a name is among the signals of a type that were declared, or how many they are.
+    // Returns the index of the signal with this name, in any spelling, among the declared signals of a type. The error is the number of
+    // these signals.
     fn place(&self, tree: &TypeTree, t: TypeId, name: &str) -> Result<usize, usize>
         ensures found { IfOk result (λ place. place_named (λ s. s.name) (declared_of tree.now self.now.signals t) (canonical name.now) ≡ Some place) }
         ensures none { IfErr result (λ count. place_named (λ s. s.name) (declared_of tree.now self.now.signals t) (canonical name.now) ≡ None) }
@@ -177,8 +178,8 @@ impl SignalTable {
         }
     }
 
-    // The same, where none of the ancestors has the name, they bring so many signals, and what they bring is marked. What the type brings is
-    // marked then.
+    // Like `place`, given that the ancestors do not have the name, contribute `above` signals, and that their sources are marked. Marks the
+    // sources of the type.
     fn place_added(
         &self,
         tree: &TypeTree,
@@ -208,7 +209,7 @@ impl SignalTable {
         Err(count)
     }
 
-    // The signal at a place among those of a type that were declared, or how many they are.
+    // Returns the signal at an index among the declared signals of a type. The error is the number of these signals.
     fn signal_at(&self, tree: &TypeTree, t: TypeId, place: usize) -> Result<&Signal, usize>
         ensures found { IfOk result (λ s. slice_get (declared_of tree.now self.now.signals t) place ≡ Some (signal_view s.now)) }
         ensures past { IfErr result (λ count. count ≤ place) }
@@ -230,8 +231,8 @@ impl SignalTable {
         }
     }
 
-    // The same, where the ancestors bring so many signals, none of which is there, and what they bring is marked. What the type brings is
-    // marked then.
+    // Like `signal_at`, given that the ancestors contribute `above` signals, at most `place`, and that their sources are marked. Marks the
+    // sources of the type.
     fn signal_added(
         &self,
         tree: &TypeTree,
@@ -260,7 +261,8 @@ impl SignalTable {
         Err(count)
     }
 
-    /// The signal of a number, by where the signals of all types are: `None` where the type has not so many.
+    /// Returns the signal with this number, using the table of the declarations of all types. Returns `None` if the type has not so many
+    /// signals.
     pub fn signal_in(
         &self,
         rows: &SignalRows,
@@ -280,7 +282,7 @@ impl SignalTable {
         Some(declared(&self.own(place.owner)[place.at as usize]))
     }
 
-    // Where the signals of a type are that were declared.
+    // Collects the declarations of a type's signals.
     pub(crate) fn places(
         &self,
         alloc: Global,
@@ -304,8 +306,8 @@ impl SignalTable {
         }
     }
 
-    // Adds where the signals are that a type brings, to those of its ancestors. What these bring is marked; then what the type brings is marked
-    // too.
+    // Appends the declarations of the signals that a type contributes to those of its ancestors. The sources of the ancestors are marked.
+    // Marks those of the type.
     fn add_brought(
         &self,
         places: &mut Vec<SignalPlace>,
@@ -326,7 +328,7 @@ impl SignalTable {
         Ok(())
     }
 
-    // Adds where the signals are that come with what a type brings at a place. What was brought before is marked.
+    // Appends the declarations of the signals that the source of a type at a place contributes. Sources that came before are marked.
     fn add_source(
         &self,
         places: &mut Vec<SignalPlace>,
@@ -349,7 +351,7 @@ impl SignalTable {
         Ok(())
     }
 
-    /// How many signals a type has, `notify` among them.
+    /// Returns the number of signals of a type, including `notify`.
     pub fn signal_count(&self, tree: &TypeTree, t: TypeId) -> usize
         ensures count { result ≡ length (signals_of tree.now self.now.signals t) }
         ensures few { result ≤ 16385 }
@@ -361,7 +363,7 @@ impl SignalTable {
         }
     }
 
-    /// The number of a type's signal, by any spelling of its name.
+    /// Returns the number of a type's signal with this name, in any spelling.
     pub fn find(&self, tree: &TypeTree, t: TypeId, name: &str) -> Option<SignalId>
         ensures number { result ≡ number_named (signals_of tree.now self.now.signals t) name.now }
         ensures within { IfSome result (λ number. number < length (signals_of tree.now self.now.signals t)) }
@@ -376,7 +378,7 @@ impl SignalTable {
         }
     }
 
-    /// The signal of a number, if the type has so many.
+    /// Returns the signal with this number, or `None` if the type has not so many.
     pub fn signal(&self, tree: &TypeTree, t: TypeId, number: SignalId) -> Option<DeclaredSignal<'_>>
         ensures { option_map declared_view result ≡ slice_get (signals_of tree.now self.now.signals t) number }
     {
@@ -390,7 +392,7 @@ impl SignalTable {
     }
 }
 
-// The class handlers of a name get a program.
+// Sets the program of the class handlers for the signal with this canonical name.
 fn give_program(handlers: &mut [ClassHandler], name: &str, program: ProgramId)
     ensures { handlers.new ≡ map (with_program name.now program) handlers.old }
 {
@@ -404,7 +406,7 @@ fn give_program(handlers: &mut [ClassHandler], name: &str, program: ProgramId)
 // The name of the signal that each type has.
 const NOTIFY: &str = "notify";
 
-// The signal that each type has: run first, and detailed.
+// Returns the signal that each type has, which is run first and detailed.
 fn notify<'a>() -> DeclaredSignal<'a>
     ensures { declared_view result ≡ machine.notify }
 {
@@ -417,7 +419,7 @@ fn notify<'a>() -> DeclaredSignal<'a>
     }
 }
 
-// A signal that was declared.
+// Borrows a signal that was declared.
 fn declared(signal: &Signal) -> DeclaredSignal<'_>
     ensures { declared_view result ≡ signal_view signal.now }
 {
@@ -430,7 +432,7 @@ fn declared(signal: &Signal) -> DeclaredSignal<'_>
     }
 }
 
-// Where a name is among signals, in any spelling.
+// Returns the index of the signal with this name, in any spelling.
 fn position_of(signals: &[Signal], name: &str) -> Option<usize>
     ensures place { result ≡ position (λ s. same_name (string_bytes s.name) (canonical name.now)) signals.now }
     ensures within { IfSome result (λ place. place < length signals.now) }

@@ -1,13 +1,13 @@
-//! What runs in an emission.
+//! The turns of an emission.
 
 use ui_machine::{ObjectId, ProgramId};
 
-/// A turn of an emission.
+/// A turn of an emission, which says what runs.
 #[derive(Clone, Copy, Debug, PartialEq, Eq)]
 pub enum Turn {
     /// The class handler, a program.
     Class(ProgramId),
-    /// A handler.
+    /// A connected handler.
     Handler {
         /// The program that it runs.
         program: ProgramId,

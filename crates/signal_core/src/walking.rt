@@ -1,4 +1,4 @@
-//! How an emission goes from turn to turn.
+//! The walk of an emission from turn to turn.
 
 ghost use Rattle.std.specs.Prelude.{◌≡◌, option_map};
 
@@ -15,15 +15,15 @@ impl Handlers {
     ghost use Rattle.std.specs.Prelude.{true, false};
     ghost use Rattle.signal_core.specs.Emission.{begun, first_step, next_step, stage_after, from_first, from_transfers, from_before, from_last, from_after, to_come};
 
-    /// Begins an emission. What is connected later has no turn in it. It takes no memory.
+    /// Begins an emission. Handlers connected later have no turn in it. Takes no memory.
     pub fn begin_emission(&self, emission: Emission) -> Cursor
         ensures { result ≡ begun emission self.now.last }
     {
         Cursor::new(emission, self.last())
     }
 
-    /// The next turn of an emission: what is disconnected has none, and what is blocked at its turn is passed over. Without one the emission
-    /// is over.
+    /// Returns the next turn of an emission. Handlers that were disconnected have none, and those that are blocked at their turn are passed
+    /// over. Returns `None` if the emission is over.
     pub fn next(&self, cursor: &mut Cursor) -> Option<Turn>
         ensures turn { result ≡ option_map (λ step. step.turn) (next_step cursor.old self.now.handlers) }
         ensures stage { cursor.new

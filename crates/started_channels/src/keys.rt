@@ -1,4 +1,4 @@
-//! The keys of triggers: those with the same key start the same.
+//! The keys of triggers. Triggers with the same key start the same.
 
 ghost use Rattle.std.specs.Prelude.{◌≡◌, option_map};
 ghost use Rattle.bytecode.specs.View.{register_kind_view};
@@ -15,17 +15,17 @@ use operand_types::Lookups;
 use type_tree::TypeId;
 use ui_machine::{Place, SignalId, Slot};
 
-/// A type or a place, what is started, and its slot or number in the type or in the class of the place.
+/// A type or a place, the sort of the trigger, and the slot or number of what is started in the type or in the class of the place.
 pub type Key = (u16, u16, u16);
 
-// The number of a type.
+// Returns the number of a type.
 fn number_of(t: TypeId) -> u16
     ensures { result ≡ t }
 {
     t.index() as u16
 }
 
-// The key of a member, if it is known.
+// Returns the key of a member, if its number is known.
 fn member_key(x: u16, sort: u16, number: Option<u16>) -> Option<Key>
     ensures { result ≡ member_key x sort number }
 {
@@ -35,7 +35,7 @@ fn member_key(x: u16, sort: u16, number: Option<u16>) -> Option<Key>
     }
 }
 
-// The slot of a property of a place.
+// Returns the slot of the property with this name of a place.
 fn slot_at(lookups: &Lookups<'_>, place: Place, name: &str) -> Option<Slot>
     ensures { result ≡ number_for (λ class. slot_of lookups.now class name.now) (class_at lookups.now place.0) }
 {
@@ -45,7 +45,7 @@ fn slot_at(lookups: &Lookups<'_>, place: Place, name: &str) -> Option<Slot>
     }
 }
 
-// The number of a signal of a place.
+// Returns the number of the signal with this name of a place.
 fn signal_at(lookups: &Lookups<'_>, place: Place, name: &str) -> Option<SignalId>
     ensures { result ≡ number_for (λ class. signal_number lookups.now class name.now) (class_at lookups.now place.0) }
 {
@@ -55,7 +55,7 @@ fn signal_at(lookups: &Lookups<'_>, place: Place, name: &str) -> Option<SignalId
     }
 }
 
-/// The key of a property of what a kind covers.
+/// Returns the key of the property with this name, for the objects that a kind covers.
 pub fn property_key(lookups: &Lookups<'_>, kind: &RegisterKind, name: &str) -> Option<Key>
     ensures { result ≡ property_key lookups.now (register_kind_view kind.now) name.now }
 {
@@ -66,7 +66,7 @@ pub fn property_key(lookups: &Lookups<'_>, kind: &RegisterKind, name: &str) -> O
     }
 }
 
-/// The key of a signal of what a kind covers.
+/// Returns the key of the signal with this name, for the objects that a kind covers.
 pub fn signal_key(lookups: &Lookups<'_>, kind: &RegisterKind, name: &str) -> Option<Key>
     ensures { result ≡ signal_key lookups.now (register_kind_view kind.now) name.now }
 {
@@ -77,7 +77,7 @@ pub fn signal_key(lookups: &Lookups<'_>, kind: &RegisterKind, name: &str) -> Opt
     }
 }
 
-// The key of an object that is made.
+// Returns the key of an object that is made.
 fn making_key(place: Option<Place>) -> Option<Key>
     ensures { result ≡ making_key (place_number place) }
 {
@@ -87,7 +87,7 @@ fn making_key(place: Option<Place>) -> Option<Key>
     }
 }
 
-// The key of a thaw.
+// Returns the key of a thaw.
 fn thaw_key(kind: &RegisterKind) -> Option<Key>
     ensures { result ≡ thaw_key (register_kind_view kind.now) }
 {
@@ -98,7 +98,7 @@ fn thaw_key(kind: &RegisterKind) -> Option<Key>
     }
 }
 
-/// The key of a trigger, where the names that it names are known.
+/// Returns the key of a trigger, or `None` if a name in it is not known.
 pub fn key_for(lookups: &Lookups<'_>, trigger: &Trigger<'_>) -> Option<Key>
     ensures { result ≡ key_for lookups.now (trigger_view trigger.now) }
 {

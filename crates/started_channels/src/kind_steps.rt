@@ -1,4 +1,4 @@
-//! The kinds of registers, carried through instructions.
+//! Carries the kinds of registers through instructions.
 
 ghost use Rattle.std.specs.Prelude.{◌≡◌, OnOk};
 ghost use Rattle.bytecode.specs.View.{instruction_view, program_view};
@@ -11,11 +11,11 @@ use operand_types::lists::write;
 use operand_types::{Lookups, TypingError};
 use std::alloc::{AllocError, Global};
 
-/// The kinds of registers become those after an instruction; one that breaks a rule leaves them as they are.
+/// Changes the kinds of registers to those after an instruction. One that breaks a rule leaves them as they are.
 ///
 /// # Errors
 ///
-/// `AllocError` where no memory is found.
+/// `AllocError` if memory is refused.
 #[tactic(auto, using(operand_types::proofs::Filled::write_seen))]
 pub fn go_after(
     alloc: Global,

@@ -1,7 +1,7 @@
-//! What the programs of a definition may start, by the numbers of channels.
+//! Finds what the programs of a definition may start, by the numbers of channels.
 //!
-//! An instruction goes by its trigger: what it does that may start something, and to which objects. Triggers with the same key start the same, and
-//! are kept once.
+//! An instruction is reduced to its trigger: the effect that may start something, and the objects that it may apply to. Triggers with the
+//! same key start the same, so this is kept once.
 #![tactic(auto)]
 
 mod keys;

@@ -1,4 +1,4 @@
-//! The places whose objects a register of a kind may hold.
+//! The places whose objects a register of some kind may hold.
 
 ghost use Rattle.std.specs.Prelude.{◌≡◌, ◌++◌, ◌∷◌, [], IfOk, OnOk};
 ghost use Rattle.std.specs.List.{filter};
@@ -17,7 +17,7 @@ use std::alloc::{AllocError, Global};
 use type_tree::TypeId;
 use ui_machine::Place;
 
-// What a kind of values covers.
+// Returns the kind that covers the same places as a kind of values, with an object that is not null, or unset if it has no objects.
 fn covering_plain(kind: Kind) -> RegisterKind
     ensures { register_kind_view result ≡ covering_plain (kind_view kind) }
 {
@@ -27,7 +27,7 @@ fn covering_plain(kind: Kind) -> RegisterKind
     }
 }
 
-/// The kind that covers the same places, with an object that is there.
+/// Returns the kind that covers the same places, with an object that is not null.
 pub fn covering(kind: &RegisterKind) -> RegisterKind
     ensures { register_kind_view result ≡ covering (register_kind_view kind.now) }
 {
@@ -40,14 +40,14 @@ pub fn covering(kind: &RegisterKind) -> RegisterKind
     }
 }
 
-// Whether the object of a place is one of a type.
+// Returns whether the object at a place is one of a type.
 fn is_of(lookups: &Lookups<'_>, place: Place, t: TypeId) -> bool
     ensures { result ≡ covers lookups.now (some t) place.0 }
 {
     fits(lookups, &RegisterKind::At(place), &RegisterKind::NotNull(t))
 }
 
-// Whether a register with a kind of values may hold it.
+// Returns whether a register with a kind of values may hold the object at a place.
 fn is_of_plain(lookups: &Lookups<'_>, place: Place, kind: Kind) -> bool
     ensures { result ≡ covers lookups.now (plain (kind_view kind)) place.0 }
 {
@@ -57,7 +57,7 @@ fn is_of_plain(lookups: &Lookups<'_>, place: Place, kind: Kind) -> bool
     }
 }
 
-/// Whether a register of a kind may hold the object of a place.
+/// Returns whether a register of this kind may hold the object at a place.
 pub fn is_covered(lookups: &Lookups<'_>, kind: &RegisterKind, place: Place) -> bool
     ensures { result ≡ covers lookups.now (register_kind_view kind.now) place.0 }
 {
@@ -70,7 +70,7 @@ pub fn is_covered(lookups: &Lookups<'_>, kind: &RegisterKind, place: Place) -> b
     }
 }
 
-// A place, where it is covered.
+// Adds a place if the kind covers it.
 fn add_covered(
     covered: &mut Vec<u32>,
     lookups: &Lookups<'_>,
@@ -86,11 +86,11 @@ fn add_covered(
     Ok(())
 }
 
-/// The places whose objects a register of a kind may hold.
+/// Returns the places whose objects a register of this kind may hold.
 ///
 /// # Errors
 ///
-/// `AllocError` where no memory is found.
+/// `AllocError` if memory is refused.
 pub fn places_covered(
     alloc: Global,
     lookups: &Lookups<'_>,

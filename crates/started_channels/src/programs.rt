@@ -1,4 +1,4 @@
-//! The programs of a definition: what each instruction may start, how often each block is passed, and which come next.
+//! Sketches the programs of a definition: what each instruction may start, how often each block is passed, and which blocks come next.
 
 ghost use Rattle.std.specs.Prelude.{◌≡◌, ◌++◌, ◌+◌, ◌≤◌, length, map, IfOk, OnOk};
 ghost use Rattle.std.specs.List.{flat_map};
@@ -20,14 +20,14 @@ use operand_types::Lookups;
 use operand_types::lists::copy;
 use std::alloc::{AllocError, Global};
 
-/// The programs of a definition by their blocks, and what instructions may start.
+/// The sketched blocks of each program of a definition, and what instructions may start.
 #[derive(Debug, Drop)]
 pub struct SketchedPrograms {
     pub programs: Vec<Vec<SketchedBlock>>,
     pub starts: Vec<SketchedStart>,
 }
 
-// The blocks that an instruction that ends one may go to.
+// Adds the blocks that an instruction at the end of a block may go to.
 fn add_targets(next: &mut Vec<usize>, control: &ControlInstruction) -> Result<(), AllocError>
     ensures { OnOk result (next.new.items ≡ next.old.items ++ next_of (control_view control.now)) }
 {
@@ -54,7 +54,7 @@ fn add_targets(next: &mut Vec<usize>, control: &ControlInstruction) -> Result<()
     Ok(())
 }
 
-// The blocks that an instruction may go to.
+// Adds the blocks that an instruction may go to.
 #[tactic(auto, using(crate::proofs::NextBlocks::computed, crate::proofs::NextBlocks::of_property, crate::proofs::NextBlocks::of_object, crate::proofs::NextBlocks::of_signal, crate::proofs::NextBlocks::of_source))]
 fn add_next(next: &mut Vec<usize>, instruction: &Instruction) -> Result<(), AllocError>
     ensures { OnOk result (next.new.items ≡ next.old.items ++ next_of (instruction_view instruction.now)) }
@@ -70,7 +70,7 @@ fn add_next(next: &mut Vec<usize>, instruction: &Instruction) -> Result<(), Allo
     }
 }
 
-// The blocks after a block.
+// Returns the blocks that may come after a block.
 fn next_blocks(alloc: Global, block: &Block) -> Result<Vec<usize>, AllocError>
     ensures { IfOk result (λ next. next.items ≡ flat_map next_of (block_view block.now).code) }
 {
@@ -81,7 +81,7 @@ fn next_blocks(alloc: Global, block: &Block) -> Result<Vec<usize>, AllocError>
     Ok(next)
 }
 
-// The number of what each instruction of a block may start.
+// Returns the number of what each instruction of a block may start.
 fn block_starts(
     alloc: Global,
     lookups: &Lookups<'_>,
@@ -109,7 +109,7 @@ fn block_starts(
     Ok(found)
 }
 
-// A block as it is sketched.
+// Sketches a block.
 fn sketched_block(
     alloc: Global,
     lookups: &Lookups<'_>,
@@ -133,7 +133,7 @@ fn sketched_block(
     })
 }
 
-// The blocks of a program.
+// Sketches the blocks of a program.
 fn sketched_blocks(
     alloc: Global,
     lookups: &Lookups<'_>,
@@ -162,7 +162,7 @@ fn sketched_blocks(
     Ok(blocks)
 }
 
-// All programs of a definition.
+// Sketches all programs of a definition.
 fn all_programs(
     alloc: Global,
     lookups: &Lookups<'_>,
@@ -188,11 +188,11 @@ fn all_programs(
     Ok(programs)
 }
 
-/// The programs of a definition as they are sketched.
+/// Sketches the programs of a definition.
 ///
 /// # Errors
 ///
-/// `AllocError` where no memory is found.
+/// `AllocError` if memory is refused.
 pub fn sketched_programs(
     alloc: Global,
     lookups: &Lookups<'_>,

@@ -1,4 +1,4 @@
-//! What triggers may start, kept once for those with the same key.
+//! A list of what triggers may start, which has one entry for all triggers with the same key.
 
 ghost use Rattle.std.specs.Prelude.{◌≡◌, ◌+◌, ◌≤◌, Some, length, slice_get, IfOk};
 ghost use Rattle.started_channels.specs.Tables.{GoesOn, IsTable, starts_in};
@@ -13,7 +13,7 @@ use operand_types::Lookups;
 use std::alloc::{AllocError, Global};
 use std::collections::BTreeMap;
 
-/// Starts, and the number of the start of each key that was met.
+/// The starts so far, and the number of the start for each key so far.
 #[derive(Drop)]
 pub struct SketchedStarts {
     pub starts: Vec<SketchedStart>,
@@ -21,7 +21,7 @@ pub struct SketchedStarts {
 }
 
 impl SketchedStarts {
-    /// No starts but that of what starts nothing, which has the number 0.
+    /// Creates a list with just the start of what starts nothing, which has the number 0.
     ///
     /// # Errors
     ///
@@ -42,7 +42,7 @@ impl SketchedStarts {
         })
     }
 
-    // One more start, and its number.
+    // Adds a start and returns its number.
     fn add(
         &mut self,
         alloc: Global,
@@ -63,7 +63,7 @@ impl SketchedStarts {
         Ok(number as u32)
     }
 
-    // The number of the start of a trigger with a key.
+    // Returns the number of the start of a trigger with this key, which is added if it is new.
     fn number_of(
         &mut self,
         alloc: Global,
@@ -87,11 +87,11 @@ impl SketchedStarts {
         Ok(number)
     }
 
-    /// The number of the start of a trigger.
+    /// Returns the number of the start of a trigger, which is added if it is new or has no key.
     ///
     /// # Errors
     ///
-    /// `AllocError` where no memory is found.
+    /// `AllocError` if memory is refused.
     pub fn number(
         &mut self,
         alloc: Global,

@@ -1,4 +1,4 @@
-//! What triggers may start, by the numbers of channels.
+//! Finds what triggers may start, by the numbers of channels.
 
 ghost use Rattle.std.specs.Prelude.{◌≡◌, ◌++◌, ◌<◌, ◌∷◌, [], length, slice_get, Some, IfOk, OnOk};
 ghost use Rattle.std.specs.List.{filter, filter_map};
@@ -23,7 +23,7 @@ use operand_types::Lookups;
 use std::alloc::{AllocError, Global};
 use ui_machine::{Channel, Member, Place};
 
-// The number of a channel, where it is one of the definition's.
+// Adds the number of a channel, if the definition has this channel.
 fn add_number(
     found: &mut Vec<u32>,
     numbers: &ChannelNumbers,
@@ -38,7 +38,7 @@ fn add_number(
     Ok(())
 }
 
-// One of some channels.
+// Returns the channel at an index of a slice.
 fn channel_at(channels: &[Channel], number: usize) -> Channel
     requires { number < length channels.now }
     ensures { Some (channel_of result) ≡ slice_get (channels_of channels.now) number }
@@ -46,7 +46,7 @@ fn channel_at(channels: &[Channel], number: usize) -> Channel
     channels[number]
 }
 
-// The numbers of those of some channels that are the definition's.
+// Returns the numbers of those channels that the definition has.
 fn numbers_of(
     alloc: Global,
     numbers: &ChannelNumbers,
@@ -61,7 +61,7 @@ fn numbers_of(
     Ok(found)
 }
 
-// The property of a name of a place, where the kind covers it.
+// Adds the property with this name of a place, if the kind covers the place.
 fn add_property(
     found: &mut Vec<u32>,
     lookups: &Lookups<'_>,
@@ -86,7 +86,7 @@ fn add_property(
     add_number(found, numbers, &Channel { place, member })
 }
 
-// The signal of a name of a place, where the kind covers it.
+// Adds the signal with this name of a place, if the kind covers the place.
 fn add_signal(
     found: &mut Vec<u32>,
     lookups: &Lookups<'_>,
@@ -111,7 +111,7 @@ fn add_signal(
     add_number(found, numbers, &Channel { place, member })
 }
 
-// The properties of a name of the places that a kind covers.
+// Returns the properties with this name of the places that a kind covers.
 fn properties_over(
     alloc: Global,
     lookups: &Lookups<'_>,
@@ -135,7 +135,7 @@ fn properties_over(
     Ok(found)
 }
 
-// The signals of a name of the places that a kind covers.
+// Returns the signals with this name of the places that a kind covers.
 fn signals_over(
     alloc: Global,
     lookups: &Lookups<'_>,
@@ -159,7 +159,7 @@ fn signals_over(
     Ok(found)
 }
 
-// What the making of the object of a place raises.
+// Returns the channels that the making of an object at a place raises.
 fn made(
     alloc: Global,
     lookups: &Lookups<'_>,
@@ -175,11 +175,11 @@ fn made(
     numbers_of(alloc, numbers, raised.as_slice())
 }
 
-/// What a trigger may start.
+/// Returns what a trigger may start.
 ///
 /// # Errors
 ///
-/// `AllocError` where no memory is found.
+/// `AllocError` if memory is refused.
 pub fn start_for(
     alloc: Global,
     lookups: &Lookups<'_>,

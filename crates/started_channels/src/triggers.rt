@@ -1,4 +1,4 @@
-//! What instructions do that may start something.
+//! The triggers of instructions, which are the effects that may start something.
 
 ghost use Rattle.std.specs.Prelude.{◌≡◌};
 ghost use Rattle.bytecode.specs.View.{instruction_view, object_instruction_view, property_instruction_view, signal_instruction_view};
@@ -13,17 +13,17 @@ use operand_types::Lookups;
 use operand_types::operands::kind_in;
 use ui_machine::Place;
 
-/// What an instruction does that may start something. A kind is what its object operand covers.
+/// The effect of an instruction that may start something. A kind covers the objects that its object operand may hold.
 #[derive(Clone, Copy)]
 pub enum Trigger<'a> {
     Idle,
-    /// The property of this name is set, or its notification starts.
+    /// The property with this name is set or notified.
     Property { kind: RegisterKind, name: &'a str },
-    /// The signal of this name is emitted.
+    /// The signal with this name is emitted.
     Signal { kind: RegisterKind, name: &'a str },
-    /// An object is made from the prototype of this place.
+    /// An object is made from the prototype at this place.
     Making(Option<Place>),
-    /// Notifications wait no longer.
+    /// Notifications of an object wait no longer.
     Thaw(RegisterKind),
 }
 
@@ -89,7 +89,7 @@ fn signal_trigger<'a>(
     }
 }
 
-/// What an instruction does that may start something, where the registers have these kinds.
+/// Returns the trigger of an instruction whose registers have these kinds.
 #[tactic(auto, using(crate::proofs::IdleInstructions::computed, crate::proofs::IdleInstructions::controlled, crate::proofs::IdleInstructions::sourced))]
 pub fn trigger_of<'a>(
     lookups: &Lookups<'_>,

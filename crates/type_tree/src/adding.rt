@@ -1,4 +1,4 @@
-//! How types are added.
+//! Tests and additions of new types.
 
 ghost use Rattle.std.specs.Prelude.{◌≡◌, ◌<◌, ◌∷◌, ◌++◌, [], List, map, length, IfOk, is_some, nat_eq, not, OnOk, OnErr, IfSome, Option, Some, None};
 ghost use Rattle.std.specs.List.{list_all, list_any, filter_map, find, flat_map};
@@ -17,7 +17,7 @@ use crate::type_id::TypeId;
 use std::alloc::{AllocError, Global};
 
 impl TypeTree {
-    /// The class of a name.
+    /// Returns the class with this name, or `None` if no class has it.
     pub fn find_class(&self, name: &str) -> Option<TypeId>
         ensures class { result ≡ class_named self.now name.now }
         ensures within { IfSome result (λ t. t < length self.now) }
@@ -30,7 +30,7 @@ impl TypeTree {
         }
     }
 
-    /// The interface of a name.
+    /// Returns the interface with this name, or `None` if no interface has it.
     pub fn find_interface(&self, name: &str) -> Option<TypeId>
         ensures { result ≡ interface_named self.now name.now }
     {
@@ -42,7 +42,7 @@ impl TypeTree {
         }
     }
 
-    /// What an interface may require by a name: the class or interface that is called so.
+    /// Returns the class or interface with this name, which is what an interface may require, or `None` if there is none.
     pub fn find_required(&self, name: &str) -> Option<TypeId>
         ensures { result ≡ required_named self.now name.now }
     {
@@ -53,7 +53,7 @@ impl TypeTree {
         }
     }
 
-    /// Why no type of this name is added: the name is none of a type, or a type has it.
+    /// Returns why no type may be added under this name: it is not a type name, or a type has it already. `None` if the name is free.
     pub fn name_fault(&self, name: &str) -> Option<TypeFault>
         ensures { result ≡ name_fault self.now name.now }
     {
@@ -66,7 +66,7 @@ impl TypeTree {
         }
     }
 
-    /// Why no further type is added: there are 256.
+    /// Returns why no further type may be added, which is that there are 256 types already. `None` if there is room.
     pub fn room_fault(&self) -> Option<TypeFault>
         ensures { result ≡ room_fault self.now }
     {
@@ -76,21 +76,21 @@ impl TypeTree {
         None
     }
 
-    // Whether each name is of an interface.
+    // Returns whether each name is the name of an interface.
     fn are_interfaces(&self, names: &[&str]) -> bool
         ensures { result ≡ are_named (λ name. interface_named self.now name.now) names.now }
     {
         names.iter().all(|name| self.find_interface(name).is_some())
     }
 
-    // Whether each name is of a class or an interface.
+    // Returns whether each name is the name of a class or an interface.
     fn are_required(&self, names: &[&str]) -> bool
         ensures { result ≡ are_named (λ name. required_named self.now name.now) names.now }
     {
         names.iter().all(|name| self.find_required(name).is_some())
     }
 
-    // The interfaces of these names.
+    // Collects the interfaces with these names, in this order. Names of anything else are left out.
     fn find_interfaces(&self, alloc: Global, names: &[&str]) -> Result<Vec<TypeId>, AllocError>
         ensures { IfOk result (λ v. v.items ≡ filter_map (λ name. interface_named self.now name.now) names.now) }
     {
@@ -100,7 +100,7 @@ impl TypeTree {
             .collect(alloc)
     }
 
-    // The classes and interfaces of these names.
+    // Collects the classes and interfaces with these names, in this order. Names of anything else are left out.
     fn find_all_required(&self, alloc: Global, names: &[&str]) -> Result<Vec<TypeId>, AllocError>
         ensures { IfOk result (λ v. v.items ≡ filter_map (λ name. required_named self.now name.now) names.now) }
     {
@@ -110,7 +110,7 @@ impl TypeTree {
             .collect(alloc)
     }
 
-    // Whether a type is among the interfaces of these names.
+    // Returns whether `t` is one of the interfaces with these names.
     fn is_named(&self, names: &[&str], t: TypeId) -> bool
         ensures { result ≡ list_any (nat_eq t) (filter_map (λ name. interface_named self.now name.now) names.now) }
     {
@@ -120,14 +120,14 @@ impl TypeTree {
             .any(|u| t == u)
     }
 
-    // Whether a class of this parent and these interfaces is the type.
+    // Returns whether a class with this parent and these interfaces would be a `t`.
     fn would_be(&self, parent: TypeId, interfaces: &[&str], t: TypeId) -> bool
         ensures { result ≡ would_be self.now parent (filter_map (λ name. interface_named self.now name.now) interfaces.now) t }
     {
         self.is_a(parent, t) || self.is_named(interfaces, t)
     }
 
-    // The first type that an interface requires and that such a class is not.
+    // Returns the first type that `interface` requires and that a class with this parent and these interfaces would not be.
     fn missing_in(&self, parent: TypeId, interfaces: &[&str], interface: TypeId) -> Option<TypeId>
         ensures { result ≡ find (λ t. not (would_be self.now parent (filter_map (λ name. interface_named self.now name.now) interfaces.now) t))
             (required_by self.now interface) }
@@ -138,7 +138,7 @@ impl TypeTree {
             .find(|t| !self.would_be(parent, interfaces, *t))
     }
 
-    // The same of the interface of a name.
+    // Like `missing_in`, for the interface with this name. Returns `None` if no interface has the name.
     fn missing_of(&self, parent: TypeId, interfaces: &[&str], name: &str) -> Option<TypeId>
         ensures { result
             ≡ first_required (λ t. not (would_be self.now parent (filter_map (λ name. interface_named self.now name.now) interfaces.now) t))
@@ -150,7 +150,7 @@ impl TypeTree {
         }
     }
 
-    // The first type that one of the interfaces requires and that such a class is not.
+    // Returns the first type that one of these interfaces requires and that a class with this parent and these interfaces would not be.
     fn missing_type(&self, parent: TypeId, interfaces: &[&str]) -> Option<TypeId>
         ensures { result ≡ missing_type self.now parent (filter_map (λ name. interface_named self.now name.now) interfaces.now) }
     {
@@ -163,14 +163,15 @@ impl TypeTree {
         None
     }
 
-    // Whether a class of this parent and these interfaces is the type. The interfaces are looked at first, since a parent may have many ancestors.
+    // Returns whether a class with this parent and these interfaces would be a `t`. Looks at the interfaces first, since a parent may have
+    // many ancestors.
     fn is_one_of(&self, parent: TypeId, interfaces: &[TypeId], t: TypeId) -> bool
         ensures { result ≡ would_be self.now parent interfaces.now t }
     {
         contains(interfaces, t) || self.is_a(parent, t)
     }
 
-    /// The first type that an interface requires and that a class of this parent and these interfaces is not.
+    /// Returns the first type that `interface` requires and that a class with this parent and these interfaces would not be.
     pub fn missing_prerequisite(
         &self,
         parent: TypeId,
@@ -185,7 +186,7 @@ impl TypeTree {
             .find(|t| !self.is_one_of(parent, interfaces, *t))
     }
 
-    // Why a class of this parent is not added.
+    // Returns why no class may be added under this parent with these interfaces, or `None` if one may. The name is not tested.
     fn child_fault(&self, parent: TypeId, interfaces: &[&str]) -> Option<TypeFault>
         ensures { result
             ≡ child_fault self.now parent (are_named (λ name. interface_named self.now name.now) interfaces.now)
@@ -209,7 +210,7 @@ impl TypeTree {
         None
     }
 
-    // Why a class is not added.
+    // Returns why a class may not be added, or `None` if it may.
     #[tactic(auto, using(crate::proofs::Texts::are_named_texts, crate::proofs::Texts::filter_map_texts))]
     fn class_fault(&self, name: &str, parent: &str, interfaces: &[&str]) -> Option<TypeFault>
         ensures { result ≡ class_fault self.now name.now parent.now (map (λ n. n.now) interfaces.now) }
@@ -223,7 +224,7 @@ impl TypeTree {
         }
     }
 
-    // Why an interface is not added, but for its name.
+    // Returns why an interface with these requirements may not be added, or `None` if it may. The name is not tested.
     fn required_fault(&self, required: &[&str]) -> Option<TypeFault>
         ensures { result ≡ required_fault self.now (are_named (λ name. required_named self.now name.now) required.now) }
     {
@@ -233,7 +234,7 @@ impl TypeTree {
         self.room_fault()
     }
 
-    // Why an interface is not added.
+    // Returns why an interface may not be added, or `None` if it may.
     #[tactic(auto, using(crate::proofs::Texts::are_named_texts))]
     fn interface_fault(&self, name: &str, required: &[&str]) -> Option<TypeFault>
         ensures { result ≡ interface_fault self.now name.now (map (λ n. n.now) required.now) }
@@ -244,7 +245,7 @@ impl TypeTree {
         self.required_fault(required)
     }
 
-    // Why an enum or a flags type is not added.
+    // Returns why an enum or flags type may not be added under this name, or `None` if it may.
     fn members_fault(&self, name: &str) -> Option<TypeFault>
         ensures { result ≡ members_fault self.now name.now }
     {
@@ -254,12 +255,12 @@ impl TypeTree {
         self.room_fault()
     }
 
-    /// Adds a class under a parent, with the interfaces that it implements. The name is tested first, then whether it is there already,
-    /// parent and interfaces, whether the parent is final, what the interfaces require, and room and depth.
+    /// Adds a class under a parent, with the interfaces that it implements. Tests, in this order: the form of the name, whether it is
+    /// taken, parent and interfaces, whether the parent is final, what the interfaces require, the number of types, and the depth.
     ///
     /// # Errors
     ///
-    /// The first cause as `Refused`, in this order; `OutOfMemory` if memory is refused. The tree is as it was.
+    /// Returns `Refused` with the first test that fails, or `OutOfMemory` if memory is refused. The tree is unchanged then.
     pub fn add_class(
         &mut self,
         name: &str,
@@ -285,12 +286,12 @@ impl TypeTree {
         )
     }
 
-    /// Adds an interface, with the classes and interfaces that it requires. The name is tested first, then whether it is there already,
-    /// what is required, and room.
+    /// Adds an interface, with the classes and interfaces that it requires. Tests, in this order: the form of the name, whether it is
+    /// taken, what is required, and the number of types.
     ///
     /// # Errors
     ///
-    /// The first cause as `Refused`, in this order; `OutOfMemory` if memory is refused. The tree is as it was.
+    /// Returns `Refused` with the first test that fails, or `OutOfMemory` if memory is refused. The tree is unchanged then.
     pub fn add_interface(&mut self, name: &str, required: &[&str]) -> Result<TypeId, TypeError>
         ensures { let names = map (λ n. n.now) required.now in
             Adds result (interface_fault self.old name.now names) (new_interface self.old name.now names) self.old self.new }
@@ -302,11 +303,11 @@ impl TypeTree {
         self.append(name, TypeEntry::Interface(required))
     }
 
-    /// Adds an enum. The name is tested first, then whether it is there already, and room.
+    /// Adds an enum. Tests, in this order: the form of the name, whether it is taken, and the number of types.
     ///
     /// # Errors
     ///
-    /// The first cause as `Refused`, in this order; `OutOfMemory` if memory is refused. The tree is as it was.
+    /// Returns `Refused` with the first test that fails, or `OutOfMemory` if memory is refused. The tree is unchanged then.
     pub fn add_enum(&mut self, name: &str, members: Vec<EnumMember>) -> Result<TypeId, TypeError>
         ensures { Adds result (members_fault self.old name.now) (new_enum name.now (map enum_member members.items)) self.old self.new }
     {
@@ -317,11 +318,11 @@ impl TypeTree {
         self.append(name, TypeEntry::Enum(members))
     }
 
-    /// Adds a flags type. The name is tested first, then whether it is there already, and room.
+    /// Adds a flags type. Tests, in this order: the form of the name, whether it is taken, and the number of types.
     ///
     /// # Errors
     ///
-    /// The first cause as `Refused`, in this order; `OutOfMemory` if memory is refused. The tree is as it was.
+    /// Returns `Refused` with the first test that fails, or `OutOfMemory` if memory is refused. The tree is unchanged then.
     pub fn add_flags(&mut self, name: &str, members: Vec<FlagsMember>) -> Result<TypeId, TypeError>
         ensures { Adds result (members_fault self.old name.now) (new_flags name.now (map flags_member members.items)) self.old self.new }
     {
@@ -332,11 +333,11 @@ impl TypeTree {
         self.append(name, TypeEntry::Flags(members))
     }
 
-    /// Adds a class whose name and room were tested: under a parent, with the interfaces that it implements.
+    /// Adds a class under a parent, with the interfaces that it implements. The caller has tested the name and the number of types.
     ///
     /// # Errors
     ///
-    /// `AllocError` if memory is refused. Nothing has changed then.
+    /// `AllocError` if memory is refused. The tree is unchanged then.
     pub fn append_class(
         &mut self,
         name: &str,
@@ -362,11 +363,11 @@ impl TypeTree {
         Ok(t)
     }
 
-    /// Adds an interface whose name and room were tested, with the types that it requires.
+    /// Adds an interface, with the types that it requires. The caller has tested the name and the number of types.
     ///
     /// # Errors
     ///
-    /// `AllocError` if memory is refused. Nothing has changed then.
+    /// `AllocError` if memory is refused. The tree is unchanged then.
     pub fn append_interface(
         &mut self,
         name: &str,
@@ -384,11 +385,11 @@ impl TypeTree {
         Ok(t)
     }
 
-    /// Adds an enum whose name and room were tested.
+    /// Adds an enum. The caller has tested the name and the number of types.
     ///
     /// # Errors
     ///
-    /// `AllocError` if memory is refused. Nothing has changed then.
+    /// `AllocError` if memory is refused. The tree is unchanged then.
     pub fn append_enum(
         &mut self,
         name: &str,
@@ -407,11 +408,11 @@ impl TypeTree {
         Ok(t)
     }
 
-    /// Adds a flags type whose name and room were tested.
+    /// Adds a flags type. The caller has tested the name and the number of types.
     ///
     /// # Errors
     ///
-    /// `AllocError` if memory is refused. Nothing has changed then.
+    /// `AllocError` if memory is refused. The tree is unchanged then.
     pub fn append_flags(
         &mut self,
         name: &str,
@@ -430,7 +431,7 @@ impl TypeTree {
         Ok(t)
     }
 
-    /// The tree with `GObject` and its child `GInitiallyUnowned`.
+    /// Creates the tree that holds `GObject` and its child `GInitiallyUnowned`, and no other type.
     ///
     /// # Errors
     ///

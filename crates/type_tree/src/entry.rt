@@ -1,4 +1,4 @@
-//! What a tree keeps of a type beside its name.
+//! The part of a type that a tree stores beside its name.
 
 ghost use Rattle.std.specs.Prelude.{◌≡◌, ◌↔◌, ℕ, List, MatchOption, false, map, option_map, pos, true, IsTrue};
 ghost use Rattle.ui_machine.specs.Definition.Types.{enum, flags};
@@ -12,16 +12,16 @@ use crate::flags_members::FlagsMembers;
 use crate::member::{EnumMember, FlagsMember};
 use crate::type_id::TypeId;
 
-/// What may not be done with a class.
+/// The restrictions on the use of a class.
 #[derive(Clone, Copy, Debug, PartialEq, Eq)]
 pub struct TypeFlags {
-    /// It has no instances.
+    /// Whether the class can't have instances.
     pub is_abstract: bool,
-    /// It has no children.
+    /// Whether the class can't have children.
     pub is_final: bool,
 }
 
-/// A type, but for its name.
+/// A type without its name.
 #[derive(Drop)]
 pub enum TypeEntry {
     Class(ClassEntry),
@@ -30,7 +30,7 @@ pub enum TypeEntry {
     Flags(FlagsMembers),
 }
 
-/// A class, but for its name.
+/// A class without its name.
 #[derive(Drop)]
 pub struct ClassEntry {
     pub parent: Option<TypeId>,
@@ -48,7 +48,7 @@ pub enum TypeSort {
 }
 
 impl TypeFlags {
-    /// All may be done.
+    /// No restrictions.
     pub const NONE: TypeFlags = TypeFlags {
         is_abstract: false,
         is_final: false,
@@ -56,7 +56,7 @@ impl TypeFlags {
 }
 
 impl TypeEntry {
-    /// The parent of a class.
+    /// Returns the parent of a class. Returns `None` for the root and for types that are not classes.
     pub fn parent(&self) -> Option<TypeId>
         ensures { (name : List ℕ) → result ≡ (type_of name self.now).parent }
     {
@@ -68,7 +68,7 @@ impl TypeEntry {
         }
     }
 
-    /// The interfaces that a class implements or an interface requires.
+    /// Returns the interfaces that a class implements, or the types that an interface requires.
     pub fn interfaces(&self) -> &[TypeId]
         ensures { (name : List ℕ) → result.now ≡ (type_of name self.now).interfaces }
     {
@@ -80,7 +80,7 @@ impl TypeEntry {
         }
     }
 
-    /// The interfaces that a class implements.
+    /// Returns the interfaces that a class implements. Empty for types that are not classes.
     pub fn implemented(&self) -> &[TypeId]
         ensures { (name : List ℕ) → result.now ≡ implemented (type_of name self.now).sort (type_of name self.now).interfaces }
     {
@@ -92,7 +92,7 @@ impl TypeEntry {
         }
     }
 
-    /// What may not be done with a class.
+    /// Returns the restrictions on the use of a class, and `NONE` for types that are not classes.
     pub fn flags(&self) -> TypeFlags
         ensures is_abstract { (name : List ℕ) → result.is_abstract ≡ (type_of name self.now).is_abstract }
         ensures is_final { (name : List ℕ) → result.is_final ≡ (type_of name self.now).is_final }
@@ -105,7 +105,7 @@ impl TypeEntry {
         }
     }
 
-    /// The members of an enum.
+    /// Returns the members of an enum. Empty for other types.
     pub fn enum_members(&self) -> &[EnumMember]
         ensures { (name : List ℕ) → (type_of name self.now).sort ≡ enum → map enum_member result.now ≡ (type_of name self.now).members }
     {
@@ -117,7 +117,7 @@ impl TypeEntry {
         }
     }
 
-    /// The members of a flags type.
+    /// Returns the members of a flags type. Empty for other types.
     pub fn flags_members(&self) -> &[FlagsMember]
         ensures { (name : List ℕ) → (type_of name self.now).sort ≡ flags → map flags_member result.now ≡ (type_of name self.now).members }
     {
@@ -129,7 +129,7 @@ impl TypeEntry {
         }
     }
 
-    /// Whether a member of an enum has this number.
+    /// Returns whether a member of an enum has this number.
     pub fn has_number(&self, number: i128) -> bool
         ensures { (name : List ℕ) → (type_of name self.now).sort ≡ enum → result ≡ has_number (type_of name self.now).members number }
     {
@@ -141,7 +141,7 @@ impl TypeEntry {
         }
     }
 
-    /// A number as that of a member of an enum, if one has it.
+    /// Returns the number as an `i32` if a member of the enum has it.
     pub fn member_number(&self, number: i128) -> Option<i32>
         ensures { (name : List ℕ) → (type_of name self.now).sort ≡ enum → MatchOption result (has_number (type_of name self.now).members number ≡ false)
             (λ n. (n ≡ number) × (has_number (type_of name self.now).members number ≡ true)) }
@@ -154,7 +154,7 @@ impl TypeEntry {
         }
     }
 
-    /// The number of the member of an enum that is called so: by its name, else by its nick.
+    /// Returns the number of the enum member with this name, or else with this nick.
     pub fn number_called(&self, word: &str) -> Option<i32>
         ensures { (name : List ℕ) → (type_of name self.now).sort ≡ enum → result ≡ number_called (type_of name self.now).members word.now }
     {
@@ -166,7 +166,7 @@ impl TypeEntry {
         }
     }
 
-    /// The bits of the member of a flags type that is called so: by its name, else by its nick.
+    /// Returns the bits of the flags member with this name, or else with this nick.
     pub fn bits_called(&self, word: &[u8]) -> Option<u32>
         ensures { (name : List ℕ) → (type_of name self.now).sort ≡ flags → option_map pos result ≡ number_called (type_of name self.now).members word.now }
     {
@@ -178,7 +178,7 @@ impl TypeEntry {
         }
     }
 
-    /// All bits of all members of a flags type.
+    /// Returns the union of the bits of all members of a flags type, and 0 for other types.
     pub fn known_bits(&self) -> u32
         ensures { (name : List ℕ) → (type_of name self.now).sort ≡ flags → result ≡ known_bits (type_of name self.now).members }
     {
@@ -190,7 +190,7 @@ impl TypeEntry {
         }
     }
 
-    /// Whether it is an enum.
+    /// Returns whether the type is an enum.
     pub fn is_enum(&self) -> bool
         ensures { (name : List ℕ) → IsTrue result ↔ ((type_of name self.now).sort ≡ enum) }
     {
@@ -202,7 +202,7 @@ impl TypeEntry {
         }
     }
 
-    /// Whether it is a flags type.
+    /// Returns whether the type is a flags type.
     pub fn is_flags(&self) -> bool
         ensures { (name : List ℕ) → IsTrue result ↔ ((type_of name self.now).sort ≡ flags) }
     {

@@ -1,4 +1,4 @@
-//! The members of an enum, and which of them has a number and which is called so.
+//! The members of an enum, with look-ups by number, name and nick.
 
 ghost use Rattle.std.specs.Prelude.{◌≡◌, IfOk, MatchOption, false, map, option_and_then, option_map, slice_get, string_bytes, true};
 ghost use Rattle.std.specs.List.{find};
@@ -18,13 +18,13 @@ use std::alloc::{AllocError, Global};
 use std::collections::BTreeMap;
 use std::marker::Model;
 
-/// The members of an enum in their order, each found by its number, by its name and by its nick.
+/// The members of an enum in their order, with maps to look them up by number, by name and by nick.
 #[derive(Drop)]
 pub struct EnumMembers {
     members: Vec<EnumMember>,
-    // The place of the first member of each number.
+    // The index of the first member with each number.
     places: BTreeMap<i128, usize>,
-    // The place of the member that a word calls.
+    // The index of the member for each name and nick.
     words: BTreeMap<Vec<u8>, usize>,
 }
 
@@ -42,7 +42,7 @@ impl Model for EnumMembers {
     ghost invariant = { λ e. ArePlaces e.places e.members.items × FindCalled enum_member e.words e.members.items };
 }
 
-// The place of the first member of each number.
+// Maps each number to the index of the first member that has it.
 fn places_of(alloc: Global, members: &[EnumMember]) -> Result<BTreeMap<i128, usize>, AllocError>
     ensures { IfOk result (λ places. ArePlaces places members.now) }
 {
@@ -55,7 +55,7 @@ fn places_of(alloc: Global, members: &[EnumMember]) -> Result<BTreeMap<i128, usi
     Ok(places)
 }
 
-// The names of members.
+// Collects the names of the members.
 fn names_of<'a>(alloc: Global, members: &'a [EnumMember]) -> Result<Vec<&'a str>, AllocError>
     ensures { IfOk result (λ names. map (λ w. w.now) names.items ≡ map (λ m. string_bytes m.name) members.now) }
 {
@@ -66,7 +66,7 @@ fn names_of<'a>(alloc: Global, members: &'a [EnumMember]) -> Result<Vec<&'a str>
     Ok(names)
 }
 
-// The nicks of members.
+// Collects the nicks of the members.
 fn nicks_of<'a>(alloc: Global, members: &'a [EnumMember]) -> Result<Vec<&'a str>, AllocError>
     ensures { IfOk result (λ nicks. map (λ w. w.now) nicks.items ≡ map (λ m. string_bytes m.nick) members.now) }
 {
@@ -77,7 +77,7 @@ fn nicks_of<'a>(alloc: Global, members: &'a [EnumMember]) -> Result<Vec<&'a str>
     Ok(nicks)
 }
 
-// The place of the member that a word calls: by its name, else by its nick.
+// Maps each name and nick to the index of its member. Names take precedence over nicks.
 fn words_of(alloc: Global, members: &[EnumMember]) -> Result<BTreeMap<Vec<u8>, usize>, AllocError>
     ensures { IfOk result (λ words. FindCalled enum_member words members.now) }
 {
@@ -87,14 +87,14 @@ fn words_of(alloc: Global, members: &[EnumMember]) -> Result<BTreeMap<Vec<u8>, u
     Ok(words)
 }
 
-// The place that is kept of a number.
+// Returns the index stored for a number.
 fn place_at(places: &BTreeMap<i128, usize>, number: i128) -> Option<usize>
     ensures { result ≡ get int_cmp places.now number }
 {
     places.get(&number).copied()
 }
 
-// The member at a place, if there is one.
+// Returns the member at an index, or `None` if there are not so many.
 fn member_at(members: &[EnumMember], place: usize) -> Option<&EnumMember>
     ensures { option_copied result ≡ slice_get members.now place }
 {
@@ -102,7 +102,7 @@ fn member_at(members: &[EnumMember], place: usize) -> Option<&EnumMember>
 }
 
 impl EnumMembers {
-    /// These members.
+    /// Takes over these members and builds the maps.
     ///
     /// # Errors
     ///
@@ -119,14 +119,14 @@ impl EnumMembers {
         })
     }
 
-    /// The members in their order.
+    /// Returns the members in their order.
     pub fn as_slice(&self) -> &[EnumMember]
         ensures { result.now ≡ self.now }
     {
         self.members.as_slice()
     }
 
-    // The first member of a number.
+    // Returns the first member with this number.
     fn numbered(&self, number: i128) -> Option<&EnumMember>
         ensures { option_copied result ≡ find (λ m. int_eq m.number number) self.now }
     {
@@ -136,14 +136,14 @@ impl EnumMembers {
         }
     }
 
-    /// Whether a member has this number.
+    /// Returns whether a member has this number.
     pub fn has_number(&self, number: i128) -> bool
         ensures { result ≡ has_number (map enum_member self.now) number }
     {
         self.numbered(number).is_some()
     }
 
-    /// A number as that of a member, if one has it.
+    /// Returns the number as an `i32` if a member has it.
     pub fn member_number(&self, number: i128) -> Option<i32>
         ensures { MatchOption result (has_number (map enum_member self.now) number ≡ false)
             (λ n. (n ≡ number) × (has_number (map enum_member self.now) number ≡ true)) }
@@ -154,7 +154,7 @@ impl EnumMembers {
         }
     }
 
-    /// The nick of the first member with this number, and nothing where none has it.
+    /// Returns the nick of the first member with this number, or an empty text if no member has it.
     pub fn nick(&self, number: i32) -> &str
         ensures { result.now ≡ nick_of (map enum_member self.now) number }
     {
@@ -164,14 +164,14 @@ impl EnumMembers {
         }
     }
 
-    // The member that a word calls.
+    // Returns the member with this name, or else with this nick.
     fn called(&self, word: &[u8]) -> Option<&EnumMember>
         ensures { option_map (λ m. m.number) (option_copied result) ≡ number_called (map enum_member self.now) word.now }
     {
         self.members.get(place_of(&self.words, word)?)
     }
 
-    /// The number of the member that is called so: by its name, else by its nick.
+    /// Returns the number of the member with this name, or else with this nick.
     pub fn number_called(&self, word: &str) -> Option<i32>
         ensures { result ≡ number_called (map enum_member self.now) word.now }
     {

@@ -1,4 +1,4 @@
-//! Why a type is not added.
+//! Errors of adding a type.
 
 ghost use Rattle.std.specs.Prelude.{◌≡◌};
 ghost use Rattle.type_tree.specs.declared.error.TypeError.TheVariants.{OutOfMemory};
@@ -6,36 +6,36 @@ ghost use Rattle.type_tree.specs.declared.error.TypeError.TheVariants.{OutOfMemo
 use crate::type_id::TypeId;
 use std::alloc::{AllocError, AllocFailed};
 
-/// What a tree has too much of.
+/// A limit of a tree.
 #[derive(Clone, Copy, Debug, PartialEq, Eq)]
 pub enum TypeLimit {
-    /// 256 types.
+    /// A tree has at most 256 types.
     Types,
-    /// 16 classes from the root down, the root included.
+    /// There are at most 16 classes from the root down to any class, both included.
     Depth,
 }
 
-/// Why a type is not added, in the order in which the tests are made.
+/// The reason for which a type is refused. The variants are in the order in which the tests are made.
 #[derive(Clone, Copy, Debug, PartialEq, Eq)]
 pub enum TypeFault {
-    /// The name is not one of three characters or more: an ASCII letter or `_`, then letters, digits, `-`, `_` and `+`.
+    /// The name is not a type name: an ASCII letter or `_`, then at least two letters, digits, `-`, `_` or `+`.
     BadName,
-    /// A type of that name is there.
+    /// The tree has a type of that name already.
     Duplicate,
-    /// A parent, interface or required type is not there, or is of another sort.
+    /// A parent, interface or required type is not in the tree, or is of another sort.
     UnknownParent,
     /// The parent is final.
     FinalParent,
-    /// An interface requires this type, and the class would not be one.
+    /// One of the interfaces requires this type, and the class would not be one.
     Prerequisite(TypeId),
     /// The tree is full, or the class would be too deep.
     Limit(TypeLimit),
 }
 
-/// Why an addition gave no type.
+/// The error of an addition.
 #[derive(Clone, Copy, Debug, PartialEq, Eq)]
 pub enum TypeError {
-    /// No memory was found.
+    /// Memory was refused.
     OutOfMemory,
     /// A test refused the type.
     Refused(TypeFault),

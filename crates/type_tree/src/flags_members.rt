@@ -1,4 +1,4 @@
-//! The members of a flags type, all their bits, and which of them is called so.
+//! The members of a flags type, with look-ups by name and nick.
 
 ghost use Rattle.std.specs.Prelude.{◌≡◌, IfOk, map, option_and_then, option_map, pos, slice_get, string_bytes};
 ghost use Rattle.std.specs.Option.{option_copied};
@@ -13,12 +13,12 @@ use std::alloc::{AllocError, Global};
 use std::collections::BTreeMap;
 use std::marker::Model;
 
-/// The members of a flags type in their order, each found by its name and by its nick, with all their bits.
+/// The members of a flags type in their order, with a map to look them up by name and by nick, and the union of their bits.
 #[derive(Drop)]
 pub struct FlagsMembers {
     members: Vec<FlagsMember>,
     known: u32,
-    // The place of the member that a word calls.
+    // The index of the member for each name and nick.
     words: BTreeMap<Vec<u8>, usize>,
 }
 
@@ -36,7 +36,7 @@ impl Model for FlagsMembers {
     ghost invariant = { λ f. (f.known ≡ known_bits (map flags_member f.members.items)) × FindCalled flags_member f.words f.members.items };
 }
 
-// All bits of all these members.
+// Returns the union of the members' bits.
 fn known_bits(members: &[FlagsMember]) -> u32
     ensures { result ≡ known_bits (map flags_member members.now) }
 {
@@ -47,7 +47,7 @@ fn known_bits(members: &[FlagsMember]) -> u32
     bits
 }
 
-// The names of members.
+// Collects the names of the members.
 fn names_of<'a>(alloc: Global, members: &'a [FlagsMember]) -> Result<Vec<&'a str>, AllocError>
     ensures { IfOk result (λ names. map (λ w. w.now) names.items ≡ map (λ m. string_bytes m.name) members.now) }
 {
@@ -58,7 +58,7 @@ fn names_of<'a>(alloc: Global, members: &'a [FlagsMember]) -> Result<Vec<&'a str
     Ok(names)
 }
 
-// The nicks of members.
+// Collects the nicks of the members.
 fn nicks_of<'a>(alloc: Global, members: &'a [FlagsMember]) -> Result<Vec<&'a str>, AllocError>
     ensures { IfOk result (λ nicks. map (λ w. w.now) nicks.items ≡ map (λ m. string_bytes m.nick) members.now) }
 {
@@ -69,7 +69,7 @@ fn nicks_of<'a>(alloc: Global, members: &'a [FlagsMember]) -> Result<Vec<&'a str
     Ok(nicks)
 }
 
-// The place of the member that a word calls: by its name, else by its nick.
+// Maps each name and nick to the index of its member. Names take precedence over nicks.
 fn words_of(alloc: Global, members: &[FlagsMember]) -> Result<BTreeMap<Vec<u8>, usize>, AllocError>
     ensures { IfOk result (λ words. FindCalled flags_member words members.now) }
 {
@@ -80,7 +80,7 @@ fn words_of(alloc: Global, members: &[FlagsMember]) -> Result<BTreeMap<Vec<u8>, 
 }
 
 impl FlagsMembers {
-    /// These members.
+    /// Takes over these members, builds the map and joins their bits.
     ///
     /// # Errors
     ///
@@ -97,28 +97,28 @@ impl FlagsMembers {
         })
     }
 
-    /// The members in their order.
+    /// Returns the members in their order.
     pub fn as_slice(&self) -> &[FlagsMember]
         ensures { result.now ≡ self.now }
     {
         self.members.as_slice()
     }
 
-    /// All bits of all members.
+    /// Returns the union of the bits of all members.
     pub fn known_bits(&self) -> u32
         ensures { result ≡ known_bits (map flags_member self.now) }
     {
         self.known
     }
 
-    // The member that a word calls.
+    // Returns the member with this name, or else with this nick.
     fn called(&self, word: &[u8]) -> Option<&FlagsMember>
         ensures { option_map (λ m. pos m.bits) (option_copied result) ≡ number_called (map flags_member self.now) word.now }
     {
         self.members.get(place_of(&self.words, word)?)
     }
 
-    /// The bits of the member that is called so: by its name, else by its nick.
+    /// Returns the bits of the member with this name, or else with this nick.
     pub fn bits_called(&self, word: &[u8]) -> Option<u32>
         ensures { option_map pos result ≡ number_called (map flags_member self.now) word.now }
     {

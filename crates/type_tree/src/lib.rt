@@ -1,6 +1,6 @@
-//! The tree of types: classes, interfaces, enums and flags, and the rules of the names of types, properties and signals.
+//! The tree of types (classes, interfaces, enums and flags), and the rules for names of types, properties and signals.
 //!
-//! A contract sees a tree as a list of types, the pure records of the abstract machine, and a `TypeId` as a place in that list.
+//! A contract sees a tree as a list of types, the pure records of the abstract machine, and a `TypeId` as an index into that list.
 #![tactic(auto)]
 
 mod adding;

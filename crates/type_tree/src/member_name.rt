@@ -1,6 +1,7 @@
 //! Names of properties and signals, in either spelling.
 //!
-//! `-` and `_` are one in them (GObject manual, GParamSpec: canonical parameter names). The canonical spelling has `-`.
+//! Names that differ only in `-` and `_` are the same name (GObject manual, GParamSpec: canonical parameter names). The canonical spelling
+//! has `-`.
 
 ghost use Rattle.std.specs.Prelude.{◌≡◌, cond, nat_eq, not, map, true, IfOk, string_bytes};
 ghost use Rattle.std.specs.List.{list_all};
@@ -9,7 +10,8 @@ ghost use Rattle.type_tree.specs.PropertyName.{is_property_name, segments_follow
 
 use std::alloc::{AllocError, Global};
 
-/// Whether a text is a property's or signal's name: segments of ASCII letters and digits, none empty, between `-` or `_`, a letter first.
+/// Returns whether a text is a name of a property or signal: non-empty segments of ASCII letters and digits, separated by `-` or `_`,
+/// beginning with a letter.
 pub fn is_property_name(name: &str) -> bool
     ensures { result ≡ is_property_name name.now }
 {
@@ -19,7 +21,7 @@ pub fn is_property_name(name: &str) -> bool
     }
 }
 
-// Whether what follows a letter or digit is the rest of a name.
+// Returns whether these bytes may follow a letter or digit in a name, up to its end.
 fn segments_follow(bytes: &[u8]) -> bool
     ensures { result ≡ segments_follow bytes.now }
 {
@@ -37,7 +39,7 @@ fn segments_follow(bytes: &[u8]) -> bool
     true
 }
 
-// `-` or `_`.
+// Returns whether a byte is `-` or `_`.
 fn is_separator(byte: u8) -> bool
     ensures { result ≡ is_separator byte }
 {
@@ -56,14 +58,14 @@ fn is_letter_or_digit(byte: u8) -> bool
     matches!(byte, b'0'..=b'9') || is_letter(byte)
 }
 
-/// Whether a name is in the canonical spelling, which has no `_`.
+/// Returns whether a name is in the canonical spelling, which has no `_`.
 pub fn has_canonical_bytes(name: &str) -> bool
     ensures { result ≡ list_all (λ b. not (nat_eq b 95)) name.now }
 {
     name.as_bytes().iter().all(|byte| *byte != b'_')
 }
 
-/// Whether a canonical name is the one that a name spells, with `-` for `_`.
+/// Returns whether `stored`, a canonical name, is the canonical spelling of `name`.
 pub fn is_spelling(stored: &str, name: &str) -> bool
     ensures { result ≡ same_name stored.now (canonical name.now) }
 {
@@ -84,7 +86,7 @@ fn spells(stored: &[u8], name: &[u8]) -> bool
     true
 }
 
-/// The canonical spelling of a name, with `-` for `_`.
+/// Returns the canonical spelling of a name, with `-` in place of each `_`.
 ///
 /// # Errors
 ///
@@ -114,7 +116,7 @@ fn each_dashed(alloc: Global, bytes: &[u8]) -> Result<Vec<u8>, AllocError>
     bytes.iter().map(|byte| dashed(*byte)).collect(alloc)
 }
 
-// `-` for `_`.
+// Returns `-` for `_`, and any other byte unchanged.
 fn dashed(byte: u8) -> u8
     ensures { result ≡ cond (nat_eq byte 95) 45 byte }
 {

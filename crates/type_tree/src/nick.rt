@@ -1,4 +1,4 @@
-//! Nicks of members, by their numbers.
+//! Nicks of members by their numbers.
 
 ghost use Rattle.std.specs.Prelude.{◌≡◌, ℕ, List, map, pos};
 ghost use Rattle.ui_machine.specs.Output.Text.{members_of, nick_of};
@@ -10,7 +10,7 @@ use crate::tree::TypeTree;
 use crate::type_id::TypeId;
 
 impl TypeTree {
-    /// The nick of the first member with this number, and nothing where none has it.
+    /// Returns the nick of the first member of an enum or flags type with this number, or an empty text if no member has it.
     pub fn nick(&self, t: TypeId, number: i32) -> &str
         ensures { result.now ≡ nick_of (members_of self.now t) number }
     {

@@ -1,4 +1,4 @@
-//! The tree, and what it says of its types.
+//! The type tree and its queries.
 
 ghost use Rattle.std.specs.Prelude.{◌≡◌, ℕ, ◌+◌, ◌<◌, ◌≤◌, List, [], ◌∷◌, ◌++◌, length, map, string_bytes, Option, None, Some, option_map, pos, IsSome, IfSome, IfNone, MatchOption, ◌↔◌, false, nat_eq, true, IsTrue};
 ghost use Rattle.std.specs.List.{list_any};
@@ -20,13 +20,14 @@ use indexmap::IndexMap;
 use std::alloc::Global;
 use std::marker::Model;
 
-/// The most types in a tree, with the two that are there from the beginning.
+/// The most types in a tree, including the two of a new tree.
 pub const MOST_TYPES: usize = 256;
 
 /// The most classes from the root down to any class, both included.
 pub const MOST_DEPTH: usize = 16;
 
-/// Types by their names, in the order of adding. A contract sees the list of the types, in which a `TypeId` is a place.
+/// Types with their names, in the order in which they were added. A contract sees the list of the types, and a `TypeId` as an index into
+/// it.
 #[derive(Drop)]
 pub struct TypeTree {
     types: IndexMap<String, TypeEntry>,
@@ -48,14 +49,14 @@ impl Model for TypeTree {
 impl TypeTree {
     ghost use Rattle.type_tree.specs.Tree.{IsTree};
 
-    /// How many types there are.
+    /// Returns the number of types.
     pub fn len(&self) -> usize
         ensures { result ≡ length self.now }
     {
         self.types.len()
     }
 
-    /// The type of a name.
+    /// Returns the type with this name, or `None` if no type has it.
     pub fn find(&self, name: &str) -> Option<TypeId>
         ensures named { result ≡ find_type self.now name.now }
         ensures within { IfSome result (λ t. t < length self.now) }
@@ -64,7 +65,7 @@ impl TypeTree {
         Some(TypeId::new(index as u16))
     }
 
-    // What is kept of a type.
+    // Returns the entry of a type, or `None` if the tree has no such type.
     pub(crate) fn entry(&self, t: TypeId) -> Option<&TypeEntry>
         ensures entry { IfSome result (λ e. read no_type self.now t ≡ type_of (read no_type self.now t).name e.now) }
         ensures within { IsSome result ↔ (t < length self.now) }
@@ -74,7 +75,7 @@ impl TypeTree {
         Some(entry)
     }
 
-    /// What sort of type it is.
+    /// Returns the sort of a type.
     pub fn sort(&self, t: TypeId) -> TypeSort
         requires { t < length self.now }
         ensures { view_of_sort result ≡ sort_of self.now t }
@@ -87,7 +88,7 @@ impl TypeTree {
         }
     }
 
-    /// Whether it is an enum.
+    /// Returns whether a type is an enum.
     pub fn is_enum(&self, t: TypeId) -> bool
         ensures { IsTrue result ↔ (sort_of self.now t ≡ enum) }
     {
@@ -97,7 +98,7 @@ impl TypeTree {
         }
     }
 
-    /// Whether it is a flags type.
+    /// Returns whether a type is a flags type.
     pub fn is_flags(&self, t: TypeId) -> bool
         ensures { IsTrue result ↔ (sort_of self.now t ≡ flags) }
     {
@@ -107,7 +108,7 @@ impl TypeTree {
         }
     }
 
-    /// The parent of a class; the root and what is no class have none. A parent comes before its children.
+    /// Returns the parent of a class, which comes before it in the tree. Returns `None` for the root and for types that are not classes.
     pub fn parent(&self, t: TypeId) -> Option<TypeId>
         ensures parent { result ≡ parent_of self.now t }
         ensures before { IfSome result (λ p. p < t) }
@@ -119,7 +120,7 @@ impl TypeTree {
         self.entry(t)?.parent()
     }
 
-    /// The interfaces that a class implements or an interface requires, as they were given.
+    /// Returns the interfaces that a class implements, or the types that an interface requires, in the order in which they were given.
     pub fn interfaces(&self, t: TypeId) -> &[TypeId]
         ensures { result.now ≡ (read no_type self.now t).interfaces }
     {
@@ -129,7 +130,7 @@ impl TypeTree {
         }
     }
 
-    /// Whether a class has no instances, and whether it has no children.
+    /// Returns whether a class is abstract and whether it is final.
     pub fn flags(&self, t: TypeId) -> TypeFlags
         ensures is_abstract { result.is_abstract ≡ (read no_type self.now t).is_abstract }
         ensures is_final { result.is_final ≡ (read no_type self.now t).is_final }
@@ -140,7 +141,7 @@ impl TypeTree {
         }
     }
 
-    /// The name of a type.
+    /// Returns the name of a type.
     pub fn name(&self, t: TypeId) -> &str
         requires { t < length self.now }
         ensures { result.now ≡ (read no_type self.now t).name }
@@ -151,7 +152,7 @@ impl TypeTree {
         }
     }
 
-    /// The members of an enum, in order.
+    /// Returns the members of an enum in their order.
     pub fn enum_members(&self, t: TypeId) -> &[EnumMember]
         ensures { sort_of self.now t ≡ enum → map enum_member result.now ≡ members_of self.now t }
     {
@@ -161,7 +162,7 @@ impl TypeTree {
         }
     }
 
-    /// The members of a flags type, in order.
+    /// Returns the members of a flags type in their order.
     pub fn flags_members(&self, t: TypeId) -> &[FlagsMember]
         ensures { sort_of self.now t ≡ flags → map flags_member result.now ≡ members_of self.now t }
     {
@@ -171,7 +172,7 @@ impl TypeTree {
         }
     }
 
-    /// Whether a member of an enum has this number.
+    /// Returns whether a member of an enum has this number.
     pub fn has_number(&self, t: TypeId, number: i128) -> bool
         ensures { sort_of self.now t ≡ enum → result ≡ has_number (members_of self.now t) number }
     {
@@ -181,7 +182,7 @@ impl TypeTree {
         }
     }
 
-    /// A number as that of a member of an enum, if one has it.
+    /// Returns the number as an `i32` if a member of the enum has it.
     pub fn member_number(&self, t: TypeId, number: i128) -> Option<i32>
         ensures { sort_of self.now t ≡ enum → MatchOption result (has_number (members_of self.now t) number ≡ false)
             (λ n. (n ≡ number) × (has_number (members_of self.now t) number ≡ true)) }
@@ -192,21 +193,21 @@ impl TypeTree {
         }
     }
 
-    /// The number of the member of an enum that is called so: by its name, else by its nick.
+    /// Returns the number of the enum member with this name, or else with this nick.
     pub fn number_called(&self, t: TypeId, word: &str) -> Option<i32>
         ensures { sort_of self.now t ≡ enum → result ≡ number_called (members_of self.now t) word.now }
     {
         self.entry(t)?.number_called(word)
     }
 
-    /// The bits of the member of a flags type that is called so: by its name, else by its nick.
+    /// Returns the bits of the flags member with this name, or else with this nick.
     pub fn bits_called(&self, t: TypeId, word: &[u8]) -> Option<u32>
         ensures { sort_of self.now t ≡ flags → option_map pos result ≡ number_called (members_of self.now t) word.now }
     {
         self.entry(t)?.bits_called(word)
     }
 
-    /// All bits of all members of a flags type.
+    /// Returns the union of the bits of all members of a flags type.
     pub fn known_bits(&self, t: TypeId) -> u32
         ensures { sort_of self.now t ≡ flags → result ≡ known_bits (members_of self.now t) }
     {
@@ -216,7 +217,7 @@ impl TypeTree {
         }
     }
 
-    // The interfaces that a class itself implements.
+    // Returns the interfaces that a class itself implements, without those of its ancestors.
     fn implemented(&self, t: TypeId) -> &[TypeId]
         ensures { result.now ≡ implemented_by self.now t }
     {
@@ -226,14 +227,15 @@ impl TypeTree {
         }
     }
 
-    // Whether a type is b, or itself implements it.
+    // Returns whether `t` is `b` or itself implements `b`.
     fn is_or_implements(&self, t: TypeId, b: TypeId) -> bool
         ensures { result ≡ is_or_implements self.now b t }
     {
         t == b || contains(self.implemented(t), b)
     }
 
-    /// Whether b is a, an ancestor of a, or an interface that a or an ancestor implements. An interface is only itself.
+    /// Returns whether `b` is `a`, an ancestor of `a`, or an interface that `a` or an ancestor of `a` implements. An interface is only
+    /// itself.
     pub fn is_a(&self, a: TypeId, b: TypeId) -> bool
         ensures { result ≡ is_a self.now a b }
     {
@@ -248,7 +250,7 @@ impl TypeTree {
         }
     }
 
-    /// How many classes there are from the root down to this one, both included.
+    /// Returns the number of classes from the root down to this one, both included.
     pub fn depth(&self, t: TypeId) -> usize
         ensures depth { result ≡ depth self.now t }
         ensures bound { result ≤ t + 1 }
@@ -261,7 +263,7 @@ impl TypeTree {
         }
     }
 
-    /// A tree with nothing in it.
+    /// Creates a tree without types.
     pub(crate) fn empty(alloc: Global) -> Self
         ensures { result ≡ [] }
     {
@@ -270,12 +272,16 @@ impl TypeTree {
         }
     }
 
-    /// The allocator that the tree was made with.
+    /// Returns the allocator that the tree was created with.
     pub(crate) fn allocator(&self) -> Global {
         *self.types.allocator()
     }
 
     /// Adds a type at the end.
+    ///
+    /// # Errors
+    ///
+    /// Returns `OutOfMemory` if memory is refused.
     pub(crate) fn append(&mut self, name: &str, entry: TypeEntry) -> Result<TypeId, TypeError>
         requires fresh { find_type self.old name.now ≡ None }
         requires room { length self.old < 256 }
@@ -289,7 +295,7 @@ impl TypeTree {
     }
 }
 
-// Whether the type is one of these.
+// Returns whether `t` is one of these types.
 pub(crate) fn contains(types: &[TypeId], t: TypeId) -> bool
     ensures { result ≡ list_any (nat_eq t) types.now }
 {

@@ -4,7 +4,7 @@ ghost use Rattle.std.specs.Prelude.{ℕ, ◌≡◌, ◌<◌, ◌^◌};
 
 use std::marker::Model;
 
-/// The number of a type in its tree. A contract sees the number.
+/// The number of a type, which is its index in the tree. A contract sees the number.
 #[derive(Clone, Copy, Debug, PartialEq, Eq, PartialOrd, Ord, Hash)]
 pub struct TypeId {
     number: u16,
@@ -19,14 +19,14 @@ impl Model for TypeId {
 }
 
 impl TypeId {
-    /// The type of this number.
+    /// Makes the type of this number.
     pub fn new(number: u16) -> Self
         ensures { result ≡ number }
     {
         TypeId { number }
     }
 
-    /// The number, which is the type's place in the tree.
+    /// Returns the number, which is the type's index in the tree.
     pub fn index(self) -> usize
         ensures { result ≡ self }
     {

@@ -1,4 +1,4 @@
-//! Words by their places in a list.
+//! A map from words to their indexes in a list.
 
 ghost use Rattle.std.specs.Prelude.{◌≡◌, ℕ, List, Some, OnOk, bytes_eq, if◌then◌else◌, map};
 ghost use Rattle.std.specs.Option.{option_or};
@@ -7,7 +7,7 @@ ghost use Rattle.type_tree.specs.Words.{place_at, place_from};
 use std::alloc::{AllocError, Global};
 use std::collections::BTreeMap;
 
-// Gives a word its place, in place of one behind it.
+// Maps a word to an index, and replaces an index that it had before.
 fn add_word(
     places: &mut BTreeMap<Vec<u8>, usize>,
     alloc: Global,
@@ -21,7 +21,7 @@ fn add_word(
     Ok(())
 }
 
-/// Gives each of these words the place of the first one of it. Others stay as they were.
+/// Maps each of these words to the index of its first occurrence, and replaces an index that it had before. Other words keep theirs.
 ///
 /// # Errors
 ///
@@ -41,7 +41,7 @@ pub(crate) fn add_words(
     Ok(())
 }
 
-/// The place that is kept of a word.
+/// Returns the index stored for a word.
 pub(crate) fn place_of(places: &BTreeMap<Vec<u8>, usize>, word: &[u8]) -> Option<usize>
     ensures { result ≡ place_at places.now word.now }
 {

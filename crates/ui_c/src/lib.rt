@@ -1,7 +1,8 @@
 //! The runtime for programs in C: a session from the bytes of a definition, event lines in, and the bytes of lines out. `examples/host_c`
 //! has the header, which says what a host has to keep to.
 //!
-//! Each function does what `verify` or the method of its name does with a [`SessionHandle`], and answers the number of its status.
+//! Each function does what `verify` or the method of its name does with a [`SessionHandle`]. If that has a status, the function returns its
+//! number.
 #![tactic(auto)]
 
 ghost use Rattle.std.specs.Prelude.{◌≡◌, None, length};
@@ -13,7 +14,7 @@ ghost use Rattle.c_sessions.specs.declared.status.Status.{Status};
 use c_sessions::{SessionHandle, verify};
 use std::alloc::Global;
 
-/// Judges a definition and writes its report, as `c_sessions::verify`.
+/// Judges a definition and writes its report, as `c_sessions::verify` does.
 #[unsafe(no_mangle)]
 pub extern "C" fn gelvopaun_verify(alloc: Global, definition: &[u8], report: &mut [u8]) -> u8
     ensures { (status : Status) × (result ≡ code_of status) × Verifies definition.now (length report.old) status report.new }
@@ -21,7 +22,7 @@ pub extern "C" fn gelvopaun_verify(alloc: Global, definition: &[u8], report: &mu
     verify(alloc, definition, report).code()
 }
 
-/// Starts a session from the bytes of a definition, as `SessionHandle::start`.
+/// Starts a session from the bytes of a definition, as `SessionHandle::start` does.
 #[unsafe(no_mangle)]
 pub extern "C" fn gelvopaun_start(
     alloc: Global,
@@ -34,7 +35,7 @@ pub extern "C" fn gelvopaun_start(
     ui.start(alloc, definition, refusal).code()
 }
 
-/// Has the session carry out an event line, as `SessionHandle::dispatch`.
+/// Makes the session carry out an event line, as `SessionHandle::dispatch` does.
 #[unsafe(no_mangle)]
 pub extern "C" fn gelvopaun_dispatch(
     alloc: Global,
@@ -47,7 +48,7 @@ pub extern "C" fn gelvopaun_dispatch(
     ui.dispatch(alloc, line, refusal).code()
 }
 
-/// Takes bytes of the session's lines, as `SessionHandle::take_lines`, and answers how many.
+/// Takes bytes of the session's lines, as `SessionHandle::take_lines` does, and returns how many.
 #[unsafe(no_mangle)]
 pub extern "C" fn gelvopaun_take_lines(
     alloc: Global,

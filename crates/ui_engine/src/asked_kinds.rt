@@ -1,4 +1,4 @@
-//! Which kind of value an event asks for.
+//! The kind of the value that an event asks for.
 
 ghost use Rattle.std.specs.Prelude.{◌≡◌, option_map};
 ghost use Rattle.g_values.specs.View.{kind_view};
@@ -9,7 +9,7 @@ use definition_format::Request;
 use definitions::Definition;
 use g_values::Kind;
 
-/// The kind of the property that a request reads, or of the result of the signal that it emits. Other requests ask for no value.
+/// Returns the kind of the property that a request reads, or of the result of the signal that it emits. Other requests ask for no value.
 pub(crate) fn kind_of_request(definition: &Definition, request: &Request) -> Option<Kind>
     ensures { option_map kind_view result ≡ kind_of_request definition.now (request_of request.now) }
 {

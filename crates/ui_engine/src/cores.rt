@@ -1,4 +1,4 @@
-//! What a session is beside its pool: how its events are carried out.
+//! The core of a session, which is the session without its pool, and the events that it carries out.
 
 ghost use Rattle.std.specs.Prelude.{◌≡◌, ◌≤◌, ◌+◌, [], None, Ok, ℕ, List, map, option_map, string_bytes, false, IfOk};
 ghost use Rattle.ui_machine.specs.Prefix.{IsPrefix};
@@ -30,19 +30,19 @@ use native_peers::Peers;
 use std::marker::Model;
 use verified::Verified;
 
-/// What a session is at.
+/// The phase of a session.
 #[derive(Clone, Copy, Debug, PartialEq, Eq)]
 pub(crate) enum Phase {
     /// Nothing is left to do.
     AtRest,
     /// An event has begun and not ended.
     UnderWay,
-    /// No memory was found.
+    /// Memory was refused.
     Stopped,
 }
 
-/// A session without its pool. At rest each object is counted as often as it is mentioned, and nothing is left to do; and no event that is
-/// read against the definition can leave the machine stuck.
+/// A session without its pool. At rest nothing is left to do, and each object is counted as often as it is mentioned. No event that is read
+/// against the definition can leave the machine stuck.
 #[derive(Drop)]
 pub struct Core {
     pub(crate) verified: Verified,
@@ -50,7 +50,7 @@ pub struct Core {
     pub(crate) phase: Phase,
 }
 
-// What a session is at, where an event has come so far.
+// Returns the phase of a session whose event has come so far.
 fn phase_at(progress: &Progress) -> Phase
     ensures { result ≡ phase_of progress.now }
 {
@@ -81,12 +81,12 @@ impl Model for Core {
 }
 
 impl Core {
-    /// Carries out an event with all that it leads to, by a pool that the session knows. The event has to be one that was read against the
-    /// session's definition.
+    /// Carries out an event with all that it leads to, with a pool that the session knows. The event has to be one that was read against
+    /// the session's definition.
     ///
     /// # Errors
     ///
-    /// As `Session::dispatch`.
+    /// Returns the same errors as `Session::dispatch`.
     pub fn dispatch<P: Peers>(&mut self, pool: &mut P, event: Event) -> Result<Reply, SessionFault>
         requires read { EventRead self.now.definition (event_of event) }
         requires seated { IsSeated (P.seen pool.now) self.now }
@@ -107,12 +107,12 @@ impl Core {
         }
     }
 
-    /// Begins an event beside a pool that the session knows; the pool is left as it is. While the event is under way the session has stopped
-    /// for others. The event has to be one that was read against the session's definition.
+    /// Begins an event beside a pool that the session knows, and leaves the pool as it is. While the event is under way the session refuses
+    /// other events as `Stopped`. The event has to be one that was read against the session's definition.
     ///
     /// # Errors
     ///
-    /// As `Session::begin`.
+    /// Returns the same errors as `Session::begin`.
     pub fn begin<P: Peers>(&mut self, pool: &P, event: Event) -> Result<Progress, SessionFault>
         requires read { EventRead self.now.definition (event_of event) }
         requires seated { IsSeated (P.seen pool.now) self.now }
@@ -171,8 +171,8 @@ impl Core {
         }))
     }
 
-    // Begins a turn of the main loop: the sources that are ready and have the least priority number run, each in a dispatch of its own. Where
-    // no memory is found the session stops.
+    // Begins a turn of the main loop: the sources that are ready and have the least priority number run, each in a dispatch of its own. The
+    // session stops if memory is refused.
     fn begin_turn<P: Peers>(&mut self, pool: &P, moment: u64) -> Result<Progress, SessionFault>
         requires goes_on { self.now.stopped ≡ false }
         requires knows { Knows self.now.world (P.seen pool.now) }
@@ -197,7 +197,7 @@ impl Core {
         }
     }
 
-    // Begins the first source of a turn that has begun, if there is one.
+    // Begins the dispatch of the first source of a turn that has begun, if there is one.
     fn begin_sources<P: Peers>(&mut self, pool: &P, batch: Batch) -> Progress
         requires goes_on { self.now.stopped ≡ false }
         requires knows { Knows self.now.world (P.seen pool.now) }
@@ -226,11 +226,11 @@ impl Core {
         progress
     }
 
-    /// Goes on with an event for at most so many counted steps, by the pool beside which it began.
+    /// Goes on with an event for at most `most` counted steps, with the pool beside which it began.
     ///
     /// # Errors
     ///
-    /// As `Session::advance`.
+    /// Returns the same errors as `Session::advance`.
     pub fn advance<P: Peers>(
         &mut self,
         pool: &mut P,
@@ -258,21 +258,21 @@ impl Core {
         Ok(progress)
     }
 
-    /// The definition that it runs.
+    /// Returns the definition that the session runs.
     pub fn definition(&self) -> &Definition
         ensures { result.now ≡ self.now.definition }
     {
         self.verified.definition()
     }
 
-    /// The lines that were said since the last call of `forget`, without their LF.
+    /// Returns the lines that were said since the last call of `forget`, without their LF.
     pub fn transcript(&self) -> &[String]
         ensures { map string_bytes result.now ≡ self.now.world.transcript }
     {
         self.engine.world.transcript.as_slice()
     }
 
-    /// Gives up the lines so far. They make no difference to what is said later.
+    /// Clears the lines so far. They make no difference to what is said later.
     pub fn forget(&mut self)
         ensures { self.new ≡ without_lines self.old }
     {

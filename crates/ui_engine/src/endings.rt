@@ -1,4 +1,4 @@
-//! The end of a session: the boxes that objects have got are closed.
+//! The end of a session, at which the boxes that objects have got are closed.
 
 ghost use Rattle.std.specs.Prelude.{◌≡◌, ◌<◌, length};
 ghost use Rattle.native_peers.specs.Seen.{SameRelations};
@@ -7,7 +7,7 @@ ghost use Rattle.ui_engine.specs.Endings.{closed_at_if, is_taken, taken_closed};
 use engine_world::seats::Seats;
 use native_peers::Peers;
 
-// Whether an object has got the peer of a number.
+// Returns whether an object has got the peer with this number.
 fn is_taken(seats: &Seats, number: usize) -> bool
     ensures { result ≡ is_taken seats.now number }
 {
@@ -17,7 +17,7 @@ fn is_taken(seats: &Seats, number: usize) -> bool
     }
 }
 
-// Closes the box of a number where an object has got the peer, if it is open.
+// Closes the box with this number, if it is open and an object has got its peer.
 fn close_if_taken<P: Peers>(seats: &Seats, pool: &mut P, number: usize)
     requires inside { number < length (P.seen pool.now) }
     ensures closed { (P.seen pool.new) ≡ closed_at_if (is_taken seats.now number) number (P.seen pool.old) }

@@ -1,15 +1,15 @@
-//! What sessions refuse.
+//! The faults for which a session does not begin or does not carry out an event.
 
 use std::alloc::AllocError;
 
-/// Why an event was not carried out to its end.
+/// The reason why an event was not carried out to its end.
 #[derive(Clone, Copy, Debug, PartialEq, Eq)]
 pub enum SessionFault {
     /// Memory was refused. The session has stopped.
     OutOfMemory,
     /// The session stopped before, in its build or in an event.
     Stopped,
-    /// A turn of a moment before the latest one. Nothing has changed.
+    /// The event is a turn of a moment before the latest one. Nothing has changed.
     ClockBack,
     /// The event names an object that was released. Nothing has changed.
     Released,
@@ -26,12 +26,12 @@ impl From<AllocError> for SessionFault {
     }
 }
 
-/// Why no session began, with the name of the first peer that is not as the definition needs it.
+/// The reason why no session began, with the name of the first peer that is not as the definition needs it.
 #[derive(Debug, Drop)]
 pub enum StartFault {
     /// Memory was refused before the build.
     OutOfMemory,
-    /// The definition needs the peer, and the pool has none of the name.
+    /// The definition needs the peer, and the pool has none of this name.
     PeerMissing(String),
     /// The peer is closed.
     PeerClosed(String),

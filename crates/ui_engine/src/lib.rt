@@ -1,7 +1,7 @@
 //! Sessions: a definition that runs, with the peers that it calls.
 //!
-//! A [`Session`] follows the abstract machine: each step of its engine is the machine's, the replies of its peers are the only choice, and the
-//! transcript of a dispatch is that of a run of it.
+//! A [`Session`] follows the abstract machine: each step of its engine is a step of the machine, the replies of its peers are the only
+//! choice, and the transcript of a dispatch is that of a run of the machine.
 #![tactic(auto)]
 
 mod asked_kinds;

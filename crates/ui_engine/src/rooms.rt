@@ -1,4 +1,4 @@
-//! How much room the runs of a definition take: what `start` reserves, so that no program, emission or construction asks for memory to begin.
+//! The room that the runs of a definition take. `start` reserves it, so that no program, emission or construction asks for memory to begin.
 
 ghost use Rattle.std.specs.Prelude.{◌≡◌, ◌+◌, ◌*◌, ◌≤◌, ◌<◌, ◌^◌, ◌++◌, [], ◌∷◌, length, map, min, IfOk, OnOk, ℕ};
 ghost use Rattle.bytecode.specs.View.{instruction_view, program_view};
@@ -12,7 +12,7 @@ use std::alloc::{AllocError, Global};
 use type_tree::TypeId;
 use ui_machine::{Place, ProgramId, SignalId};
 
-// How many registers a program has at most.
+// Returns the greatest number of registers of a program.
 fn most_registers(definition: &Definition) -> usize
     ensures { HoldsRegisters definition.now result }
 {
@@ -26,7 +26,7 @@ fn most_registers(definition: &Definition) -> usize
     most
 }
 
-// How many arguments an instruction gives to an emission.
+// Returns the number of arguments that an instruction gives to an emission, or 0 if it emits nothing.
 fn args_of(instruction: &Instruction) -> usize
     ensures { result ≡ args_of (instruction_view instruction.now) }
 {
@@ -36,7 +36,7 @@ fn args_of(instruction: &Instruction) -> usize
     }
 }
 
-// How many arguments an instruction of some gives at most.
+// Returns the greatest number of arguments that one of these instructions gives to an emission.
 fn args_within(code: &[Instruction]) -> usize
     ensures { result ≡ args_within (map instruction_view code.now) }
 {
@@ -47,7 +47,7 @@ fn args_within(code: &[Instruction]) -> usize
     most
 }
 
-// How many arguments an instruction of a program gives at most.
+// Returns the greatest number of arguments that an instruction of a program gives to an emission.
 fn args_in(program: &Program) -> usize
     ensures { result ≡ args_in (program_view program.now) }
 {
@@ -58,7 +58,7 @@ fn args_in(program: &Program) -> usize
     most
 }
 
-// How many arguments a signal of a class has at most.
+// Returns the greatest number of arguments of a signal of a class.
 fn most_params_of(definition: &Definition, class: TypeId) -> usize
     ensures { HoldsParams definition.now class result }
 {
@@ -75,7 +75,7 @@ fn most_params_of(definition: &Definition, class: TypeId) -> usize
     }
 }
 
-// How many arguments a signal has at most.
+// Returns the greatest number of arguments of any signal.
 fn most_params(definition: &Definition) -> usize
     ensures { HoldsSignals definition.now result }
 {
@@ -86,8 +86,8 @@ fn most_params(definition: &Definition) -> usize
     most
 }
 
-// The arguments of the emissions that have more of them than so many: of each program the most that it gives, for no program runs in two
-// frames at a time, and the most that an event may give.
+// Returns the greatest number of arguments that each program gives to an emission, as far as it is more than `width`. One number for each
+// program is enough, as no program runs in two frames at a time.
 fn wide_emissions(
     alloc: Global,
     definition: &Definition,
@@ -108,7 +108,7 @@ fn wide_emissions(
     }
 }
 
-// Adds a number to others, if it is more than so many.
+// Appends a number of arguments, if it is more than `width`.
 fn add_if_wide(wide: &mut Vec<usize>, width: usize, count: usize) -> Result<(), AllocError>
     ensures { OnOk result (wide.new.items ≡ wide.old.items ++ wider width (count ∷ [])) }
 {
@@ -118,19 +118,19 @@ fn add_if_wide(wide: &mut Vec<usize>, width: usize, count: usize) -> Result<(), 
     Ok(())
 }
 
-// How many steps the construction of what is at a place has at most.
+// Returns how many steps the construction of what is at a place has at most.
 fn steps_at(definition: &Definition, place: Place) -> usize
     ensures { HoldsSteps definition.now place.0 result }
 {
     let Some(entry) = entry_at(definition, place) else {
         return 0;
     };
-    // Each class from the root down names one program at most that runs once an object is constructed.
+    // Each class from the root down names at most one program that runs once an object is constructed.
     let programs = definition.types().depth(entry.class);
     definition.slots(entry.class) + entry.given.len() + programs + 1
 }
 
-// How many steps a construction has at most.
+// Returns how many steps any construction has at most.
 fn most_steps(definition: &Definition) -> usize
     ensures { (place : ℕ) → HoldsSteps definition.now place result }
 {
@@ -141,7 +141,7 @@ fn most_steps(definition: &Definition) -> usize
     most
 }
 
-// How many programs there are.
+// Returns how many programs there are.
 fn program_count(definition: &Definition) -> usize
     ensures count { result ≡ length definition.now.programs }
     ensures few { result < 2 ^ 16 }
@@ -157,8 +157,9 @@ fn program_count(definition: &Definition) -> usize
     }
 }
 
-/// The room for runs of so many frames, each of which is a program, an emission or a construction. Between two of them is one task at most, and
-/// a step puts two tasks where one was. A construction is of the build or of a program, which runs in one frame at a time.
+/// Returns the room for runs with `depth` frames at a time, each of which is a program, an emission or a construction. Between two frames
+/// is one task at most, and a step puts two tasks where one was. A construction is of the build or of a program, which runs in one frame at
+/// a time. Emissions with more arguments than usual are those of programs, and one that an event may begin.
 ///
 /// # Errors
 ///

@@ -34,7 +34,8 @@ use native_peers::Peers;
 use std::alloc::Global;
 use verified::Verified;
 
-/// What runs a verified definition, with the pool of its peers, which it knows: of each peer its name, its methods, and whether it is open.
+/// A session, which runs a verified definition with the pool of its peers. It knows the name and the methods of each peer, and whether the
+/// peer is open.
 #[derive(Drop)]
 pub struct Session<P: Peers> {
     pub(crate) core: Core,
@@ -49,7 +50,7 @@ pub struct Started<P: Peers> {
     pub build: Result<Reply, SessionFault>,
 }
 
-/// What no session began with, handed back: the definition, and the pool, of which no peer was called or closed.
+/// What is handed back if no session began: the reason, the definition, and the pool, of which no peer was called or closed.
 #[derive(Drop)]
 pub struct Refused<P> {
     pub fault: StartFault,
@@ -57,14 +58,14 @@ pub struct Refused<P> {
     pub pool: P,
 }
 
-/// What is left of a session: its lines, and its pool, in which each peer is closed that an object has got.
+/// What is left of a session that has ended: its lines, and its pool, in which each peer that an object has got is closed.
 #[derive(Drop)]
 pub struct Finished<P> {
     pub transcript: Vec<String>,
     pub pool: P,
 }
 
-// Builds the objects of a verified definition, from what a build begins with.
+// Builds the objects of a verified definition, from the state with which a build begins.
 fn build<P: Peers>(verified: Verified, mut pool: P, beginning: Beginning) -> Started<P>
     requires begun { IsBegun verified (P.seen pool) beginning }
     ensures built { Comes result.build (building (P.relations pool) verified (as_peers (P.seen pool))) verified (state_at (P.seen result.session.pool) result.session.core) }
@@ -109,14 +110,14 @@ fn build<P: Peers>(verified: Verified, mut pool: P, beginning: Beginning) -> Sta
 }
 
 impl<P: Peers> Session<P> {
-    /// Builds the objects of a verified definition, with a pool that has just the peers that it needs, open and of the right shapes. The build
-    /// never leaves the machine stuck, and counts no more steps than the report says.
+    /// Builds the objects of a verified definition, with a pool that has just the peers that the definition needs, open and of the right
+    /// shapes. The build never leaves the machine stuck, and counts no more steps than the report says.
     ///
     /// # Errors
     ///
-    /// `Refused`, with the definition and the pool as it was: `PeerMissing`, `PeerClosed` or `PeerShape` for the first peer that the definition
-    /// needs and the pool does not have so, then `PeerUnused` for the first that it does not need; and `OutOfMemory` if no memory is found
-    /// before the build.
+    /// Returns `Refused`, with the definition and the pool as it was. Its fault is `PeerMissing`, `PeerClosed` or `PeerShape` for the first
+    /// peer that the definition needs and the pool does not have so, then `PeerUnused` for the first peer that it does not need, and
+    /// `OutOfMemory` if memory is refused before the build.
     pub fn start(alloc: Global, verified: Verified, pool: P) -> Result<Started<P>, Refused<P>>
         ensures matches { IfOk result (λ started. mismatch verified (as_peers (P.seen pool)) ≡ None) }
         ensures built { IfOk result (λ started. Comes started.build (building (P.relations pool) verified (as_peers (P.seen pool))) verified
@@ -138,15 +139,15 @@ impl<P: Peers> Session<P> {
         }
     }
 
-    /// Carries out an event with all that it leads to. The event has to be one that was read against the session's definition. It never leaves
-    /// the machine stuck, and each of its dispatches counts no more steps than the report says of what it begins with. Each peer that it calls
-    /// replies as it may.
+    /// Carries out an event with all that it leads to. The event has to be one that was read against the session's definition. It never
+    /// leaves the machine stuck, and each of its dispatches counts no more steps than the report says for what the dispatch begins with.
+    /// Each peer that it calls replies as it may.
     ///
     /// # Errors
     ///
-    /// `Stopped` if the session has stopped. Then `Released` if the event names an object that was released, and `ClockBack` if it is a turn of
-    /// a moment before the latest one: the session stays as it was. Else `OutOfMemory` if no memory is found, which stops the session; the peer
-    /// that was called last may have replied without a line that reports it.
+    /// Returns `Stopped` if the session has stopped, then `Released` if the event names an object that was released, and `ClockBack` if it
+    /// is a turn of a moment before the latest one. After any of these the session is unchanged. Otherwise `OutOfMemory` if memory is
+    /// refused, which stops the session. The peer that was called last may then have replied without a line that reports it.
     pub fn dispatch(&mut self, event: Event) -> Result<Reply, SessionFault>
         requires read { EventRead self.now.core.definition (event_of event) }
         ensures answers { AnswersEvent (P.relations self.old.pool) self.old.core.stopped result (state_at (P.seen self.old.pool) self.old.core) (event_of event) (state_at (P.seen self.new.pool) self.new.core) }
@@ -155,30 +156,30 @@ impl<P: Peers> Session<P> {
         // An object in the reply is known by the type that the property or the signal declares.
         ensures kind { IfOk result (λ reply. IsAnswerTo (kind_asked self.old.core.definition (event_of event)) reply.result) }
         ensures same { SameRelations (P.relations self.old.pool) (P.relations self.new.pool) }
-        // It only adds lines.
+        // The transcript only grows.
         ensures grows { IsPrefix self.old.core.world.transcript self.new.core.world.transcript }
     {
         self.core.dispatch(&mut self.pool, event)
     }
 
-    /// Begins an event. Where it has more than its beginning to do it is under way: `advance` goes on with it, and until it has ended the session
-    /// has stopped for others. The lines that are said with it can be taken meanwhile. One that is given up leaves the session stopped. The
-    /// event has to be one that was read against the session's definition.
+    /// Begins an event. If it has more to do than its beginning the event is under way: `advance` goes on with it, and until it has ended
+    /// the session refuses other events as `Stopped`. The lines that are said with it can be taken meanwhile. An event that is given up
+    /// leaves the session stopped. The event has to be one that was read against the session's definition.
     ///
     /// # Errors
     ///
-    /// As `dispatch`.
+    /// Returns the same errors as `dispatch`.
     pub fn begin(&mut self, event: Event) -> Result<Progress, SessionFault>
         requires read { EventRead self.now.core.definition (event_of event) }
         ensures begins { BeginsEvent (P.relations self.old.pool) self.old.core.stopped result (P.seen self.old.pool) self.old.core (event_of event) self.new.core }
         ensures keeps { self.old.core.stopped ≡ false → refusal self.old.core.world (event_of event) ≡ None →
             EventKeeps self.old.core.definition (world_at (P.seen self.old.pool) self.old.core.world) (event_of event) }
-        // So it is what `advance` asks for.
+        // The course is what `advance` asks for.
         ensures in_course { IfUnderWay result (λ course. HasCourse (P.relations self.new.pool) course (P.seen self.new.pool) self.new.core) }
         ensures pool { self.new.pool ≡ self.old.pool }
-        // It notes the kind of the value that the event asks for.
+        // The course has the kind of the value that the event asks for.
         ensures asked { IfUnderWay result (λ course. option_map kind_view course.asked ≡ kind_asked self.old.core.definition (event_of event)) }
-        // No step is counted yet. Where it has ended, as a turn of which no source is ready, it led to nothing.
+        // No step is counted yet. An event that has ended, such as a turn for which no source is ready, led to nothing.
         ensures none { IfUnderWay result (λ course. course.so_far.steps + self.new.core.counted ≡ 0) }
         ensures ended { IfEnded result (λ reply. reply ≡ nothing_yet) }
         ensures grows { IsPrefix self.old.core.world.transcript self.new.core.world.transcript }
@@ -186,18 +187,18 @@ impl<P: Peers> Session<P> {
         self.core.begin(&self.pool, event)
     }
 
-    /// Goes on with an event for at most so many counted steps: where it does not end, just so many were made. It comes to what `dispatch`
-    /// would have come to, in so many parts.
+    /// Goes on with an event for at most `most` counted steps. If the event does not end, exactly so many were made. All parts together
+    /// come to what `dispatch` would have come to.
     ///
     /// # Errors
     ///
-    /// `OutOfMemory` if no memory is found, which stops the session; the peer that was called last may have replied without a line that
-    /// reports it.
+    /// Returns `OutOfMemory` if memory is refused, which stops the session. The peer that was called last may then have replied without a
+    /// line that reports it.
     pub fn advance(&mut self, course: Course, most: u64) -> Result<Progress, SessionFault>
         requires in_course { HasCourse (P.relations self.now.pool) course (P.seen self.now.pool) self.now.core }
         ensures comes { (event : config.Event) (w : World) (front : List (List ℕ)) → InCourse (P.relations self.old.pool) self.old.core.definition event w front course (P.seen self.old.pool) self.old.core →
             ComesOn result (P.relations self.old.pool) self.old.core.definition event w front (P.seen self.new.pool) self.new.core }
-        // So it is what `advance` asks for.
+        // The course is again what `advance` asks for.
         ensures in_course { IfUnderWay result (λ course. HasCourse (P.relations self.new.pool) course (P.seen self.new.pool) self.new.core) }
         ensures made { IfUnderWay result (λ next. next.so_far.steps + self.new.core.counted ≡ course.so_far.steps + self.old.core.counted + most) }
         ensures most { IfEnded result (λ reply. reply.steps ≤ course.so_far.steps + self.old.core.counted + most) }
@@ -210,32 +211,32 @@ impl<P: Peers> Session<P> {
         self.core.advance(&mut self.pool, course, most)
     }
 
-    /// The definition that it runs.
+    /// Returns the definition that the session runs.
     pub fn definition(&self) -> &Definition
         ensures { result.now ≡ self.now.core.definition }
     {
         self.core.definition()
     }
 
-    /// The lines that were said since the last call of `forget`, without their LF.
+    /// Returns the lines that were said since the last call of `forget`, without their LF.
     pub fn transcript(&self) -> &[String]
         ensures { map string_bytes result.now ≡ self.now.core.world.transcript }
     {
         self.core.transcript()
     }
 
-    /// Gives up the lines so far, once they are written elsewhere, so that a session takes no more memory the longer it runs. They make
-    /// no difference to what is said later.
+    /// Clears the lines so far, once they are written elsewhere, so that a session takes no more memory the longer it runs. They make no
+    /// difference to what is said later.
     pub fn forget(&mut self)
         ensures lines { self.new.core ≡ without_lines self.old.core }
         ensures pool { self.new.pool ≡ self.old.pool }
-        // An event that is under way can still be gone on with.
+        // An event that is under way can still go on.
         ensures in_course { (course : Course) → HasCourse (P.relations self.old.pool) course (P.seen self.old.pool) self.old.core → HasCourse (P.relations self.new.pool) course (P.seen self.new.pool) self.new.core }
     {
         self.core.forget();
     }
 
-    /// The core of the session alone. Its pool is given up: the peers are dropped unclosed.
+    /// Returns the core of the session alone, and gives up its pool. The peers are dropped unclosed.
     pub fn into_core(self) -> Core
         ensures { result ≡ self.core }
     {
@@ -243,7 +244,7 @@ impl<P: Peers> Session<P> {
         core
     }
 
-    /// Ends the session, also where it has stopped, closes each open peer that an object has got, and hands out the lines and the pool.
+    /// Ends the session, even if it has stopped. Closes each open peer that an object has got, and returns the lines and the pool.
     pub fn finish(self) -> Finished<P>
         ensures lines { map string_bytes result.transcript.items ≡ self.core.world.transcript }
         ensures closed { (P.seen result.pool) ≡ taken_closed self.core.world.peers (P.seen self.pool) }

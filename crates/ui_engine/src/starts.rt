@@ -1,4 +1,4 @@
-//! How sessions begin: the pool is matched, and an engine is made that knows it.
+//! The beginning of a session: its pool is matched, and an engine is made that knows the pool.
 
 ghost use Rattle.std.specs.Prelude.{◌≡◌, [], ◌∷◌, ◌++◌, codes, map, vec_capacity, Some, IfErr, IfOk, OnOk};
 ghost use Rattle.ui_machine.specs.Output.Lines as lines;
@@ -30,14 +30,14 @@ use needed_peers::needs::needs;
 use needed_peers::seats::seats;
 use std::alloc::{AllocError, Global};
 
-/// What a build begins with.
+/// The state with which a build begins.
 #[derive(Drop)]
 pub(crate) struct Beginning {
     pub(crate) engine: Engine,
     pub(crate) forwards: ForwardReferences,
 }
 
-// The line with which the build begins.
+// Says the line with which the build begins.
 fn announce(engine: &mut Engine) -> Result<(), AllocError>
     ensures line { OnOk result (world_of engine.new.world ≡ record (world_of engine.old.world) { transcript = (world_of engine.old.world).transcript ++ codes "build" ∷ [] }) }
     ensures beside { engine.new ≡ record engine.old { world = record engine.old.world { transcript = engine.new.world.transcript } } }
@@ -46,7 +46,7 @@ fn announce(engine: &mut Engine) -> Result<(), AllocError>
     engine.world.say(line)
 }
 
-// An engine that has built nothing, knows these peers, has so much room, and has said the line with which the build begins.
+// Creates an engine that has built nothing, knows these peers, has this room, and has said the line with which the build begins.
 fn first_engine(
     alloc: Global,
     definition: &Definition,
@@ -67,7 +67,7 @@ fn first_engine(
     Ok(engine)
 }
 
-// What a build begins with, with an engine that knows these peers and has so much room.
+// Creates the state with which a build begins, with an engine that knows these peers and has this room.
 fn first_beginning(
     alloc: Global,
     definition: &Definition,
@@ -84,7 +84,7 @@ fn first_beginning(
     Ok(Beginning { engine, forwards })
 }
 
-// How a pool failed to match, as the fault of a session.
+// Returns the mismatch of a pool as the fault for which no session begins.
 fn fault_of(alloc: Global, fault: MatchFault<'_>) -> Result<StartFault, AllocError>
     ensures { IfOk result (λ why. IsWhy why (Some (mismatch_view fault.entry))) }
 {
@@ -108,11 +108,12 @@ fn fault_of(alloc: Global, fault: MatchFault<'_>) -> Result<StartFault, AllocErr
     }
 }
 
-/// What the build of a definition begins with, whose pool matches. So many are the most frames of its runs.
+/// Matches the pool with a definition, and creates the state with which its build begins. Runs of the definition have at most `depth`
+/// frames at a time.
 ///
 /// # Errors
 ///
-/// How the pool fails to match, and `OutOfMemory`.
+/// Returns the mismatch if the pool does not match, and `OutOfMemory` if memory is refused.
 pub(crate) fn begin<P: Peers>(
     alloc: Global,
     definition: &Definition,

@@ -1,7 +1,7 @@
-//! Why a step of the machine is not made.
+//! The arms by which the machine can be stuck, and the reasons why code that follows it stops.
 
-/// Why the first task of the machine can't act. No run of an accepted definition meets one (proved in `law_sessions`); a definition that
-/// nobody has judged may.
+/// The reason why the first task of the machine can't act. No run of an accepted definition meets one (proved in `law_sessions`), but a run
+/// of a definition that was not verified may.
 #[derive(Clone, Copy, Debug, PartialEq, Eq)]
 pub enum Arm {
     /// A register is unset or of another kind.
@@ -20,19 +20,19 @@ pub enum Arm {
     Parameters,
     /// A thaw without a freeze, or a freeze past the greatest count.
     Freeze,
-    /// A call on an object without a peer, outside its shape, or with ill-kinded arguments.
+    /// A call is on an object without a peer, of a method outside its shape, or with arguments of other kinds.
     Call,
-    /// A jump outside the program, code that runs out, or a name of what is not there.
+    /// A jump is outside the program, code runs out, or a name means nothing.
     Code,
-    /// A result of another kind.
+    /// A result is of another kind than is wanted.
     Result,
-    /// An abstract class would be made.
+    /// An object of an abstract class would be made.
     Abstract,
-    /// The dispatch has taken the most counted steps, and a further one is due.
+    /// The dispatch has taken the greatest number of counted steps, and one more is due.
     Steps,
 }
 
-/// Why code that follows the machine stopped.
+/// The reason why code that follows the machine stopped.
 #[derive(Clone, Copy, Debug, PartialEq, Eq)]
 pub enum Halt {
     OutOfMemory,

@@ -1,23 +1,23 @@
-//! What objects, places of a definition and the channels between them are called.
+//! The identities of objects, the numbers of what a definition has, and the channels of its objects.
 
 /// The identity of an object. Identities rise from 1, and none is given out twice.
 #[derive(Clone, Copy, Debug, PartialEq, Eq, PartialOrd, Ord, Hash)]
 pub struct ObjectId(pub u64);
 
-/// An object or prototype of a definition, by its number: objects in document order, then prototypes.
+/// The number of an object or prototype of a definition: objects in document order, then prototypes.
 #[derive(Clone, Copy, Debug, PartialEq, Eq, PartialOrd, Ord, Hash)]
 pub struct Place(pub u16);
 
-/// A property of a class, by its number among those that the class has: inherited ones first, in the order of installation.
+/// The number of a property among those that a class has: inherited ones first, in the order of installation.
 pub type Slot = u16;
 
-/// A program of a definition, by its number in document order.
+/// The number of a program of a definition, in document order.
 pub type ProgramId = u16;
 
-/// A signal of a class, by its number among those that the class has; the first is `notify`.
+/// The number of a signal among those that a class has. The first is `notify`.
 pub type SignalId = u16;
 
-/// What of an object may be raised: a property's notification, a signal, or the end of its construction.
+/// A member of an object that may be raised: a property's notification, a signal, or the end of its construction.
 #[derive(Clone, Copy, Debug, PartialEq, Eq)]
 pub enum Member {
     /// The notification of this property.
@@ -33,13 +33,13 @@ pub struct Channel {
     pub member: Member,
 }
 
-/// What a dispatch begins with.
+/// The beginning of a dispatch.
 #[derive(Clone, Copy, Debug, PartialEq, Eq)]
 pub enum Entry {
     Build,
     At(Channel),
     /// A source that runs this program.
     Source(ProgramId),
-    /// What runs no program: a read, or a release.
+    /// A read or a release, which runs no program.
     Plain,
 }

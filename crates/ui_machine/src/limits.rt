@@ -13,12 +13,12 @@ pub const MOST_OBJECTS: u32 = 4096;
 /// The greatest number of handlers that a definition may declare.
 pub const MOST_HANDLERS: u32 = 16;
 
-/// How much a session may hold.
+/// The limits of what a session may hold.
 #[derive(Clone, Copy, Debug, PartialEq, Eq)]
 pub struct Limits {
-    /// Objects that live at a time.
+    /// The greatest number of objects that live at a time.
     pub objects: u32,
-    /// Handlers that bytecode connects to one object and signal.
+    /// The greatest number of handlers that bytecode connects to one object and signal.
     pub handlers: u32,
 }
 
@@ -29,7 +29,7 @@ pub enum LimitField {
     Handlers,
 }
 
-/// Why limits are refused.
+/// The reason why limits are refused.
 #[derive(Clone, Copy, Debug, PartialEq, Eq, Error)]
 pub enum LimitsError {
     #[error("LimitOutOfRange {0:?}")]
@@ -41,7 +41,7 @@ impl Limits {
     ///
     /// # Errors
     ///
-    /// `LimitsError::LimitOutOfRange` where a member is outside of its range. It names the first such member.
+    /// Returns `LimitsError::LimitOutOfRange` if a member is outside of its range. It names the first such member.
     pub fn check(&self) -> Result<(), LimitsError>
         ensures ok { IsOk result
             ↔ ((LEAST_OBJECTS ≤ self.now.objects) × (self.now.objects ≤ MOST_OBJECTS) × (self.now.handlers ≤ MOST_HANDLERS)) }

@@ -1,7 +1,7 @@
-//! The words of the command line.
+//! The words of the command line, and the request that they make.
 //!
-//! The words are taken as `clap` takes them: `ui_command` of the specifications is the command, and `fault_of` of `clap`'s says what is
-//! wrong with words for it.
+//! The words are taken as `clap` takes them. `ui_command` in the specs is the command, and `fault_of` of `clap` says what is wrong with
+//! words for it.
 
 ghost use Rattle.std.specs.Prelude.{◌≡◌, [], map, codes, is_some, option_and_then, option_map, Some, true, IfOk, IfErr, string_bytes};
 ghost use Rattle.clap.specs.Words.{app_of, fault_of, first_of, found_of, rows_of, subcommand_rows_of};
@@ -20,16 +20,16 @@ pub struct RunFiles<'a> {
     pub events: &'a str,
 }
 
-/// What the words ask for.
+/// The request that the words make.
 #[derive(Clone, Copy, Debug, PartialEq, Eq)]
 pub enum Request<'a> {
-    /// The definition of this file is checked.
+    /// To check the definition in this file.
     Verify(&'a str),
-    /// A definition is run over the lines of an event file.
+    /// To run a definition over the lines of an event file.
     Run(RunFiles<'a>),
 }
 
-/// Why words ask for nothing.
+/// The reason why words make no request.
 #[derive(Clone, Copy, Debug, PartialEq, Eq)]
 pub enum WordsFault {
     Usage,
@@ -67,7 +67,7 @@ impl From<Error> for WordsFault {
     }
 }
 
-// The command with the one subcommand that checks a definition.
+// Returns the command with only the subcommand that checks a definition.
 fn checking_command<'a>(alloc: Global) -> Result<Command<'a>, AllocError>
     ensures { IfOk result (λ c. app_of c ≡ checking_command) }
 {
@@ -76,7 +76,7 @@ fn checking_command<'a>(alloc: Global) -> Result<Command<'a>, AllocError>
     Command::new(alloc, "ui").subcommand(verify)
 }
 
-// The command of the program.
+// Returns the command of the program.
 fn command<'a>(alloc: Global) -> Result<Command<'a>, AllocError>
     ensures { IfOk result (λ c. app_of c ≡ ui_command) }
 {
@@ -86,7 +86,7 @@ fn command<'a>(alloc: Global) -> Result<Command<'a>, AllocError>
     checking_command(alloc)?.subcommand(run)
 }
 
-// The names of the two files, of what was given to a subcommand.
+// Returns the names of the two files that a subcommand was given, if it was given both.
 #[tactic(auto, using(crate::proofs::CommandLine::first_value_is))]
 fn names_in<'a>(matches: &ArgMatches<'a>) -> Option<RunFiles<'a>>
     ensures { option_map (λ r. (r.definition.now, r.events.now)) result ≡ both (first_of (codes "DEF") (rows_of (found_of matches.now))) (first_of (codes "EVENTS") (rows_of (found_of matches.now))) }
@@ -96,7 +96,7 @@ fn names_in<'a>(matches: &ArgMatches<'a>) -> Option<RunFiles<'a>>
     Some(RunFiles { definition, events })
 }
 
-// The name of the definition, of what was given to a subcommand.
+// Returns the name of the definition that a subcommand was given, if it was given one.
 #[tactic(auto, using(crate::proofs::CommandLine::first_value_is))]
 fn definition_in<'a>(matches: &ArgMatches<'a>) -> Option<&'a str>
     ensures { option_map (λ s. s.now) result ≡ first_of (codes "DEF") (rows_of (found_of matches.now)) }
@@ -104,7 +104,7 @@ fn definition_in<'a>(matches: &ArgMatches<'a>) -> Option<&'a str>
     matches.get_str("DEF")
 }
 
-// The request of a subcommand and of what was given to it.
+// Returns the request of a subcommand with what was given to it.
 fn request_in<'a>(name: &str, matches: &ArgMatches<'a>) -> Option<Request<'a>>
     ensures { option_map asked_view result ≡ asked_in (name.now, rows_of (found_of matches.now)) }
 {
@@ -116,7 +116,7 @@ fn request_in<'a>(name: &str, matches: &ArgMatches<'a>) -> Option<Request<'a>>
     Some(Request::Run(files))
 }
 
-// The request of words that were taken.
+// Returns the request of words that were taken.
 fn request_of<'a>(matches: &ArgMatches<'a>) -> Option<Request<'a>>
     ensures { option_map asked_view result ≡ option_and_then asked_in (subcommand_rows_of matches.now) }
 {
@@ -124,11 +124,11 @@ fn request_of<'a>(matches: &ArgMatches<'a>) -> Option<Request<'a>>
     request_in(name, used)
 }
 
-/// Reads the words, the name of the program first.
+/// Reads the words, of which the first is the name of the program.
 ///
 /// # Errors
 ///
-/// `Usage` where `clap` finds a fault in the words, or they ask for nothing; `OutOfMemory` where memory was refused.
+/// Returns `Usage` if `clap` finds a fault in the words or they make no request, and `OutOfMemory` if memory is refused.
 pub fn read_words<'a>(alloc: Global, words: &'a [String]) -> Result<Request<'a>, WordsFault>
     ensures request { IfOk result (λ r. asked_of (map string_bytes words.now) ≡ Some (asked_view r)) }
     ensures fitting { IfOk result (λ r. fault_of ui_command (map string_bytes words.now) ≡ []) }

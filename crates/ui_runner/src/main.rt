@@ -25,7 +25,7 @@ fn main(rt: HostRuntime) -> ExitCode {
     ExitCode::from(status(&rt))
 }
 
-// A reader or a writer of std, of which nothing was asked.
+// Wraps a reader or a writer of std that was not called yet.
 fn device<T: Drop>(inner: T) -> Counted<Device<T>>
     ensures works { result.device.failed ≡ false }
     ensures uncalled { result.calls ≡ 0 }
@@ -33,13 +33,13 @@ fn device<T: Drop>(inner: T) -> Counted<Device<T>>
     Counted::new(Device::new(inner))
 }
 
-// The words that the program was started with. std says nothing of them, so that there is no clause.
+// Returns the words that the program was started with. The contracts of std say nothing of them, so there is no clause.
 fn given_words(rt: &HostRuntime) -> Result<Vec<String>, WordsFault> {
     let words = env::args(rt)?.collect::<Vec<String>>(rt.alloc())?;
     Ok(words)
 }
 
-// Reads the words and does what they ask for.
+// Reads the words, carries out their request, and returns the status.
 fn status(rt: &HostRuntime) -> u8 {
     let words = match given_words(rt) {
         Ok(words) => words,
@@ -65,7 +65,7 @@ fn perform(rt: &HostRuntime, request: Request<'_>) -> u8 {
     }
 }
 
-// Reads the definition, and checks it.
+// Reads the definition, checks it, and returns the status.
 fn check_file(rt: &HostRuntime, definition: &str) -> u8 {
     let bytes = match definition_at(rt, definition) {
         Ok(bytes) => bytes,
@@ -102,7 +102,7 @@ impl PoolProgram for EventsRun<'_> {
     }
 }
 
-// Reads the definition, opens the events, and runs.
+// Reads the definition, opens the events, runs, and returns the status.
 fn run_files(rt: &HostRuntime, files: RunFiles<'_>) -> u8 {
     let bytes = match definition_at(rt, files.definition) {
         Ok(bytes) => bytes,
@@ -122,7 +122,7 @@ fn run_files(rt: &HostRuntime, files: RunFiles<'_>) -> u8 {
     }
 }
 
-// Runs a definition with the peers that the host makes for it, and with none where it is refused.
+// Runs a definition with the peers that the host makes for it, or without peers if reading refuses it.
 fn run_with_peers(alloc: Global, bytes: &[u8], program: EventsRun<'_>) -> Result<u8, AllocError> {
     match definition_of(alloc, bytes)? {
         Some(definition) => run_with_stock(alloc, &definition, program),
@@ -133,7 +133,7 @@ fn run_with_peers(alloc: Global, bytes: &[u8], program: EventsRun<'_>) -> Result
     }
 }
 
-// The definition that some bytes denote; none where they denote none.
+// Returns the definition that some bytes denote, or None if they denote none.
 fn definition_of(alloc: Global, bytes: &[u8]) -> Result<Option<Definition>, AllocError>
     ensures some { IfOk result (λ found. IfSome found (λ d. denoted bytes.now ≡ Ok d)) }
     ensures none { IfOk result (λ found. found ≡ None → (d : Definition) → denoted bytes.now ≢ Ok d) }

@@ -1,4 +1,4 @@
-//! The numbers that are reported of a definition.
+//! Computes the numbers that are reported of a definition.
 
 ghost use Rattle.std.specs.Prelude.{◌≡◌, ◌+◌, ℕ, length, map, max, IfOk};
 ghost use Rattle.ui_machine.specs.Seq.{listed};
@@ -26,7 +26,7 @@ use std::alloc::{AllocError, Global};
 use ui_machine::ProgramId;
 use verified::{Numbers, SourceBound};
 
-// Costs, each with a finalisation for each of so many objects.
+// Returns the costs, each with a finalisation added for each of `objects` objects.
 fn bounds_of(alloc: Global, costs: &[u64], objects: u32) -> Result<Vec<u64>, AllocError>
     ensures { IfOk result (λ bounds. bounds.items ≡ with_objects objects costs.now) }
 {
@@ -37,7 +37,7 @@ fn bounds_of(alloc: Global, costs: &[u64], objects: u32) -> Result<Vec<u64>, All
     Ok(bounds)
 }
 
-// Ranks as shorter numbers; there are fewer than 2^32 channels.
+// Converts ranks to numbers of 32 bits. There are fewer than 2^32 channels.
 fn ranks_of(alloc: Global, values: &[u64]) -> Result<Vec<u32>, AllocError>
     requires { AreWithin values.now 4294967294 }
     ensures { IfOk result (λ ranks. ranks.items ≡ values.now) }
@@ -49,7 +49,7 @@ fn ranks_of(alloc: Global, values: &[u64]) -> Result<Vec<u32>, AllocError>
     Ok(ranks)
 }
 
-// The bound of a source's program.
+// Returns the bound of a source that runs a program.
 fn source_bound(layout: &Layout, costs: &[u64], objects: u32, program: ProgramId) -> SourceBound
     ensures { source_view result ≡ (program, capped (of_node costs.now (at layout.now (part.program program)) + objects)) }
 {
@@ -60,7 +60,7 @@ fn source_bound(layout: &Layout, costs: &[u64], objects: u32, program: ProgramId
     }
 }
 
-// The bounds of some programs.
+// Returns the bounds of the sources that run these programs.
 fn source_bounds(
     alloc: Global,
     layout: &Layout,
@@ -78,7 +78,7 @@ fn source_bounds(
     Ok(bounds)
 }
 
-// The greatest of some numbers, 0 of none.
+// Returns the greatest of some numbers, or 0 if there are none.
 fn greatest(values: &[u64]) -> u64
     ensures { result ≡ greatest (λ (n : ℕ). n) values.now }
 {
@@ -89,7 +89,7 @@ fn greatest(values: &[u64]) -> u64
     most
 }
 
-// The numbers of the programs' nodes.
+// Returns the number of each program's node.
 fn program_values(
     alloc: Global,
     lookups: &Lookups<'_>,
@@ -108,7 +108,7 @@ fn program_values(
     Ok(numbers)
 }
 
-// The most frames of any configuration, from the depths of channels and of programs.
+// Returns the greatest number of frames of any configuration, from the depths of channels and of programs.
 fn depth_of(
     alloc: Global,
     lookups: &Lookups<'_>,
@@ -127,11 +127,11 @@ fn depth_of(
     Ok(most as u32)
 }
 
-/// The numbers that are reported of a definition, each bound one above the greatest at most.
+/// Returns the numbers that are reported of a definition. Each bound is capped at one above the greatest.
 ///
 /// # Errors
 ///
-/// `AllocError` where no memory is found.
+/// `AllocError` if memory is refused.
 pub(crate) fn told_numbers(
     alloc: Global,
     lookups: &Lookups<'_>,

@@ -1,4 +1,4 @@
-//! Cycles of channels, each from its first channel in the report.
+//! Cycles of channels, each of which begins with the channel that is first in the report.
 
 ghost use Rattle.std.specs.Prelude.{◌≡◌, ◌<◌, ◌≤◌, ◌++◌, ℕ, All, Some, drop, length, map, slice_get, take, IfOk, IfSome};
 ghost use Rattle.law_typing.specs.Graph.{Graph};
@@ -18,7 +18,7 @@ use graph_numbers::SketchedLink;
 use std::alloc::{AllocError, Global};
 use ui_machine::{Channel, Member, Place, ProgramId};
 
-// The program of a link by its shorter number; there are 256 programs at most.
+// Converts the program of a link to a `ProgramId`. There are at most 256 programs.
 fn program_of(by: Option<usize>) -> Option<ProgramId>
     requires { IfSome by (λ program. program < 256) }
     ensures { result ≡ by }
@@ -29,7 +29,7 @@ fn program_of(by: Option<usize>) -> Option<ProgramId>
     }
 }
 
-// The channel of a number, the first construction where there is none.
+// Returns the channel with this number, or the construction at place 0 if there is none.
 fn channel_at(channels: &ChannelNumbers, number: usize) -> Channel
     ensures { (g : Graph) → channels.now ≡ channels_in g → channel_of result ≡ channel_numbered g number }
 {
@@ -42,7 +42,7 @@ fn channel_at(channels: &ChannelNumbers, number: usize) -> Channel
     }
 }
 
-// A link of a cycle with its channel.
+// Returns the link of a cycle with its channel in place of the number.
 fn cycle_link(channels: &ChannelNumbers, link: SketchedLink) -> CycleLink
     requires { NamesBelow 256 link }
     ensures { (g : Graph) → channels.now ≡ channels_in g → link_view result ≡ sketched.link_view g link }
@@ -52,7 +52,7 @@ fn cycle_link(channels: &ChannelNumbers, link: SketchedLink) -> CycleLink
     CycleLink { from, by }
 }
 
-// The links of a cycle with their channels.
+// Returns the links of a cycle with their channels in place of the numbers.
 fn cycle_links(
     alloc: Global,
     channels: &ChannelNumbers,
@@ -68,7 +68,7 @@ fn cycle_links(
     Ok(all)
 }
 
-// How many channels the report has before this one.
+// Returns how many channels come before this one in the report.
 fn line_of(channels: &ChannelNumbers, channel: &Channel) -> usize
     ensures { result ≡ line_among channels.now (channel_of channel.now) }
 {
@@ -78,7 +78,7 @@ fn line_of(channels: &ChannelNumbers, channel: &Channel) -> usize
     }
 }
 
-// The lines of links' channels in the report.
+// Returns the lines in the report of the links' channels.
 fn lines_of(
     alloc: Global,
     channels: &ChannelNumbers,
@@ -93,7 +93,7 @@ fn lines_of(
     Ok(all)
 }
 
-// The number of the first of the least of some numbers, 0 of none.
+// Returns the index of the first of the least numbers, or 0 if there are none.
 fn least(values: &[usize]) -> usize
     ensures { IsFirst values.now result }
 {
@@ -106,7 +106,7 @@ fn least(values: &[usize]) -> usize
     first
 }
 
-// Links with those before a number behind the others.
+// Returns the links from number `first` on, followed by those before it.
 fn turned(alloc: Global, links: &[CycleLink], first: usize) -> Result<Vec<CycleLink>, AllocError>
     requires { first ≤ length links.now }
     ensures { IfOk result (λ all. all.items ≡ drop first links.now ++ take first links.now) }
@@ -117,11 +117,11 @@ fn turned(alloc: Global, links: &[CycleLink], first: usize) -> Result<Vec<CycleL
     Ok(all)
 }
 
-/// A cycle from its first channel in the report.
+/// Returns a cycle from its first channel in the report.
 ///
 /// # Errors
 ///
-/// `AllocError` where no memory is found.
+/// `AllocError` if memory is refused.
 pub(crate) fn cycle_from_first(
     alloc: Global,
     channels: &ChannelNumbers,

@@ -1,37 +1,37 @@
-//! Why a definition is refused.
+//! The reasons why a definition is refused.
 
 use rule_faults::RuleFault;
 use std::alloc::AllocError;
 use ui_machine::{Channel, Entry, ProgramId};
 
-/// A channel of a cycle, and what leads on from it.
+/// A channel of a cycle, and what leads from it to the next one.
 #[derive(Clone, Copy, Debug, PartialEq, Eq)]
 pub struct CycleLink {
     pub from: Channel,
-    /// The program that may start the next channel. A binding leads there where there is none.
+    /// The program that may start the next channel, or `None` if a binding leads there.
     pub by: Option<ProgramId>,
 }
 
-/// Why a definition is not accepted.
+/// The reason why a definition is not accepted.
 #[derive(Debug, Drop)]
 pub enum VerifyFault {
-    /// It breaks a rule.
+    /// The definition breaks a rule.
     Rule(RuleFault),
-    /// Channels that each may raise the next one, and the last the first: none of them has an end.
+    /// A cycle of channels, each of which may raise the next one, and the last one the first, without end.
     Cycle(Vec<CycleLink>),
-    /// A dispatch may take more steps than any may.
+    /// A dispatch that begins with this entry may take more steps than are allowed.
     BoundTooLarge(Entry),
 }
 
-/// A definition is refused.
+/// The refusal of a definition.
 #[derive(Debug, Drop)]
 pub struct Refusal {
     pub fault: VerifyFault,
-    /// The fault as it is printed.
+    /// The text of the fault, as it is printed.
     pub text: String,
 }
 
-/// Why nothing was verified.
+/// The reason why a definition was not verified.
 #[derive(Debug, Drop)]
 pub enum VerifyError {
     Refused(Refusal),

@@ -1,4 +1,4 @@
-//! The first bound that is too large.
+//! Finds the first bound that is too large.
 
 ghost use Rattle.std.specs.Prelude.{◌≡◌, get_or, nat_lt, option_map};
 ghost use Rattle.std.specs.List.{find};
@@ -15,10 +15,10 @@ use definition_graph::ChannelNumbers;
 use ui_machine::Entry;
 use verified::{Numbers, SourceBound};
 
-// The greatest bound.
+// The greatest bound that is allowed.
 const MOST_BOUND: u64 = 1_000_000_000_000;
 
-// Whether the bound at a number is too large, false where there is none.
+// Returns whether the bound at an index is too large, or false if there is none.
 fn is_large(bounds: &[u64], number: usize) -> bool
     ensures { result ≡ nat_lt 1_000_000_000_000 (get_or bounds.now number 0) }
 {
@@ -28,7 +28,7 @@ fn is_large(bounds: &[u64], number: usize) -> bool
     }
 }
 
-// The first channel whose bound is too large.
+// Returns the first channel whose bound is too large.
 fn large_channel(numbers: &Numbers, channels: &ChannelNumbers) -> Option<Entry>
     ensures { (d : machine.Definition) (by_rank : Table) (by_cost by_depth : Tables) → AreCapped d numbers.now by_rank by_cost by_depth → channels.now ≡ law.channels d
         → option_map entry_of result ≡ large_channel d by_cost (law.channels d) }
@@ -42,7 +42,7 @@ fn large_channel(numbers: &Numbers, channels: &ChannelNumbers) -> Option<Entry>
     None
 }
 
-// The first source whose bound is too large.
+// Returns the first source whose bound is too large.
 fn large_source(sources: &[SourceBound]) -> Option<SourceBound>
     ensures { result ≡ find (λ s. nat_lt 1_000_000_000_000 s.bound) sources.now }
 {
@@ -52,7 +52,7 @@ fn large_source(sources: &[SourceBound]) -> Option<SourceBound>
         .find(|source| source.bound > MOST_BOUND)
 }
 
-/// The first entry of the report whose bound is too large.
+/// Returns the first entry of the report whose bound is too large.
 pub(crate) fn too_large(numbers: &Numbers, channels: &ChannelNumbers) -> Option<Entry>
     ensures { (d : machine.Definition) (by_rank : Table) (by_cost by_depth : Tables) → AreCapped d numbers.now by_rank by_cost by_depth → channels.now ≡ law.channels d
         → option_map entry_of result ≡ too_large (graph d) by_cost }

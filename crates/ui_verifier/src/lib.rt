@@ -1,4 +1,4 @@
-//! The judgement of a definition: whether no run of it is ever stuck, and how many steps each dispatch takes at most.
+//! Judges a definition: whether no run of it is ever stuck, and how many steps each dispatch takes at most.
 #![tactic(auto)]
 
 mod bounds;

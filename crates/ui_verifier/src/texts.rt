@@ -1,4 +1,4 @@
-//! The texts of cycles and of entries.
+//! Writes the texts of cycles and of entries.
 
 ghost use Rattle.std.specs.Prelude.{◌≡◌, ◌<◌, Some, codes, length, map, slice_get, string_bytes, IfOk};
 ghost use Rattle.law_typing.specs.Verdict.FaultText.{cause_text, entry_text, fault_text, link_text, links_text};
@@ -14,7 +14,7 @@ use std::alloc::{AllocError, Global};
 use ui_machine::{Entry, ProgramId};
 use verified::{channel_text, program_name};
 
-// What leads on in a cycle.
+// Returns the text for what leads on in a cycle: the name of a program, or `binding`.
 fn cause_text(definition: &Definition, by: Option<ProgramId>) -> &str
     ensures { result.now ≡ cause_text definition.now (cause_of by) }
 {
@@ -24,7 +24,7 @@ fn cause_text(definition: &Definition, by: Option<ProgramId>) -> &str
     }
 }
 
-// A link of a cycle, such as `property a.n by count`.
+// Returns the text of a link of a cycle, such as `property a.n by count`.
 fn link_text(alloc: Global, definition: &Definition, link: CycleLink) -> Result<String, AllocError>
     ensures { IfOk result (λ text. string_bytes text ≡ link_text definition.now (link_view link)) }
 {
@@ -33,14 +33,14 @@ fn link_text(alloc: Global, definition: &Definition, link: CycleLink) -> Result<
     format!(in alloc; "{channel} by {cause}")
 }
 
-// What is before the link of a number.
+// Returns what is printed before the link with this number.
 fn separator(number: usize) -> &'static str
     ensures { result.now ≡ separator number }
 {
     if number == 0 { "" } else { ", " }
 }
 
-// The link of a number.
+// Returns the link at an index of a slice.
 fn link_at(links: &[CycleLink], number: usize) -> CycleLink
     requires { number < length links.now }
     ensures { slice_get links.now number ≡ Some result }
@@ -48,7 +48,7 @@ fn link_at(links: &[CycleLink], number: usize) -> CycleLink
     links[number]
 }
 
-// The links of a cycle, with commas between.
+// Returns the texts of the links of a cycle, separated by commas.
 fn links_text(
     alloc: Global,
     definition: &Definition,
@@ -65,11 +65,11 @@ fn links_text(
     Ok(text)
 }
 
-/// A cycle as it is printed, such as `Cycle property a.n by count`.
+/// Returns a cycle as it is printed, such as `Cycle property a.n by count`.
 ///
 /// # Errors
 ///
-/// `AllocError` where no memory is found.
+/// `AllocError` if memory is refused.
 pub(crate) fn cycle_text(
     alloc: Global,
     definition: &Definition,
@@ -81,7 +81,7 @@ pub(crate) fn cycle_text(
     format!(in alloc; "Cycle {links}")
 }
 
-// An entry as the report calls it.
+// Returns the name of an entry in the report.
 fn entry_text(alloc: Global, definition: &Definition, entry: Entry) -> Result<String, AllocError>
     ensures { IfOk result (λ text. string_bytes text ≡ entry_text definition.now (entry_of entry)) }
 {
@@ -96,11 +96,11 @@ fn entry_text(alloc: Global, definition: &Definition, entry: Entry) -> Result<St
     }
 }
 
-/// An entry whose bound is too large, as it is printed, such as `BoundTooLarge build`.
+/// Returns an entry whose bound is too large as it is printed, such as `BoundTooLarge build`.
 ///
 /// # Errors
 ///
-/// `AllocError` where no memory is found.
+/// `AllocError` if memory is refused.
 pub(crate) fn bound_text(
     alloc: Global,
     definition: &Definition,

@@ -1,4 +1,4 @@
-//! Verification.
+//! Verifies definitions.
 
 ghost use Rattle.std.specs.Prelude.{◌≡◌, All, None, Some, IfOk};
 ghost use Rattle.ui_machine.specs.Definition as machine;
@@ -34,14 +34,14 @@ use std::alloc::{AllocError, Global};
 use ui_machine::Entry;
 use verified::{Numbers, Verified};
 
-// What a definition that breaks no rule is judged to be.
+// The judgement of a definition that breaks no rule.
 #[derive(Debug, Drop)]
 enum Judgement {
     Accepted(Numbers),
     Refused(Refusal),
 }
 
-// The refusal for a broken rule.
+// Makes the refusal for a broken rule.
 fn rule_refusal(
     alloc: Global,
     definition: &Definition,
@@ -57,7 +57,7 @@ fn rule_refusal(
     })
 }
 
-// The refusal for a cycle.
+// Makes the refusal for a cycle.
 fn cycle_refusal(
     alloc: Global,
     definition: &Definition,
@@ -78,7 +78,7 @@ fn cycle_refusal(
     })
 }
 
-// The refusal for a bound that is too large.
+// Makes the refusal for a bound that is too large.
 fn bound_refusal(
     alloc: Global,
     definition: &Definition,
@@ -94,7 +94,7 @@ fn bound_refusal(
     })
 }
 
-// The judgement by the numbers of the graph's nodes.
+// Judges a definition by the numbers of its graph's nodes.
 fn judge_numbers(
     alloc: Global,
     lookups: &Lookups<'_>,
@@ -122,7 +122,7 @@ fn judge_numbers(
     }
 }
 
-// The judgement of a definition that breaks no rule, by the sketch of its graph.
+// Judges a definition that breaks no rule, by the sketch of its graph.
 fn judge_sketch(
     alloc: Global,
     lookups: &Lookups<'_>,
@@ -149,7 +149,7 @@ fn judge_sketch(
     }
 }
 
-// The channels of a definition that breaks no rule, and its judgement.
+// Judges a definition that breaks no rule, and returns its channels as well.
 fn judge_lawful(
     alloc: Global,
     definition: &Definition,
@@ -160,18 +160,20 @@ fn judge_lawful(
     let lookups = Lookups::new(alloc, definition)?;
     let channels = ChannelNumbers::new(alloc, &lookups)?;
     let sketch = sketch(alloc, &lookups, &channels)?;
+    // For the proof: some bytes denote the definition.
     let _types = definition.types();
     let judgement = judge_sketch(alloc, &lookups, &channels, &sketch)?;
     Ok((channels, judgement))
 }
 
-/// Judges a definition: whether each program is typed, each handler and binding fits, no channel may raise itself again, and no dispatch may take
-/// more than 10^12 steps.
+/// Judges a definition: whether each program is typed, each handler and binding fits, no property is in two pairs, freezes and thaws match,
+/// no channel may raise itself again, and no dispatch may take more than 10^12 steps.
 ///
 /// # Errors
 ///
-/// `Refused` with the first rule that is broken, in the order of the rules and of the document; or, where none is, with a cycle of channels from
-/// its first one in the report; or else with the first entry of the report whose bound is too large. `OutOfMemory` where no memory is found.
+/// Returns `Refused` with the first rule that is broken, in the order of the rules and of the document. If none is broken, the refusal is
+/// for a cycle of channels, given from its first one in the report. If there is no cycle, it is for the first entry of the report whose
+/// bound is too large. Returns `OutOfMemory` if memory is refused.
 pub fn verify(alloc: Global, definition: Definition) -> Result<Verified, VerifyError>
     ensures { Verifies definition result }
 {

@@ -1,4 +1,4 @@
-//! Why a report was not written.
+//! The reasons why a report was not written.
 
 ghost use Rattle.std.specs.Prelude.{◌≡◌};
 ghost use Rattle.verified.specs.declared.faults.ReportFault.TheVariants as faults;
@@ -7,7 +7,7 @@ use std::alloc::AllocError;
 use thiserror::Error;
 use ui_machine::DeviceFault;
 
-/// Why a report was not written whole.
+/// The reason why a report was not written whole.
 #[derive(Clone, Copy, Debug, PartialEq, Eq, Error)]
 pub enum ReportFault {
     #[error("a write failed")]

@@ -1,4 +1,4 @@
-//! A definition that was verified, with the numbers that its verification gave, and the report of them.
+//! A verified definition with the numbers of its verification, and the report of them.
 #![tactic(auto)]
 
 mod faults;

@@ -9,17 +9,17 @@ pub struct SourceBound {
     pub bound: u64,
 }
 
-/// The numbers that a verification gives. A contract sees them as `AreTold` does.
+/// The numbers that a verification gives. The contracts see them through `AreTold`.
 #[derive(Debug, Drop)]
 pub struct Numbers {
-    /// Of each channel, in the order of the report, the rank of its node.
+    /// The rank of each channel's node, in the order of the report.
     pub ranks: Vec<u32>,
-    /// And the bound on the steps of a dispatch that begins there.
+    /// The bound on the steps of a dispatch that begins at each channel, in the same order.
     pub bounds: Vec<u64>,
     /// The bound on the steps of the build.
     pub build: u64,
-    /// The programs of sources, in document order.
+    /// The programs of sources with their bounds, in document order.
     pub sources: Vec<SourceBound>,
-    /// How many frames are ever needed.
+    /// The greatest number of frames that are needed at a time.
     pub depth: u32,
 }

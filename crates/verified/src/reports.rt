@@ -1,4 +1,4 @@
-//! The report of a verified definition.
+//! Writes the report of a verified definition.
 
 ghost use Rattle.std.specs.Prelude.{◌≡◌, ◌<◌, Some, false, length, slice_get, string_bytes, IfOk};
 ghost use Rattle.law_typing.specs.Graph.Channels.{channels};
@@ -14,13 +14,13 @@ use std::alloc::{AllocError, Global};
 use ui_machine::{Entry, Sink};
 
 impl Verified {
-    /// Writes the report: a line with the depth, one with the bound of the build, one for each channel with its rank and its bound, and one
-    /// for each source's program with its bound. The writer must not have failed.
+    /// Writes the report. It has a line with the depth, one with the bound of the build, one for each channel with its rank and bound, and
+    /// one for each source's program with its bound. No write to the writer may have failed before.
     ///
     /// # Errors
     ///
-    /// `WriteFault` where a write failed: the writer took a front of the report's bytes. `OutOfMemory` where no memory is found for a line:
-    /// it took the lines before that one.
+    /// Returns `WriteFault` if a write failed, and the writer took only a first part of the report's bytes. Returns `OutOfMemory` if memory
+    /// for a line is refused, and it took the lines before that one.
     pub fn report<W: Sink>(&self, alloc: Global, writer: &mut W) -> Result<(), ReportFault>
         requires works { W.failed writer.old ≡ false }
         ensures lines { (a : Accepted self.now) → Reports result (W.taken writer.old) (W.taken writer.new) (report_of self.now a) }
@@ -31,7 +31,7 @@ impl Verified {
         self.report_sources(alloc, writer)
     }
 
-    // The lines of the depth and of the build.
+    // Writes the lines of the depth and of the build.
     fn report_totals<W: Sink>(&self, alloc: Global, writer: &mut W) -> Result<(), ReportFault>
         requires works { W.failed writer.old ≡ false }
         ensures lines { (a : Accepted self.now) → Reports result (W.taken writer.old) (W.taken writer.new) (total_lines self.now a) }
@@ -43,7 +43,7 @@ impl Verified {
         write_line(writer, build)
     }
 
-    // The line of the channel of a number.
+    // Returns the line of the channel with this number.
     fn line_of_channel(&self, alloc: Global, number: usize) -> Result<String, AllocError>
         requires { number < length (channels self.now) }
         ensures { IfOk result (λ line. (a : Accepted self.now) → slice_get (channel_lines self.now a) number ≡ Some (string_bytes line)) }
@@ -54,7 +54,7 @@ impl Verified {
         channel_line(alloc, self.definition(), channel, rank, bound)
     }
 
-    // The lines of the channels.
+    // Writes the lines of the channels.
     fn report_channels<W: Sink>(&self, alloc: Global, writer: &mut W) -> Result<(), ReportFault>
         requires works { W.failed writer.old ≡ false }
         ensures lines { (a : Accepted self.now) → Reports result (W.taken writer.old) (W.taken writer.new) (channel_lines self.now a) }
@@ -67,7 +67,7 @@ impl Verified {
         Ok(())
     }
 
-    // The lines of the sources.
+    // Writes the lines of the sources.
     fn report_sources<W: Sink>(&self, alloc: Global, writer: &mut W) -> Result<(), ReportFault>
         requires works { W.failed writer.old ≡ false }
         ensures lines { (a : Accepted self.now) → Reports result (W.taken writer.old) (W.taken writer.new) (source_lines self.now a) }

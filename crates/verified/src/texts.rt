@@ -1,4 +1,4 @@
-//! The texts of channels and programs, and the lines of a report.
+//! Writes the names of channels and programs, and the lines of a report.
 
 ghost use Rattle.std.specs.Prelude.{◌≡◌, codes, string_bytes, IfOk};
 ghost use Rattle.ui_machine.specs.Definition.Lookups.{program_at};
@@ -14,7 +14,7 @@ use std::alloc::{AllocError, Global};
 use type_tree::TypeId;
 use ui_machine::{Channel, Member, Place, ProgramId, SignalId, Slot};
 
-// The id of the object or prototype at a place.
+// Returns the id of the object or prototype at a place.
 fn id_of(definition: &Definition, place: Place) -> &str
     ensures { result.now ≡ id_of definition.now place.0 }
 {
@@ -24,7 +24,7 @@ fn id_of(definition: &Definition, place: Place) -> &str
     }
 }
 
-// The class of a place.
+// Returns the class of the object or prototype at a place.
 fn class_at(definition: &Definition, place: Place) -> Option<TypeId>
     ensures { result ≡ class_at definition.now place.0 }
 {
@@ -34,7 +34,7 @@ fn class_at(definition: &Definition, place: Place) -> Option<TypeId>
     }
 }
 
-// The name of a property of a place.
+// Returns the name of a property of a place.
 fn property_name(definition: &Definition, place: Place, slot: Slot) -> &str
     ensures { result.now ≡ property_name (spec_at definition.now place.0 slot) }
 {
@@ -47,7 +47,7 @@ fn property_name(definition: &Definition, place: Place, slot: Slot) -> &str
     }
 }
 
-// The name of a signal of a place.
+// Returns the name of a signal of a place.
 fn signal_name(definition: &Definition, place: Place, number: SignalId) -> &str
     ensures { result.now ≡ name_of_signal definition.now number (class_at definition.now place.0) }
 {
@@ -60,7 +60,7 @@ fn signal_name(definition: &Definition, place: Place, number: SignalId) -> &str
     }
 }
 
-/// The name of a program, and nothing where there is none.
+/// Returns the name of a program, which is empty if there is no such program.
 pub fn program_name(definition: &Definition, program: ProgramId) -> &str
     ensures { result.now ≡ name_of_program (program_at definition.now program) }
 {
@@ -70,11 +70,11 @@ pub fn program_name(definition: &Definition, program: ProgramId) -> &str
     }
 }
 
-/// A channel as it is called: `constructed ID`, `property ID.NAME` or `signal ID.NAME`.
+/// Returns the name of a channel: `constructed ID`, `property ID.NAME` or `signal ID.NAME`.
 ///
 /// # Errors
 ///
-/// `AllocError` where no memory is found.
+/// `AllocError` if memory is refused.
 pub fn channel_text(
     alloc: Global,
     definition: &Definition,
@@ -96,21 +96,21 @@ pub fn channel_text(
     }
 }
 
-/// `depth 3`
+/// Returns the line of the depth, such as `depth 3`.
 pub(crate) fn depth_line(alloc: Global, depth: u32) -> Result<String, AllocError>
     ensures { IfOk result (λ line. string_bytes line ≡ numbered (codes "depth ") depth) }
 {
     format!(in alloc; "depth {depth}")
 }
 
-/// `build bound 64`
+/// Returns the line of the build, such as `build bound 64`.
 pub(crate) fn build_line(alloc: Global, bound: u64) -> Result<String, AllocError>
     ensures { IfOk result (λ line. string_bytes line ≡ numbered (codes "build bound ") bound) }
 {
     format!(in alloc; "build bound {bound}")
 }
 
-/// `property b.n rank 0 bound 65`
+/// Returns the line of a channel, such as `property b.n rank 0 bound 65`.
 pub(crate) fn channel_line(
     alloc: Global,
     definition: &Definition,
@@ -124,7 +124,7 @@ pub(crate) fn channel_line(
     format!(in alloc; "{text} rank {rank} bound {bound}")
 }
 
-/// `source tick bound 66`
+/// Returns the line of a source, such as `source tick bound 66`.
 pub(crate) fn source_line(
     alloc: Global,
     definition: &Definition,

@@ -1,4 +1,4 @@
-//! Definitions that were verified.
+//! Definitions that are verified.
 
 ghost use Rattle.std.specs.Prelude.{◌≡◌, ◌<◌, true, Some, length, slice_get};
 ghost use Rattle.law_typing.specs.Graph.Channels as law;
@@ -14,7 +14,7 @@ use definitions::Definition;
 use std::marker::Model;
 use ui_machine::{Channel, Entry, ProgramId};
 
-/// A definition that was accepted, with the numbers that its verification gave. A contract sees the definition.
+/// A definition that is accepted, with the numbers of its verification. The contracts see only the definition.
 #[derive(Drop)]
 pub struct Verified {
     definition: Definition,
@@ -33,7 +33,7 @@ impl Model for Verified {
     ghost invariant = { λ v. IsVerified v.definition v.channels v.numbers };
 }
 
-// The bound of the first of some sources that runs the program.
+// Returns the bound of the first of these sources that runs the program.
 fn bound_of_source(sources: &[SourceBound], program: ProgramId) -> Option<u64>
     ensures { result ≡ bound_in program sources.now }
 {
@@ -42,7 +42,7 @@ fn bound_of_source(sources: &[SourceBound], program: ProgramId) -> Option<u64>
 }
 
 impl Verified {
-    /// The verified definition of these parts. The definition has to be accepted, and the channels and the numbers have to be its own.
+    /// Creates a verified definition of these parts. The definition must be accepted, and the channels and numbers must be its own.
     pub fn new(definition: Definition, channels: ChannelNumbers, numbers: Numbers) -> Verified
         requires channels { channels ≡ law.channels definition }
         requires accepted { (a : Accepted definition) × AreNumbersOf definition numbers a }
@@ -55,7 +55,7 @@ impl Verified {
         }
     }
 
-    /// The definition. It is accepted.
+    /// Returns the definition, which is accepted.
     pub fn definition(&self) -> &Definition
         ensures same { result.now ≡ self.now }
         ensures accepted { Accepted self.now }
@@ -63,7 +63,7 @@ impl Verified {
         &self.definition
     }
 
-    /// The definition alone.
+    /// Returns the definition without the numbers.
     pub fn into_definition(self) -> Definition
         ensures same { result ≡ self }
         ensures accepted { Accepted result }
@@ -71,7 +71,7 @@ impl Verified {
         self.definition
     }
 
-    // The number of a channel in the order of the report.
+    // Returns the number of a channel in the order of the report.
     fn number_of(&self, channel: &Channel) -> usize
         requires { is_channel self.now (channel_of channel.now) ≡ true }
         ensures { slice_get (law.channels self.now) result ≡ Some (channel_of channel.now) }
@@ -82,14 +82,14 @@ impl Verified {
         number as usize
     }
 
-    /// How many channels the definition has.
+    /// Returns the number of channels of the definition.
     pub(crate) fn channel_count(&self) -> usize
         ensures { result ≡ length (law.channels self.now) }
     {
         self.channels.count()
     }
 
-    /// The channel of a number.
+    /// Returns the channel with this number.
     pub(crate) fn channel_at(&self, number: usize) -> Channel
         requires { number < length (law.channels self.now) }
         ensures { slice_get (law.channels self.now) number ≡ Some (channel_of result) }
@@ -97,7 +97,7 @@ impl Verified {
         self.channels.channel(number)
     }
 
-    /// The rank of the channel of a number.
+    /// Returns the rank of the channel with this number.
     pub(crate) fn rank_at(&self, number: usize) -> u32
         requires { number < length (law.channels self.now) }
         ensures { (c : law.Channel) → slice_get (law.channels self.now) number ≡ Some c → IsRank self.now c result }
@@ -106,7 +106,7 @@ impl Verified {
         ranks[number]
     }
 
-    /// The bound of the channel of a number.
+    /// Returns the bound of the channel with this number.
     pub(crate) fn bound_at(&self, number: usize) -> u64
         requires { number < length (law.channels self.now) }
         ensures { (c : law.Channel) → slice_get (law.channels self.now) number ≡ Some c → IsBound self.now (law.at c) result }
@@ -115,7 +115,7 @@ impl Verified {
         bounds[number]
     }
 
-    /// The programs of sources, in document order, each with its bound.
+    /// Returns the programs of sources with their bounds, in document order.
     pub(crate) fn sources(&self) -> &[SourceBound]
         ensures sources { AreSources self.now result.now }
         ensures accepted { Accepted self.now }
@@ -123,7 +123,7 @@ impl Verified {
         self.numbers.sources.as_slice()
     }
 
-    // The bound where a source runs its program.
+    // Returns the bound of a dispatch in which a source runs this program.
     fn source_bound(&self, program: ProgramId) -> u64
         requires { is_entry self.now (law.source program) ≡ true }
         ensures { IsBound self.now (law.source program) result }
@@ -134,7 +134,7 @@ impl Verified {
         bound
     }
 
-    /// The rank of a channel: how many edges the longest chain has that ends in its node.
+    /// Returns the rank of a channel, which is the number of edges of the longest chain that ends in its node.
     pub fn rank(&self, channel: Channel) -> u32
         requires { is_channel self.now (channel_of channel) ≡ true }
         ensures { IsRank self.now (channel_of channel) result }
@@ -142,7 +142,7 @@ impl Verified {
         self.rank_at(self.number_of(&channel))
     }
 
-    /// The most counted steps of a dispatch that begins so.
+    /// Returns the greatest number of counted steps of a dispatch that begins with `entry`.
     pub fn bound(&self, entry: Entry) -> u64
         requires { is_entry self.now (entry_of entry) ≡ true }
         ensures { IsBound self.now (entry_of entry) result }
@@ -155,7 +155,7 @@ impl Verified {
         }
     }
 
-    /// The most frames that are ever on each other.
+    /// Returns the greatest number of frames that are ever under way at a time.
     pub fn depth(&self) -> u32
         ensures { IsDepth self.now result }
     {

@@ -1,4 +1,4 @@
-//! Lines out to a writer.
+//! Writes lines to a writer.
 
 ghost use Rattle.std.specs.Prelude.{◌≡◌, ◌∷◌, [], true, false, string_bytes, MatchResult};
 ghost use Rattle.verified.specs.Writing.{IsMarked, Reports, Writes};
@@ -6,7 +6,7 @@ ghost use Rattle.verified.specs.Writing.{IsMarked, Reports, Writes};
 use crate::faults::ReportFault;
 use ui_machine::{DeviceFault, Sink};
 
-// Writes all the bytes, or what comes before the first write that fails.
+// Writes all the bytes, or those that come before the first write that fails.
 fn write_all<W: Sink>(writer: &mut W, bytes: &[u8]) -> Result<(), DeviceFault>
     requires works { W.failed writer.old ≡ false }
     ensures writes { Writes result (W.taken writer.old) (W.taken writer.new) bytes.now }
@@ -22,11 +22,12 @@ fn write_all<W: Sink>(writer: &mut W, bytes: &[u8]) -> Result<(), DeviceFault>
     Ok(())
 }
 
-/// Writes a line and its LF, in one piece where the writer takes it so.
+/// Writes a line and its LF, in one piece if the writer takes it so.
 ///
 /// # Errors
 ///
-/// `WriteFault` where a write failed, after a part of the line; `OutOfMemory` where no memory is found for the LF, before any of it.
+/// Returns `WriteFault` if a write failed, after a part of the line. Returns `OutOfMemory` if memory for the LF is refused, before any of
+/// it.
 pub(crate) fn write_line<W: Sink>(writer: &mut W, mut line: String) -> Result<(), ReportFault>
     requires works { W.failed writer.old ≡ false }
     ensures writes { Reports result (W.taken writer.old) (W.taken writer.new) (string_bytes line ∷ []) }

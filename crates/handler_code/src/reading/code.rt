@@ -1,4 +1,4 @@
-//! Reading the instructions of a program's blocks.
+//! Reads the instructions of a program's blocks.
 
 ghost use Rattle.std.specs.Prelude.{◌≡◌, All, IfOk, map};
 ghost use Rattle.serde_json.specs.View.{view};
@@ -17,7 +17,7 @@ use bytecode::{
 use serde_json::Value;
 use std::alloc::{AllocError, Global};
 
-// The instruction of a number, which comes after none that ends the block.
+// Reads instruction number `at` of a block. Refuses it if `code`, which comes before it, has already ended the block.
 fn instruction_behind(
     alloc: Global,
     scope: &Scope<'_>,
@@ -40,7 +40,7 @@ fn instruction_behind(
     }
 }
 
-// The instructions of a block.
+// Reads the instructions of a block.
 fn code_of(
     alloc: Global,
     scope: &Scope<'_>,
@@ -58,7 +58,7 @@ fn code_of(
     Ok(code)
 }
 
-// Kinds, filled up with unset to so many registers.
+// Copies `kinds` and adds unset ones until there are as many as registers.
 fn filled(
     alloc: Global,
     registers: usize,
@@ -74,7 +74,7 @@ fn filled(
     Ok(entry)
 }
 
-// The blocks of a program.
+// Reads the blocks of a program from their outlines.
 pub(crate) fn blocks_of(
     alloc: Global,
     scope: &Scope<'_>,

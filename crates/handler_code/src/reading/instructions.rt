@@ -1,6 +1,7 @@
-//! Reading one instruction.
+//! Reads one instruction.
 //!
-//! An instruction is a JSON array: a word, then its operands. A contract has one row for each word, with its operands in their order.
+//! An instruction is a JSON array with a word and its operands. The contracts have one row for each word, which lists its operands in
+//! order.
 
 ghost use Rattle.std.specs.Prelude.{◌≡◌, IfOk, false};
 ghost use Rattle.serde_json.specs.View.{view};
@@ -31,16 +32,16 @@ use std::alloc::Global;
 
 /// Reads the instruction that a JSON array denotes.
 ///
-/// Registers and blocks are numbers below those of the scope. Kinds and values are read as those of properties are, objects by null alone. An
-/// enum or flags type that a kind names is there. Other names are texts: whether they name something, and whether the operands have the right
-/// kinds, is not tested here.
+/// Registers and blocks are numbers below those of the scope. Kinds and values are read like those of properties, but the only value of an
+/// object kind is null. An enum or flags type that a kind names must exist. All other names are plain texts: it is not checked here whether
+/// they name something, or whether the operands have the right kinds.
 ///
-/// `BadInstruction` where the value is no array, its first entry is no word, or its operands are not those of the word: too few, too many, or
-/// of another sort. `OutOfMemory` where a name, a text or a list can't be made.
+/// The value must be an array whose first entry is a word, with exactly the operands of this word.
 ///
 /// # Errors
 ///
-/// The value denotes no instruction, or memory is refused.
+/// Returns `BadInstruction` if the value denotes no instruction: it is no array, its first entry is no known word, or it has too few or too
+/// many operands or one of the wrong sort. Returns `OutOfMemory` if a name, a text or a list can't be allocated.
 #[tactic(auto, unfolding(bytecode::specs::Reading::Words::instruction_at))]
 pub fn read_instruction(
     alloc: Global,
@@ -54,7 +55,7 @@ pub fn read_instruction(
     read_register_word(alloc, scope, word, json)
 }
 
-// Instructions on registers alone.
+// Reads an instruction that only uses registers, and otherwise tries the words for properties and objects.
 #[tactic(auto, unfolding(bytecode::specs::Reading::Words::register_word))]
 fn read_register_word(
     alloc: Global,
@@ -107,7 +108,7 @@ fn read_register_word(
     read_object_word(alloc, scope, word, json)
 }
 
-// Instructions on properties and objects.
+// Reads an instruction on properties or objects, and otherwise tries the words for signals, handlers and bindings.
 #[tactic(auto, unfolding(bytecode::specs::Reading::Words::object_word))]
 fn read_object_word(
     alloc: Global,
@@ -154,7 +155,7 @@ fn read_object_word(
     read_signal_word(alloc, scope, word, json)
 }
 
-// Instructions on signals, handlers and bindings.
+// Reads an instruction on signals, handlers or bindings, and otherwise tries the words for sources and peers.
 #[tactic(auto, unfolding(bytecode::specs::Reading::Words::signal_word))]
 fn read_signal_word(
     alloc: Global,
@@ -189,7 +190,7 @@ fn read_signal_word(
     read_source_word(alloc, scope, word, json)
 }
 
-// Instructions on sources and peers.
+// Reads an instruction on sources or peers, and otherwise tries the words that end a block.
 #[tactic(auto, unfolding(bytecode::specs::Reading::Words::source_word))]
 fn read_source_word(
     alloc: Global,
@@ -215,7 +216,7 @@ fn read_source_word(
     read_jump_word(scope, word, json)
 }
 
-// Instructions that end a block.
+// Reads an instruction that ends a block. Refuses any other word.
 #[tactic(auto, unfolding(bytecode::specs::Reading::Words::jump_word))]
 fn read_jump_word(
     scope: &Scope<'_>,

@@ -1,4 +1,4 @@
-//! The rows of the instructions that end a block.
+//! Readers for the instructions that end a block, one for each word.
 
 ghost use Rattle.std.specs.Prelude.{IfOk};
 ghost use Rattle.serde_json.specs.View.{view};
@@ -14,7 +14,7 @@ use crate::reading::scope::Scope;
 use bytecode::{ControlInstruction, Instruction, InstructionError};
 use serde_json::Value;
 
-// `jump b`
+// Reads `jump b`.
 #[tactic(auto, unfolding(bytecode::specs::Reading::JumpRows::jump_row))]
 pub(crate) fn read_jump(scope: &Scope<'_>, json: &Value) -> Result<Instruction, InstructionError>
     ensures read { Gives instruction_view result (jump_row (scope_view scope.now) (view json.now)) }
@@ -25,7 +25,7 @@ pub(crate) fn read_jump(scope: &Scope<'_>, json: &Value) -> Result<Instruction, 
     Ok(Instruction::Control(ControlInstruction::Jump(to)))
 }
 
-// `if a b b`
+// Reads `if a b b`.
 #[tactic(auto, unfolding(bytecode::specs::Reading::JumpRows::branch_row))]
 pub(crate) fn read_branch(scope: &Scope<'_>, json: &Value) -> Result<Instruction, InstructionError>
     ensures read { Gives instruction_view result (branch_row (scope_view scope.now) (view json.now)) }
@@ -39,7 +39,7 @@ pub(crate) fn read_branch(scope: &Scope<'_>, json: &Value) -> Result<Instruction
     }))
 }
 
-// `ifnull a b b`
+// Reads `ifnull a b b`.
 #[tactic(auto, unfolding(bytecode::specs::Reading::JumpRows::branch_null_row))]
 pub(crate) fn read_branch_null(
     scope: &Scope<'_>,
@@ -56,7 +56,7 @@ pub(crate) fn read_branch_null(
     }))
 }
 
-// `return z`
+// Reads `return z`.
 #[tactic(auto, unfolding(bytecode::specs::Reading::JumpRows::return_row))]
 pub(crate) fn read_return(scope: &Scope<'_>, json: &Value) -> Result<Instruction, InstructionError>
     ensures read { Gives instruction_view result (return_row (scope_view scope.now) (view json.now)) }

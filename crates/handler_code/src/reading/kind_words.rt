@@ -1,4 +1,4 @@
-//! Kinds of values, by their words.
+//! Reads kinds of values from their words.
 
 ghost use Rattle.std.specs.Prelude.{◌≡◌, List, option_map, IfOk, IfSome};
 ghost use Rattle.ui_machine.specs.Definition.Types.{GType, enum, flags};
@@ -11,16 +11,16 @@ ghost use Rattle.bytecode.specs.Reading.Views.{seen};
 use g_values::Kind;
 use type_tree::{TypeId, TypeTree};
 
-// Why a word names no kind.
+// The reason why a word names no kind.
 #[derive(Clone, Copy)]
 pub(crate) enum KindFault<'a> {
-    // It has no form of one.
+    // The word does not have the form of a kind.
     NoKind,
-    // Nothing has this name.
+    // There is nothing with this name.
     Unknown(&'a str),
 }
 
-// The kind of a word that names no type.
+// Returns the kind for a word that names no type, such as `int`.
 fn kind_named(word: &str) -> Option<Kind>
     ensures kind { option_map kind_view result ≡ kind_named word.now }
     ensures known { IfSome result (λ k. (types : List GType) → IsKnown types k) }
@@ -42,7 +42,7 @@ fn kind_named(word: &str) -> Option<Kind>
     }
 }
 
-// The enum of a name.
+// Returns the enum with this name.
 fn enum_named(types: &TypeTree, name: &str) -> Option<TypeId>
     ensures named { result ≡ enum_named types.now name.now }
     ensures known { IfSome result (λ t. sort_of types.now t ≡ enum) }
@@ -55,7 +55,7 @@ fn enum_named(types: &TypeTree, name: &str) -> Option<TypeId>
     }
 }
 
-// The flags type of a name.
+// Returns the flags type with this name.
 fn flags_named(types: &TypeTree, name: &str) -> Option<TypeId>
     ensures named { result ≡ flags_named types.now name.now }
     ensures known { IfSome result (λ t. sort_of types.now t ≡ flags) }
@@ -68,14 +68,14 @@ fn flags_named(types: &TypeTree, name: &str) -> Option<TypeId>
     }
 }
 
-// What comes before the first colon and what comes after it, if there is one.
+// Splits a word at its first colon, or returns `None` if it has no colon.
 pub(crate) fn parted(word: &str) -> Option<(&str, &str)>
     ensures { option_map (λ p. (p.0.now, p.1.now)) result ≡ parted word.now }
 {
     word.split_once(':')
 }
 
-// The kind of a word that names no type, or why it is none.
+// Returns the kind for a word that names no type, or `NoKind` if there is none.
 pub(crate) fn plain_kind(word: &str) -> Result<Kind, KindFault<'_>>
     ensures kind { seen kind_view kind_fault result ≡ or_no_kind (kind_named word.now) }
     ensures known { IfOk result (λ k. (types : List GType) → IsKnown types k) }
@@ -86,7 +86,7 @@ pub(crate) fn plain_kind(word: &str) -> Result<Kind, KindFault<'_>>
     }
 }
 
-// The kind of a sort and of the type that a name names.
+// Returns the kind with this sort, which is `enum`, `flags` or `object`, and the type with this name.
 pub(crate) fn kind_of_type<'a>(
     types: &TypeTree,
     sort: &str,
@@ -116,7 +116,7 @@ pub(crate) fn kind_of_type<'a>(
     Err(KindFault::NoKind)
 }
 
-// The kind of a word.
+// Returns the kind of values that a word names.
 pub(crate) fn kind_of_word<'a>(types: &TypeTree, word: &'a str) -> Result<Kind, KindFault<'a>>
     ensures kind { seen kind_view kind_fault result ≡ kind_by types.now word.now (parted word.now) }
     ensures known { IfOk result (λ k. IsKnown types.now k) }

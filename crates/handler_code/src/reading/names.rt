@@ -1,4 +1,4 @@
-//! With what a program is read.
+//! The names that are in scope while a program is read.
 
 use bytecode::Format;
 use std::collections::BTreeMap;

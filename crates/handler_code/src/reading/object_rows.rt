@@ -1,4 +1,4 @@
-//! The rows of the instructions on properties and objects.
+//! Readers for the instructions on properties and objects, one for each word.
 
 ghost use Rattle.std.specs.Prelude.{IfOk};
 ghost use Rattle.serde_json.specs.View.{view};
@@ -15,7 +15,7 @@ use bytecode::{Instruction, InstructionError, ObjectInstruction, PropertyInstruc
 use serde_json::Value;
 use std::alloc::Global;
 
-// `get d o p`
+// Reads `get d o p`.
 #[tactic(auto, unfolding(bytecode::specs::Reading::ObjectRows::get_row))]
 pub(crate) fn read_get(
     alloc: Global,
@@ -36,7 +36,7 @@ pub(crate) fn read_get(
     }))
 }
 
-// `set o p s`
+// Reads `set o p s`.
 #[tactic(auto, unfolding(bytecode::specs::Reading::ObjectRows::set_row))]
 pub(crate) fn read_set(
     alloc: Global,
@@ -57,7 +57,7 @@ pub(crate) fn read_set(
     }))
 }
 
-// `object d id`
+// Reads `object d id`.
 #[tactic(auto, unfolding(bytecode::specs::Reading::ObjectRows::object_row))]
 pub(crate) fn read_object(
     alloc: Global,
@@ -71,7 +71,7 @@ pub(crate) fn read_object(
     Ok(Instruction::Object(ObjectInstruction::LookUp { to, id }))
 }
 
-// `new d c`
+// Reads `new d c`.
 #[tactic(auto, unfolding(bytecode::specs::Reading::ObjectRows::new_row))]
 pub(crate) fn read_new(
     alloc: Global,
@@ -85,7 +85,7 @@ pub(crate) fn read_new(
     Ok(Instruction::Object(ObjectInstruction::New { to, id }))
 }
 
-// `sink o`
+// Reads `sink o`.
 #[tactic(auto, unfolding(bytecode::specs::Reading::ObjectRows::sink_row))]
 pub(crate) fn read_sink(scope: &Scope<'_>, json: &Value) -> Result<Instruction, InstructionError>
     ensures read { Gives instruction_view result (sink_row (scope_view scope.now) (view json.now)) }
@@ -95,7 +95,7 @@ pub(crate) fn read_sink(scope: &Scope<'_>, json: &Value) -> Result<Instruction, 
     Ok(Instruction::Object(ObjectInstruction::Sink(object)))
 }
 
-// `orphan o`
+// Reads `orphan o`.
 #[tactic(auto, unfolding(bytecode::specs::Reading::ObjectRows::orphan_row))]
 pub(crate) fn read_orphan(scope: &Scope<'_>, json: &Value) -> Result<Instruction, InstructionError>
     ensures read { Gives instruction_view result (orphan_row (scope_view scope.now) (view json.now)) }
@@ -105,7 +105,7 @@ pub(crate) fn read_orphan(scope: &Scope<'_>, json: &Value) -> Result<Instruction
     Ok(Instruction::Object(ObjectInstruction::Orphan(object)))
 }
 
-// `dispose o`
+// Reads `dispose o`.
 #[tactic(auto, unfolding(bytecode::specs::Reading::ObjectRows::dispose_row))]
 pub(crate) fn read_dispose(scope: &Scope<'_>, json: &Value) -> Result<Instruction, InstructionError>
     ensures read { Gives instruction_view result (dispose_row (scope_view scope.now) (view json.now)) }
@@ -115,7 +115,7 @@ pub(crate) fn read_dispose(scope: &Scope<'_>, json: &Value) -> Result<Instructio
     Ok(Instruction::Object(ObjectInstruction::Dispose(object)))
 }
 
-// `freeze o`
+// Reads `freeze o`.
 #[tactic(auto, unfolding(bytecode::specs::Reading::ObjectRows::freeze_row))]
 pub(crate) fn read_freeze(scope: &Scope<'_>, json: &Value) -> Result<Instruction, InstructionError>
     ensures read { Gives instruction_view result (freeze_row (scope_view scope.now) (view json.now)) }
@@ -125,7 +125,7 @@ pub(crate) fn read_freeze(scope: &Scope<'_>, json: &Value) -> Result<Instruction
     Ok(Instruction::Property(PropertyInstruction::Freeze(object)))
 }
 
-// `thaw o`
+// Reads `thaw o`.
 #[tactic(auto, unfolding(bytecode::specs::Reading::ObjectRows::thaw_row))]
 pub(crate) fn read_thaw(scope: &Scope<'_>, json: &Value) -> Result<Instruction, InstructionError>
     ensures read { Gives instruction_view result (thaw_row (scope_view scope.now) (view json.now)) }
@@ -135,7 +135,7 @@ pub(crate) fn read_thaw(scope: &Scope<'_>, json: &Value) -> Result<Instruction, 
     Ok(Instruction::Property(PropertyInstruction::Thaw(object)))
 }
 
-// `adopt d o o`
+// Reads `adopt d o o`.
 #[tactic(auto, unfolding(bytecode::specs::Reading::ObjectRows::adopt_row))]
 pub(crate) fn read_adopt(scope: &Scope<'_>, json: &Value) -> Result<Instruction, InstructionError>
     ensures read { Gives instruction_view result (adopt_row (scope_view scope.now) (view json.now)) }
@@ -149,7 +149,7 @@ pub(crate) fn read_adopt(scope: &Scope<'_>, json: &Value) -> Result<Instruction,
     }))
 }
 
-// `notify o p`
+// Reads `notify o p`.
 #[tactic(auto, unfolding(bytecode::specs::Reading::ObjectRows::notify_row))]
 pub(crate) fn read_notify(
     alloc: Global,

@@ -1,4 +1,4 @@
-//! Operands that are lists: registers, and options.
+//! Readers for operands that are lists, of registers or of options.
 
 ghost use Rattle.std.specs.Prelude.{◌≡◌, ◌||◌, map};
 ghost use Rattle.std.specs.List.{list_any, list_all};
@@ -13,14 +13,14 @@ use bytecode::{InstructionError, Register};
 use serde_json::Value;
 use std::alloc::Global;
 
-/// What `connect` may be asked for.
+/// The options that a `connect` instruction may have.
 #[derive(Clone, Copy)]
 pub(crate) struct ConnectOptions {
     pub(crate) after: bool,
     pub(crate) swapped: bool,
 }
 
-// The entries of the list at an entry.
+// Returns the entries of the list at entry `at`. Refuses any other operand.
 fn items_at(json: &Value, at: usize) -> Result<&[Value], InstructionError>
     ensures { Gives (λ v. items_view v.now) result (items_at (view json.now) at) }
 {
@@ -30,7 +30,7 @@ fn items_at(json: &Value, at: usize) -> Result<&[Value], InstructionError>
     }
 }
 
-// The registers that a list names, of so many.
+// Reads a list of registers, each below `registers`.
 fn registers_in(
     alloc: Global,
     items: &[Value],
@@ -48,7 +48,7 @@ fn registers_in(
     Ok(read)
 }
 
-// The registers at an entry.
+// Reads the list of registers at entry `at`, each below `registers`.
 pub(crate) fn registers_at(
     alloc: Global,
     json: &Value,
@@ -62,7 +62,7 @@ pub(crate) fn registers_at(
     Ok(read)
 }
 
-// Whether a value is a word.
+// Returns whether a value is the string `word`.
 fn is_word(value: &Value, word: &str) -> bool
     ensures { result ≡ is_word word.now (as_str (view value.now)) }
 {
@@ -90,7 +90,7 @@ fn all_options(items: &[Value]) -> bool
     items.iter().all(|item| is_option(item))
 }
 
-// Whether a list has a word.
+// Returns whether `word` is in a list.
 #[tactic(auto, using(crate::proofs::OperandLists::word_listed))]
 fn has_word(items: &[Value], word: &str) -> bool
     ensures { result ≡ has_word word.now (items_view items.now) }
@@ -98,7 +98,7 @@ fn has_word(items: &[Value], word: &str) -> bool
     any_word(items, word)
 }
 
-// Whether each entry of a list is an option.
+// Returns whether each entry of a list is an option, `after` or `swapped`.
 #[tactic(auto, using(crate::proofs::OperandLists::options_listed))]
 fn are_options(items: &[Value]) -> bool
     ensures { result ≡ are_options (items_view items.now) }
@@ -106,7 +106,7 @@ fn are_options(items: &[Value]) -> bool
     all_options(items)
 }
 
-// The options that a list names.
+// Reads the options from a list, where each entry must be an option and may come twice.
 fn options_in(items: &[Value]) -> Result<ConnectOptions, InstructionError>
     ensures { Gives options_view result (options_of (items_view items.now)) }
 {
@@ -118,7 +118,7 @@ fn options_in(items: &[Value]) -> Result<ConnectOptions, InstructionError>
     Ok(ConnectOptions { after, swapped })
 }
 
-// The options at an entry.
+// Reads the list of options at entry `at`.
 pub(crate) fn options_at(json: &Value, at: usize) -> Result<ConnectOptions, InstructionError>
     ensures { Gives options_view result (options_at (view json.now) at) }
 {

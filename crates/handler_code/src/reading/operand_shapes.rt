@@ -1,4 +1,4 @@
-//! Operands that many words have.
+//! Readers for combinations of operands that several words share.
 
 ghost use Rattle.std.specs.Prelude.{◌≡◌, option_map, string_bytes};
 ghost use Rattle.serde_json.specs.View.{view};
@@ -17,7 +17,7 @@ use bytecode::{BlockNumber, Comparison, Connection, InstructionError, Register};
 use serde_json::Value;
 use std::alloc::Global;
 
-// One register.
+// Reads the operands of an instruction that has one register.
 #[tactic(auto, unfolding(bytecode::specs::Reading::OperandShapes::one_register))]
 pub(crate) fn one_register(scope: &Scope<'_>, json: &Value) -> Result<Register, InstructionError>
     ensures { Gives number_of result (one_register (scope_view scope.now) (view json.now)) }
@@ -27,7 +27,7 @@ pub(crate) fn one_register(scope: &Scope<'_>, json: &Value) -> Result<Register, 
     Ok(register)
 }
 
-// Two registers.
+// Reads the operands of an instruction that has two registers.
 #[tactic(auto, unfolding(bytecode::specs::Reading::OperandShapes::two_registers))]
 pub(crate) fn two_registers(
     scope: &Scope<'_>,
@@ -41,7 +41,7 @@ pub(crate) fn two_registers(
     Ok((a, b))
 }
 
-// Three registers.
+// Reads the operands of an instruction that has three registers.
 #[tactic(auto, unfolding(bytecode::specs::Reading::OperandShapes::three_registers))]
 pub(crate) fn three_registers(
     scope: &Scope<'_>,
@@ -56,7 +56,7 @@ pub(crate) fn three_registers(
     Ok((a, b, c))
 }
 
-// A register and a name.
+// Reads the operands of an instruction that has a register and a name.
 #[tactic(auto, unfolding(bytecode::specs::Reading::OperandShapes::register_and_name))]
 pub(crate) fn register_and_name(
     alloc: Global,
@@ -71,7 +71,7 @@ pub(crate) fn register_and_name(
     Ok((register, name))
 }
 
-// One name.
+// Reads the operand of an instruction that has one name.
 #[tactic(auto, unfolding(bytecode::specs::Reading::OperandShapes::one_name))]
 pub(crate) fn one_name(alloc: Global, json: &Value) -> Result<String, InstructionError>
     ensures { Gives string_bytes result (one_name (view json.now)) }
@@ -81,7 +81,7 @@ pub(crate) fn one_name(alloc: Global, json: &Value) -> Result<String, Instructio
     Ok(name)
 }
 
-// A register and two blocks.
+// Reads the operands of an instruction that has a register and two blocks.
 #[tactic(auto, unfolding(bytecode::specs::Reading::OperandShapes::register_and_blocks))]
 pub(crate) fn register_and_blocks(
     scope: &Scope<'_>,
@@ -96,7 +96,7 @@ pub(crate) fn register_and_blocks(
     Ok((register, first, second))
 }
 
-// How two numbers are compared, by its word.
+// Returns the comparison that a word names: `eq`, `lt` or `le`.
 fn comparison_named(word: &str) -> Option<Comparison>
     ensures { option_map comparison_of result ≡ comparison_named word.now }
 {
@@ -111,7 +111,7 @@ fn comparison_named(word: &str) -> Option<Comparison>
     }
 }
 
-// The comparison at an entry.
+// Reads the comparison at entry `at`.
 pub(crate) fn comparison_at(json: &Value, at: usize) -> Result<Comparison, InstructionError>
     ensures { Gives comparison_of result (comparison_at (view json.now) at) }
 {
@@ -121,7 +121,7 @@ pub(crate) fn comparison_at(json: &Value, at: usize) -> Result<Comparison, Instr
     }
 }
 
-// The operands of `connect` after the object.
+// Reads the operands of `connect` that come after the object.
 #[tactic(auto, unfolding(bytecode::specs::Reading::OperandShapes::connect_at))]
 pub(crate) fn connection_at(
     alloc: Global,

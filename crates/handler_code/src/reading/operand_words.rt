@@ -1,4 +1,4 @@
-//! The operands of instructions, as JSON gives them. The entry 0 of an instruction is its word.
+//! Readers for single operands of instructions. Entry 0 of an instruction is its word.
 
 ghost use Rattle.std.specs.Prelude.{◌≡◌, ◌<◌, ◌≤ℤ◌, option_map, IfOk, IfSome, string_bytes};
 ghost use Rattle.std.specs.Rc.{rc_str_bytes};
@@ -19,7 +19,7 @@ use std::alloc::Global;
 use std::rc::RcStr;
 use type_tree::TypeTree;
 
-// The entry of a number.
+// Returns entry `at` of an instruction. Refuses the instruction if it has no such entry.
 pub(crate) fn operand(json: &Value, at: usize) -> Result<&Value, InstructionError>
     ensures { Gives (λ v. view v.now) result (operand (view json.now) at) }
 {
@@ -29,7 +29,7 @@ pub(crate) fn operand(json: &Value, at: usize) -> Result<&Value, InstructionErro
     }
 }
 
-// Tests that there is no entry of a number.
+// Refuses an instruction that has an entry `at`.
 pub(crate) fn check_none(json: &Value, at: usize) -> Result<(), InstructionError>
     ensures { Gives (λ _. tt) result (no_operand (view json.now) at) }
 {
@@ -39,7 +39,7 @@ pub(crate) fn check_none(json: &Value, at: usize) -> Result<(), InstructionError
     }
 }
 
-// A whole number below a bound.
+// Returns the whole number in a value if it is below `bound`.
 pub(crate) fn number_below(value: &Value, bound: usize) -> Option<usize>
     ensures number { result ≡ number_below bound (view value.now) }
     ensures below { IfSome result (λ n. n < bound) }
@@ -48,7 +48,7 @@ pub(crate) fn number_below(value: &Value, bound: usize) -> Option<usize>
     if number < bound { Some(number) } else { None }
 }
 
-// The register at an entry, of so many.
+// Reads the register at entry `at`, which must be below `registers`.
 pub(crate) fn register_at(
     json: &Value,
     at: usize,
@@ -62,7 +62,7 @@ pub(crate) fn register_at(
     }
 }
 
-// The block at an entry, of so many.
+// Reads the block at entry `at`, which must be below `blocks`.
 pub(crate) fn block_at(
     json: &Value,
     at: usize,
@@ -76,7 +76,7 @@ pub(crate) fn block_at(
     }
 }
 
-// A register, or null.
+// Returns the register in a value, or `Some(None)` for null. Returns `None` if the value is neither.
 fn register_or_null(value: &Value, registers: usize) -> Option<Option<Register>>
     ensures { option_map (option_map number_of) result ≡ register_or_null registers (view value.now) }
 {
@@ -87,7 +87,7 @@ fn register_or_null(value: &Value, registers: usize) -> Option<Option<Register>>
     Some(Some(Register(number)))
 }
 
-// The register at an entry, or null.
+// Reads the register at entry `at`, or null.
 pub(crate) fn register_or_null_at(
     json: &Value,
     at: usize,
@@ -101,7 +101,7 @@ pub(crate) fn register_or_null_at(
     }
 }
 
-// A whole number between two others, both included.
+// Returns the whole number in a value if it is from `low` to `high`, both included.
 fn number_between(value: &Value, low: i128, high: i128) -> Option<i128>
     ensures number { result ≡ between low high (whole_number (view value.now)) }
     ensures low { IfSome result (λ n. low ≤ℤ n) }
@@ -114,7 +114,7 @@ fn number_between(value: &Value, low: i128, high: i128) -> Option<i128>
     Some(number)
 }
 
-// The priority at an entry.
+// Reads the priority at entry `at`, a signed number of 32 bits.
 pub(crate) fn priority_at(json: &Value, at: usize) -> Result<i32, InstructionError>
     ensures { Gives (λ n. n) result (priority_at (view json.now) at) }
 {
@@ -128,7 +128,7 @@ pub(crate) fn priority_at(json: &Value, at: usize) -> Result<i32, InstructionErr
     }
 }
 
-// The interval at an entry, in milliseconds.
+// Reads the interval at entry `at`, in milliseconds. It is below 2^32.
 pub(crate) fn interval_at(json: &Value, at: usize) -> Result<u32, InstructionError>
     ensures { Gives (λ n. n) result (interval_at (view json.now) at) }
 {
@@ -138,7 +138,7 @@ pub(crate) fn interval_at(json: &Value, at: usize) -> Result<u32, InstructionErr
     }
 }
 
-// The text at an entry.
+// Returns the string at entry `at`.
 pub(crate) fn text_at(json: &Value, at: usize) -> Result<&str, InstructionError>
     ensures { Gives (λ s. s.now) result (name_at (view json.now) at) }
 {
@@ -148,7 +148,7 @@ pub(crate) fn text_at(json: &Value, at: usize) -> Result<&str, InstructionError>
     }
 }
 
-// The name at an entry.
+// Reads the name at entry `at`, which may be any string.
 pub(crate) fn name_at(alloc: Global, json: &Value, at: usize) -> Result<String, InstructionError>
     ensures { Gives string_bytes result (name_at (view json.now) at) }
 {
@@ -157,35 +157,35 @@ pub(crate) fn name_at(alloc: Global, json: &Value, at: usize) -> Result<String, 
     Ok(name)
 }
 
-// An ASCII letter, a digit, `-` or `_`.
+// Returns whether a byte is an ASCII letter, a digit, `-` or `_`.
 fn is_name_byte(byte: u8) -> bool
     ensures { result ≡ is_name_byte byte }
 {
     matches!(byte, b'a'..=b'z' | b'A'..=b'Z' | b'0'..=b'9') || byte == b'-' || byte == b'_'
 }
 
-// Whether a text is made of them.
+// Returns whether all bytes of a text may be in a name.
 fn are_name_bytes(name: &str) -> bool
     ensures { result ≡ list_all is_name_byte name.now }
 {
     name.as_bytes().iter().all(|byte| is_name_byte(*byte))
 }
 
-// Whether a name may have so many bytes.
+// Returns whether a name may have this many bytes, which is 1 to 64.
 fn is_name_length(bytes: usize) -> bool
     ensures { result ≡ is_within 1 64 bytes }
 {
     1 <= bytes && bytes <= 64
 }
 
-// Whether a text may be a detail, an id or the name of a program.
+// Returns whether a text may be a detail, an id or the name of a program.
 pub(crate) fn is_name(name: &str) -> bool
     ensures { result ≡ is_name name.now }
 {
     is_name_length(name.len()) && are_name_bytes(name)
 }
 
-// A name, if the value is one.
+// Returns the name in a value, or `None` if the value is no string or not a name.
 pub(crate) fn name_in(value: &Value) -> Option<&str>
     ensures { option_map (λ s. s.now) result ≡ named (as_str (view value.now)) }
 {
@@ -193,7 +193,7 @@ pub(crate) fn name_in(value: &Value) -> Option<&str>
     if is_name(name) { Some(name) } else { None }
 }
 
-// A detail, or null.
+// Returns the detail in a value, or `Some(None)` for null. Returns `None` if the value is neither.
 fn detail_or_null(value: &Value) -> Option<Option<&str>>
     ensures { option_map (option_map (λ s. s.now)) result ≡ detail_or_null (view value.now) }
 {
@@ -204,7 +204,7 @@ fn detail_or_null(value: &Value) -> Option<Option<&str>>
     Some(Some(name))
 }
 
-// The text of the detail at an entry, or null.
+// Returns the text of the detail at entry `at`, or `None` for null.
 fn detail_text_at(json: &Value, at: usize) -> Result<Option<&str>, InstructionError>
     ensures { Gives (option_map (λ s. s.now)) result (detail_at (view json.now) at) }
 {
@@ -214,7 +214,7 @@ fn detail_text_at(json: &Value, at: usize) -> Result<Option<&str>, InstructionEr
     }
 }
 
-// The detail at an entry, or null.
+// Reads the detail at entry `at`, or null.
 pub(crate) fn detail_at(
     alloc: Global,
     json: &Value,
@@ -228,7 +228,7 @@ pub(crate) fn detail_at(
     }
 }
 
-// The same, to be shared.
+// Reads the detail at entry `at`, or null, as a text that can be shared.
 pub(crate) fn shared_detail_at(
     alloc: Global,
     json: &Value,
@@ -242,7 +242,7 @@ pub(crate) fn shared_detail_at(
     }
 }
 
-// The kind at an entry.
+// Reads the kind at entry `at`.
 pub(crate) fn kind_at(json: &Value, at: usize, types: &TypeTree) -> Result<Kind, InstructionError>
     ensures kind { Gives kind_view result (kind_at types.now (view json.now) at) }
     ensures known { IfOk result (λ k. IsKnown types.now k) }
@@ -253,7 +253,7 @@ pub(crate) fn kind_at(json: &Value, at: usize, types: &TypeTree) -> Result<Kind,
     }
 }
 
-// The value of a kind at an entry.
+// Reads a value of this kind at entry `at`.
 pub(crate) fn value_at(
     alloc: Global,
     json: &Value,

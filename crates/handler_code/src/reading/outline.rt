@@ -1,11 +1,11 @@
-//! What a program's value says beside its instructions.
+//! A program as it is read before its instructions are.
 
 use bytecode::RegisterKind;
 use g_values::Kind;
 use serde_json::Value;
 
-// A block whose instructions are not read yet: the kinds of the first registers as it begins, how often it is passed, and its instructions as
-// JSON has them.
+// A block whose instructions are not read yet: the kinds of the first registers where it begins, its number of passes, and its instructions
+// as JSON values.
 #[derive(Drop)]
 pub(crate) struct BlockOutline<'a> {
     pub(crate) entry: Vec<RegisterKind>,

@@ -1,4 +1,4 @@
-//! The members of a program's value and of its blocks, as JSON gives them.
+//! Readers for the members of a program and of its blocks.
 
 ghost use Rattle.std.specs.Prelude.{◌≡◌, [], All, IfOk, map, not, option_copied, option_map, string_bytes};
 ghost use Rattle.std.specs.List.{find, list_any};
@@ -21,7 +21,7 @@ use bytecode::{OutlineError, OutlineFault, ProgramPart, RegisterKind};
 use serde_json::{Map, Value};
 use std::alloc::Global;
 
-// The fault of a word at a part that names no kind.
+// Returns the outline fault for a word at `part` that names no kind.
 pub(crate) fn kind_refusal<'a>(part: ProgramPart<'a>, fault: KindFault<'a>) -> OutlineFault<'a>
     ensures { fault_view result ≡ kind_refusal (part_view part.entry) (kind_fault fault.entry) }
 {
@@ -31,7 +31,7 @@ pub(crate) fn kind_refusal<'a>(part: ProgramPart<'a>, fault: KindFault<'a>) -> O
     }
 }
 
-// The members of a program or a block, which must be an object.
+// Returns the members of a program, or of the block with this number. Refuses a value that is no object.
 pub(crate) fn members_of<'a>(
     block: Option<usize>,
     json: &'a Value,
@@ -44,7 +44,7 @@ pub(crate) fn members_of<'a>(
     }
 }
 
-// The entries of an array.
+// Returns the entries of an array, or `None` for any other value.
 #[tactic(auto, using(crate::proofs::Each::entries_viewed))]
 pub(crate) fn entries_of(json: &Value) -> Option<&[Value]>
     ensures { option_map (λ s. map view s.now) result ≡ option_map entries_of (as_array (view json.now)) }
@@ -53,7 +53,7 @@ pub(crate) fn entries_of(json: &Value) -> Option<&[Value]>
     Some(items.as_slice())
 }
 
-// The entries of a list, which may be absent.
+// Returns the entries of a list, or no entries if the member is absent. Refuses any other value.
 fn entries_or_none<'a>(
     part: ProgramPart<'a>,
     json: Option<&'a Value>,
@@ -69,7 +69,7 @@ fn entries_or_none<'a>(
     }
 }
 
-// Tests that a list has no more entries than there are registers, if it is known how many.
+// Refuses a list with more entries than there are registers. Does nothing if that number is not known.
 fn check_room<'a>(
     part: ProgramPart<'a>,
     registers: Option<usize>,
@@ -86,7 +86,7 @@ fn check_room<'a>(
     Ok(())
 }
 
-// The kind of a register that an entry of a list gives.
+// Reads the kind of a register from an entry of a list.
 fn kind_there<'a>(
     names: &Names<'_>,
     may_be_unset: bool,
@@ -102,7 +102,7 @@ fn kind_there<'a>(
     }
 }
 
-// The kinds of registers that entries give.
+// Reads the kinds of registers from the entries of a list.
 fn kinds_of<'a>(
     alloc: Global,
     names: &Names<'_>,
@@ -121,7 +121,7 @@ fn kinds_of<'a>(
     Ok(kinds)
 }
 
-// The kinds of registers that a list gives.
+// Reads the kinds of registers from a list, which may be absent and has no more entries than there are registers.
 #[tactic(auto, unfolding(bytecode::specs::Reading::Outline::kinds_at))]
 pub(crate) fn kinds_at<'a>(
     alloc: Global,
@@ -140,21 +140,21 @@ pub(crate) fn kinds_at<'a>(
     Ok(kinds)
 }
 
-// Whether a key is one of these.
+// Returns whether `key` is one of `keys`.
 fn is_among(keys: &[&str], key: &str) -> bool
     ensures { result ≡ list_any (λ k. bytes_eq k.now key.now) keys.now }
 {
     keys.iter().any(|known| *known == key)
 }
 
-// The first key that is none of these.
+// Returns the first key that is not in `known`.
 fn first_other<'a>(members: &'a Map<String, Value>, known: &[&str]) -> Option<&'a String>
     ensures { option_copied result ≡ find (λ key. not (list_any (λ k. bytes_eq k.now (string_bytes key)) known.now)) (keys members.now) }
 {
     members.keys().find(|key| !is_among(known, key.as_str()))
 }
 
-// Tests that the members have no other keys.
+// Refuses the first member whose key is not in `keys`.
 #[tactic(auto, using(crate::proofs::Members::first_other_is))]
 pub(crate) fn check_only<'a>(
     block: Option<usize>,

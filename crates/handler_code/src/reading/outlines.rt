@@ -1,4 +1,4 @@
-//! Reading what a program's value says beside its instructions.
+//! Reads the outline of a program, which is all but its instructions.
 
 ghost use Rattle.std.specs.Prelude.{◌≡◌, [], All, IfOk, IfSome, codes, map, option_and_then, option_map};
 ghost use Rattle.serde_json.specs.View.{view};
@@ -30,7 +30,7 @@ const BLOCK_MEMBERS: [&str; 2] = ["in", "code"];
 
 const REPEATED_BLOCK_MEMBERS: [&str; 3] = ["in", "repeat", "code"];
 
-// The name of the program.
+// Reads the program's `name`.
 fn name_at<'a>(json: &'a Value) -> Result<&'a str, OutlineError<'a>>
     ensures { Gives (λ s. s.now) result (shaped (member_of None (codes "name")) (named (option_and_then as_str (get (codes "name") (view json.now))))) }
 {
@@ -42,7 +42,7 @@ fn name_at<'a>(json: &'a Value) -> Result<&'a str, OutlineError<'a>>
     }
 }
 
-// How many registers it has.
+// Returns the number of registers, or `None` if `registers` is absent or no unsigned number.
 fn registers_of(json: &Value) -> Option<usize>
     ensures { result ≡ registers_of (view json.now) }
 {
@@ -62,7 +62,7 @@ fn registers_at<'a>(json: &'a Value) -> Result<usize, OutlineError<'a>>
     }
 }
 
-// The kind of a result, by its word.
+// Reads the kind of a result from its word, where `none` means that there is no result.
 fn result_word<'a>(types: &TypeTree, word: &'a str) -> Result<Option<Kind>, KindFault<'a>>
     ensures kind { seen (option_map kind_view) kind_fault result ≡ result_word types.now word.now }
     ensures known { IfOk result (λ kind. IfSome kind (λ k. IsKnown types.now k)) }
@@ -76,7 +76,7 @@ fn result_word<'a>(types: &TypeTree, word: &'a str) -> Result<Option<Kind>, Kind
     }
 }
 
-// The kind of a result, if it is given.
+// Reads the kind of a result. There is no result if the value is absent.
 fn result_of<'a>(types: &TypeTree, json: Option<&'a Value>) -> Result<Option<Kind>, KindFault<'a>>
     ensures kind { seen (option_map kind_view) kind_fault result ≡ result_of types.now (option_map (λ v. view v.now) json.entry) }
     ensures known { IfOk result (λ kind. IfSome kind (λ k. IsKnown types.now k)) }
@@ -90,7 +90,7 @@ fn result_of<'a>(types: &TypeTree, json: Option<&'a Value>) -> Result<Option<Kin
     }
 }
 
-// The kind of what the program returns.
+// Reads the program's `result`, the kind of what it returns.
 fn result_at<'a>(types: &TypeTree, json: &'a Value) -> Result<Option<Kind>, OutlineError<'a>>
     ensures kind { Gives (option_map kind_view) result (result_at types.now (view json.now)) }
     ensures known { IfOk result (λ kind. IfSome kind (λ k. IsKnown types.now k)) }
@@ -102,7 +102,7 @@ fn result_at<'a>(types: &TypeTree, json: &'a Value) -> Result<Option<Kind>, Outl
     }
 }
 
-// The kinds of registers as the first block begins, which are those of the parameters.
+// Returns the kinds of the registers where the first block begins, which are those of the parameters. Refuses an `in` there.
 fn first_entry<'a>(
     alloc: Global,
     params: &[RegisterKind],
@@ -120,7 +120,7 @@ fn first_entry<'a>(
     Ok(entry)
 }
 
-// The kinds of the first registers as a block begins.
+// Reads the kinds of the first registers where the block with this number begins.
 fn entry_at<'a>(
     alloc: Global,
     names: &Names<'_>,
@@ -139,7 +139,8 @@ fn entry_at<'a>(
     kinds_at(alloc, names, true, part, Some(registers), kinds)
 }
 
-// As often as a whole number says: 0 for each that is none from 1 to 65,535, which no block may say.
+// Returns the number of passes that a value gives, or `None` if it is no whole number. A number outside of 1 to 65,535 becomes 0, which no
+// block may have.
 fn passes_said(json: &Value) -> Option<u32>
     ensures { result ≡ passes_said (view json.now) }
 {
@@ -150,7 +151,7 @@ fn passes_said(json: &Value) -> Option<u32>
     Some(number as u32)
 }
 
-// How often a block is passed, if it says so.
+// Reads a block's `repeat`, which may be absent.
 fn repeat_said<'a>(block: usize, json: Option<&'a Value>) -> Result<Option<u32>, OutlineError<'a>>
     ensures { Gives (λ r. r) result (repeat_said block (option_map (λ v. view v.now) json.entry)) }
 {
@@ -166,7 +167,7 @@ fn repeat_said<'a>(block: usize, json: Option<&'a Value>) -> Result<Option<u32>,
     }
 }
 
-// How often a block is passed, which it may say in the second format.
+// Reads a block's number of passes, which only the second format can give.
 fn repeat_at<'a>(
     format: Format,
     block: usize,
@@ -180,7 +181,7 @@ fn repeat_at<'a>(
     }
 }
 
-// The members that a block may have.
+// Returns the keys of the members that a block may have.
 fn keys_of_block(format: Format) -> &'static [&'static str]
     ensures { map (λ k. k.now) result.now ≡ keys_of_block format }
 {
@@ -190,7 +191,7 @@ fn keys_of_block(format: Format) -> &'static [&'static str]
     }
 }
 
-// The instructions of a block, as JSON has them.
+// Returns the entries of a block's `code`, which are its instructions.
 fn code_at<'a>(block: usize, json: &'a Value) -> Result<&'a [Value], OutlineError<'a>>
     ensures { Gives (λ s. map view s.now) result (shaped (member_of (Some block) (codes "code")) (option_map entries_of (option_and_then as_array (get (codes "code") (view json.now))))) }
 {
@@ -203,7 +204,7 @@ fn code_at<'a>(block: usize, json: &'a Value) -> Result<&'a [Value], OutlineErro
     }
 }
 
-// A block, by its number.
+// Reads the outline of the block with this number.
 #[tactic(auto, unfolding(bytecode::specs::Reading::Outline::block_at))]
 fn block_at<'a>(
     alloc: Global,
@@ -227,7 +228,7 @@ fn block_at<'a>(
     })
 }
 
-// The blocks that entries give.
+// Reads the outlines of blocks from the entries of a list.
 fn blocks_of<'a>(
     alloc: Global,
     names: &Names<'_>,
@@ -245,7 +246,7 @@ fn blocks_of<'a>(
     Ok(blocks)
 }
 
-// The entries of a list that has one at least.
+// Returns the entries of a list, or `None` if the value is no list or an empty one.
 fn some_entries(json: &Value) -> Option<&[Value]>
     ensures { option_map (λ s. map view s.now) result ≡ option_and_then some_entries (option_map entries_of (as_array (view json.now))) }
 {
@@ -262,7 +263,7 @@ fn some_entries_at<'a>(json: &'a Value, key: &'a str) -> Result<&'a [Value], Out
     }
 }
 
-// The blocks of the program.
+// Reads the program's `blocks`.
 #[tactic(auto, unfolding(bytecode::specs::Reading::Outline::blocks_at))]
 fn blocks_at<'a>(
     alloc: Global,
@@ -278,7 +279,7 @@ fn blocks_at<'a>(
     Ok(blocks)
 }
 
-// What the value says beside its instructions, or the first fault in document order.
+// Reads the outline of a program, or returns the first fault in document order.
 #[tactic(auto, unfolding(bytecode::specs::Reading::Outline::outline_in))]
 pub(crate) fn read_outline<'a>(
     alloc: Global,
@@ -313,19 +314,19 @@ pub(crate) fn read_outline<'a>(
     })
 }
 
-/// Tests what a program's value says beside its instructions: that its parts are those of the format, and that the kinds name what is there.
-/// A value that passes can be given to [`read_program`](crate::read_program), with the same names.
+/// Checks the outline of a program, which is all but its instructions: its members must be those of the format, and its kinds must name
+/// what exists. A value that passes may be given to [`read_program`](crate::read_program) with the same names.
 ///
-/// The members are `name`, `params`, `registers`, `result` and `blocks`, those of a block `in` and `code`, and in the second format `repeat`
-/// between them. A name is 1 to 64 ASCII letters, digits, `-` and `_`. There are no more parameters, and no more kinds in `in`, than
-/// registers; the first block has no `in`; there is a block at least. A kind of a register is one of a value, `some:T` of a class or
-/// interface, or `at:ID` or `at?:ID` of an object or prototype, and in `in` also `unset`. The result is a kind of values, or `none`.
-/// `repeat` is a whole number; whether a block may be repeated so often is not answered here.
+/// A program has the members `name`, `params`, `registers`, `result` and `blocks`. A block has `in` and `code`, and in the second format
+/// `repeat` between them. A name is 1 to 64 ASCII letters, digits, `-` and `_`. Neither `params` nor an `in` has more kinds than there are
+/// registers. The first block has no `in`, and there is at least one block. The kind of a register is a kind of values, `some:T` of a class
+/// or interface, or `at:ID` or `at?:ID` of an object or prototype. In `in` it may also be `unset`. The result is a kind of values, or
+/// `none`. `repeat` is a whole number, and whether it is in range is not checked here.
 ///
 /// # Errors
 ///
-/// `Refused` with the first fault: in the order of the members above, a part before what it has in it, and keys that are no members last, by
-/// their bytes. `OutOfMemory` where a list of kinds can't be made.
+/// Returns `Refused` with the first fault, in the order of the members above. A part comes before what is in it, and keys that the format
+/// does not have come last, ordered by their bytes. Returns `OutOfMemory` if a list of kinds can't be allocated.
 pub fn check_outline<'a>(
     alloc: Global,
     json: &'a Value,

@@ -1,4 +1,4 @@
-//! Reading a program.
+//! Reads a whole program.
 
 ghost use Rattle.std.specs.Prelude.{◌≡◌, All, IfOk, IfSome, None};
 ghost use Rattle.serde_json.specs.View.{view};
@@ -20,7 +20,7 @@ use bytecode::{OutlineError, Program, ProgramError};
 use serde_json::Value;
 use std::alloc::Global;
 
-// The program of an outline.
+// Reads the instructions of an outline, then checks the shape of the blocks and the limits.
 #[tactic(auto, unfolding(bytecode::specs::Reading::Programs::program_of))]
 fn program_of(
     alloc: Global,
@@ -55,22 +55,22 @@ fn program_of(
 
 /// Reads the program that a JSON value denotes.
 ///
-/// The value has passed [`check_outline`](crate::check_outline) with these names: whether its parts are those of the format is not answered
-/// here. The first block begins with the parameters in the first registers, each other block with the kinds of its `in`. The other registers
-/// are unset. What names in instructions denote, and whether registers have the right kinds, is not tested here.
+/// The value must have passed [`check_outline`](crate::check_outline) with the same names, so its members are not checked here. The first
+/// block begins with the parameters in the first registers, each other block with the kinds of its `in`. The other registers are unset. It
+/// is not checked here whether the names in instructions denote something, or whether registers have the right kinds.
 ///
 /// # Errors
 ///
-/// The first of these, in this order:
+/// Returns the first of these that applies, in this order:
 ///
-/// 1. `BadInstruction` with the block and the instruction: it is no instruction, names a register or a block that is not there, or is
-///    behind one that ends the block. Of several the first in document order is reported.
-/// 2. `BackwardJump` with the first block that leads to itself or to an earlier one.
+/// 1. `BadInstruction` with the block and the instruction, if it is no instruction, uses a register or a block that does not exist, or
+///    comes after one that ends the block. If there are several, the first one in document order is reported.
+/// 2. `BackwardJump` with the first block that leads to itself or to an earlier block.
 /// 3. `NoReturn` with the first block that does not end with a jump or a return.
-/// 4. `Limit`: more than 32 registers, else more than 64 blocks, else more than 512 instructions in all blocks together.
-/// 5. `BadRepeat` with the first block that says that it is repeated, but other than 1 to 65,535 times or without a jump at its end.
+/// 4. `Limit` if there are more than 32 registers, or else more than 64 blocks, or else more than 512 instructions in all blocks together.
+/// 5. `BadRepeat` with the first block that has a `repeat` outside of 1 to 65,535 or no jump at its end.
 ///
-/// `OutOfMemory`, in place of any of them, where a list or a text can't be made.
+/// Returns `OutOfMemory` instead of any of them if a list or a text can't be allocated.
 pub fn read_program(alloc: Global, json: &Value, names: &Names<'_>) -> Result<Program, ProgramError>
     requires { IsWellFormed (names_view names.now) (view json.now) }
     ensures read { (o : outlines.Outline) → outline_in (names_view names.now) (view json.now) ≡ Ok o → Gives program_view result (program_of (names_view names.now) o) }

@@ -1,4 +1,4 @@
-//! Kinds of registers, by their words.
+//! Reads kinds of registers from their words.
 
 ghost use Rattle.std.specs.Prelude.{◌≡◌, IfOk};
 ghost use Rattle.serde_json.specs.View.{view};
@@ -17,7 +17,7 @@ use bytecode::RegisterKind;
 use serde_json::Value;
 use ui_machine::Place;
 
-// The place of an id.
+// Returns the place of the object or prototype with this id.
 fn place_in<'a>(names: &Names<'_>, id: &'a str) -> Result<Place, KindFault<'a>>
     ensures { seen (λ p. p.0) kind_fault result ≡ place_in (names_view names.now) id.now }
 {
@@ -30,7 +30,7 @@ fn place_in<'a>(names: &Names<'_>, id: &'a str) -> Result<Place, KindFault<'a>>
     }
 }
 
-// The kind of a sort and of what a name names.
+// Returns the kind with this sort, which is what comes before the colon, and this name, which comes after it.
 fn kind_of_parts<'a>(
     names: &Names<'_>,
     sort: &str,
@@ -63,7 +63,7 @@ fn kind_of_parts<'a>(
     }
 }
 
-// The kind of a word that is not `unset`.
+// Returns the kind of a register for a word other than `unset`.
 fn kind_of_word<'a>(names: &Names<'_>, word: &'a str) -> Result<RegisterKind, KindFault<'a>>
     ensures kind { seen register_kind_view kind_fault result ≡ register_kind_by (names_view names.now) word.now (parted word.now) }
     ensures known { IfOk result (λ k. IsKnownRegister names.now.types.now k) }
@@ -77,7 +77,7 @@ fn kind_of_word<'a>(names: &Names<'_>, word: &'a str) -> Result<RegisterKind, Ki
     }
 }
 
-// The kind of a word, which may be `unset` where a register need not be set.
+// Returns the kind of a register for a word, which may be `unset` only if `may_be_unset`.
 fn kind_or_unset<'a>(
     names: &Names<'_>,
     may_be_unset: bool,
@@ -92,7 +92,7 @@ fn kind_or_unset<'a>(
     kind_of_word(names, word)
 }
 
-// The kind that a value is the word of.
+// Returns the kind of a register for the word in a JSON value. Anything but a string is no kind.
 pub(crate) fn register_kind_in<'a>(
     names: &Names<'_>,
     may_be_unset: bool,

@@ -1,4 +1,4 @@
-//! The rows of the instructions that touch registers alone.
+//! Readers for the instructions that only use registers, one for each word.
 
 ghost use Rattle.std.specs.Prelude.{IfOk};
 ghost use Rattle.serde_json.specs.View.{view};
@@ -16,7 +16,7 @@ use bytecode::{Arithmetic, Computation, Instruction, InstructionError};
 use serde_json::Value;
 use std::alloc::Global;
 
-// `const d k v`
+// Reads `const d k v`.
 #[tactic(auto, unfolding(bytecode::specs::Reading::RegisterRows::const_row))]
 pub(crate) fn read_const(
     alloc: Global,
@@ -36,7 +36,7 @@ pub(crate) fn read_const(
     })
 }
 
-// `move d s`
+// Reads `move d s`.
 #[tactic(auto, unfolding(bytecode::specs::Reading::RegisterRows::move_row))]
 pub(crate) fn read_move(scope: &Scope<'_>, json: &Value) -> Result<Instruction, InstructionError>
     ensures read { Gives instruction_view result (move_row (scope_view scope.now) (view json.now)) }
@@ -49,7 +49,7 @@ pub(crate) fn read_move(scope: &Scope<'_>, json: &Value) -> Result<Instruction, 
     })
 }
 
-// `clear d`
+// Reads `clear d`.
 #[tactic(auto, unfolding(bytecode::specs::Reading::RegisterRows::clear_row))]
 pub(crate) fn read_clear(scope: &Scope<'_>, json: &Value) -> Result<Instruction, InstructionError>
     ensures read { Gives instruction_view result (clear_row (scope_view scope.now) (view json.now)) }
@@ -62,7 +62,7 @@ pub(crate) fn read_clear(scope: &Scope<'_>, json: &Value) -> Result<Instruction,
     })
 }
 
-// `add d a b`, `sub` and `mul`
+// Reads `add d a b`, or the same with `sub` or `mul`.
 #[tactic(auto, unfolding(bytecode::specs::Reading::RegisterRows::arithmetic_row))]
 pub(crate) fn read_arithmetic(
     operation: Arithmetic,
@@ -79,7 +79,7 @@ pub(crate) fn read_arithmetic(
     })
 }
 
-// `cmp d op a b`
+// Reads `cmp d op a b`.
 #[tactic(auto, unfolding(bytecode::specs::Reading::RegisterRows::compare_row))]
 pub(crate) fn read_compare(scope: &Scope<'_>, json: &Value) -> Result<Instruction, InstructionError>
     ensures read { Gives instruction_view result (compare_row (scope_view scope.now) (view json.now)) }
@@ -96,7 +96,7 @@ pub(crate) fn read_compare(scope: &Scope<'_>, json: &Value) -> Result<Instructio
     })
 }
 
-// `same d a b`
+// Reads `same d a b`.
 #[tactic(auto, unfolding(bytecode::specs::Reading::RegisterRows::same_row))]
 pub(crate) fn read_same(scope: &Scope<'_>, json: &Value) -> Result<Instruction, InstructionError>
     ensures read { Gives instruction_view result (same_row (scope_view scope.now) (view json.now)) }
@@ -109,7 +109,7 @@ pub(crate) fn read_same(scope: &Scope<'_>, json: &Value) -> Result<Instruction, 
     })
 }
 
-// `not d a`
+// Reads `not d a`.
 #[tactic(auto, unfolding(bytecode::specs::Reading::RegisterRows::not_row))]
 pub(crate) fn read_not(scope: &Scope<'_>, json: &Value) -> Result<Instruction, InstructionError>
     ensures read { Gives instruction_view result (not_row (scope_view scope.now) (view json.now)) }
@@ -122,7 +122,7 @@ pub(crate) fn read_not(scope: &Scope<'_>, json: &Value) -> Result<Instruction, I
     })
 }
 
-// `and d a b`
+// Reads `and d a b`.
 #[tactic(auto, unfolding(bytecode::specs::Reading::RegisterRows::and_row))]
 pub(crate) fn read_and(scope: &Scope<'_>, json: &Value) -> Result<Instruction, InstructionError>
     ensures read { Gives instruction_view result (and_row (scope_view scope.now) (view json.now)) }
@@ -135,7 +135,7 @@ pub(crate) fn read_and(scope: &Scope<'_>, json: &Value) -> Result<Instruction, I
     })
 }
 
-// `or d a b`
+// Reads `or d a b`.
 #[tactic(auto, unfolding(bytecode::specs::Reading::RegisterRows::or_row))]
 pub(crate) fn read_or(scope: &Scope<'_>, json: &Value) -> Result<Instruction, InstructionError>
     ensures read { Gives instruction_view result (or_row (scope_view scope.now) (view json.now)) }
@@ -148,7 +148,7 @@ pub(crate) fn read_or(scope: &Scope<'_>, json: &Value) -> Result<Instruction, In
     })
 }
 
-// `join d a b`
+// Reads `join d a b`.
 #[tactic(auto, unfolding(bytecode::specs::Reading::RegisterRows::join_row))]
 pub(crate) fn read_join(scope: &Scope<'_>, json: &Value) -> Result<Instruction, InstructionError>
     ensures read { Gives instruction_view result (join_row (scope_view scope.now) (view json.now)) }
@@ -161,7 +161,7 @@ pub(crate) fn read_join(scope: &Scope<'_>, json: &Value) -> Result<Instruction, 
     })
 }
 
-// `convert d a k`
+// Reads `convert d a k`.
 #[tactic(auto, unfolding(bytecode::specs::Reading::RegisterRows::convert_row))]
 pub(crate) fn read_convert(scope: &Scope<'_>, json: &Value) -> Result<Instruction, InstructionError>
     ensures read { Gives instruction_view result (convert_row (scope_view scope.now) (view json.now)) }

@@ -1,13 +1,13 @@
-//! What the instructions of a program may name.
+//! The numbers and types that the instructions of a program may name.
 
 use type_tree::TypeTree;
 
-/// What the instructions of a program may name by their numbers, and the types.
+/// The register and block numbers that the instructions of a program may use, and the types that they may name.
 #[derive(Clone, Copy)]
 pub struct Scope<'a> {
     pub types: &'a TypeTree,
-    /// How many registers the program has.
+    /// The number of registers of the program.
     pub registers: usize,
-    /// How many blocks it has.
+    /// The number of blocks of the program.
     pub blocks: usize,
 }

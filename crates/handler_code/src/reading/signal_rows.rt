@@ -1,4 +1,4 @@
-//! The rows of the instructions on signals, handlers and bindings.
+//! Readers for the instructions on signals, handlers and bindings, one for each word.
 
 ghost use Rattle.std.specs.Prelude.{IfOk};
 ghost use Rattle.serde_json.specs.View.{view};
@@ -18,7 +18,7 @@ use bytecode::{Instruction, InstructionError, SignalInstruction, SourceInstructi
 use serde_json::Value;
 use std::alloc::Global;
 
-// `emit z o s D [a..]`
+// Reads `emit z o s D [a..]`.
 #[tactic(auto, unfolding(bytecode::specs::Reading::SignalRows::emit_row))]
 pub(crate) fn read_emit(
     alloc: Global,
@@ -43,7 +43,7 @@ pub(crate) fn read_emit(
     }))
 }
 
-// `connect d o s D p [options] z`
+// Reads `connect d o s D p [options] z`.
 #[tactic(auto, unfolding(bytecode::specs::Reading::SignalRows::connect_row))]
 pub(crate) fn read_connect(
     alloc: Global,
@@ -64,7 +64,7 @@ pub(crate) fn read_connect(
     }))
 }
 
-// `disconnect o p`
+// Reads `disconnect o p`.
 #[tactic(auto, unfolding(bytecode::specs::Reading::SignalRows::disconnect_row))]
 pub(crate) fn read_disconnect(
     alloc: Global,
@@ -78,7 +78,7 @@ pub(crate) fn read_disconnect(
     Ok(Instruction::Signal(SignalInstruction::Disconnect { object, program }))
 }
 
-// `block o p`
+// Reads `block o p`.
 #[tactic(auto, unfolding(bytecode::specs::Reading::SignalRows::block_row))]
 pub(crate) fn read_block(
     alloc: Global,
@@ -92,7 +92,7 @@ pub(crate) fn read_block(
     Ok(Instruction::Signal(SignalInstruction::Block { object, program }))
 }
 
-// `unblock o p`
+// Reads `unblock o p`.
 #[tactic(auto, unfolding(bytecode::specs::Reading::SignalRows::unblock_row))]
 pub(crate) fn read_unblock(
     alloc: Global,
@@ -106,7 +106,7 @@ pub(crate) fn read_unblock(
     Ok(Instruction::Signal(SignalInstruction::Unblock { object, program }))
 }
 
-// `stop`
+// Reads `stop`.
 #[tactic(auto, unfolding(bytecode::specs::Reading::SignalRows::stop_row))]
 pub(crate) fn read_stop(scope: &Scope<'_>, json: &Value) -> Result<Instruction, InstructionError>
     ensures read { Gives instruction_view result (stop_row (scope_view scope.now) (view json.now)) }
@@ -116,7 +116,7 @@ pub(crate) fn read_stop(scope: &Scope<'_>, json: &Value) -> Result<Instruction, 
     Ok(Instruction::Signal(SignalInstruction::Stop))
 }
 
-// `unbind name`
+// Reads `unbind name`.
 #[tactic(auto, unfolding(bytecode::specs::Reading::SignalRows::unbind_row))]
 pub(crate) fn read_unbind(
     alloc: Global,

@@ -1,4 +1,4 @@
-//! The rows of the instructions on sources and peers.
+//! Readers for the instructions on sources and peers, one for each word.
 
 ghost use Rattle.std.specs.Prelude.{IfOk};
 ghost use Rattle.serde_json.specs.View.{view};
@@ -18,7 +18,7 @@ use bytecode::{Call, Instruction, InstructionError, SourceInstruction};
 use serde_json::Value;
 use std::alloc::Global;
 
-// `idle d p n z`
+// Reads `idle d p n z`.
 #[tactic(auto, unfolding(bytecode::specs::Reading::SourceRows::idle_row))]
 pub(crate) fn read_idle(
     alloc: Global,
@@ -41,7 +41,7 @@ pub(crate) fn read_idle(
     }))
 }
 
-// `timeout d p n i z`
+// Reads `timeout d p n i z`.
 #[tactic(auto, unfolding(bytecode::specs::Reading::SourceRows::timeout_row))]
 pub(crate) fn read_timeout(
     alloc: Global,
@@ -66,7 +66,7 @@ pub(crate) fn read_timeout(
     }))
 }
 
-// `remove p`
+// Reads `remove p`.
 #[tactic(auto, unfolding(bytecode::specs::Reading::SourceRows::remove_row))]
 pub(crate) fn read_remove(
     alloc: Global,
@@ -80,7 +80,7 @@ pub(crate) fn read_remove(
     Ok(Instruction::Source(SourceInstruction::Remove(program)))
 }
 
-// `call d o m [a..]`
+// Reads `call d o m [a..]`.
 #[tactic(auto, unfolding(bytecode::specs::Reading::SourceRows::call_row))]
 pub(crate) fn read_call(
     alloc: Global,
