@@ -19,6 +19,7 @@ use Rattle.std.specs.Prelude.{codes}
 use Rattle.engine_world.specs.ConnectView.{connection_in, is_connected, is_full, left_by, told_by}
 use Rattle.engine_world.specs.EngineView.{config_of}
 use Rattle.engine_world.specs.Quiet.{IsQuiet}
+use Rattle.engine_world.specs.FirstPrograms.{rest_of}
 use Rattle.engine_world.specs.TaskView.{agenda_of}
 use Rattle.engine_world.specs.View.{world_of}
 use Rattle.engine_world.specs.declared.connections.Outcome.{Outcome}
@@ -125,41 +126,41 @@ told_full d outcomes.Full w x full = refl
 -- a register is written behind the connection, and then perhaps the line is said
 module _ (d : Definition) (e m : Engine) (f : Frame) (to object : ℕ) (k : Connect) (x : Connection) (o : Outcome)
     (meant : connection_in d (world_of e.world) f object k ≡ Ok x)
-    (comes : connected d (world_of e.world) (to_connect (agenda_of d e)) x ≡ told_by d o (world_of e.world) x)
-    (agenda : agenda_of d m ≡ agenda_of d e) (count : m.counted ≡ e.counted) (b : Bool) (answers : b ≡ is_connected o) where
+    (comes : connected d (world_of e.world) (to_connect (rest_of d e)) x ≡ told_by d o (world_of e.world) x)
+    (agenda : rest_of d m ≡ rest_of d e) (count : m.counted ≡ e.counted) (b : Bool) (answers : b ≡ is_connected o) where
   abbrev written_behind : Answer Config
-  written_behind = left m.counted (in_front (agenda_of d m) (written_to (world_of m.world) to (Some (values.bool b)) f))
+  written_behind = left m.counted (in_front (rest_of d m) (written_to (world_of m.world) to (Some (values.bool b)) f))
 
   abbrev connect_so : Answer Config
-  connect_so = left e.counted (in_front (agenda_of d e) (connecting d (world_of e.world) (agenda_of d e) f to object k))
+  connect_so = left e.counted (in_front (rest_of d e) (connecting d (world_of e.world) (rest_of d e) f to object k))
 
-  same_place : written_behind ≡ left e.counted (in_front (agenda_of d e) (written_to (world_of m.world) to (Some (values.bool (is_connected o))) f))
+  same_place : written_behind ≡ left e.counted (in_front (rest_of d e) (written_to (world_of m.world) to (Some (values.bool (is_connected o))) f))
   same_place =
       ap (λ (ts : List Task). left m.counted (in_front ts (written_to (world_of m.world) to (Some (values.bool b)) f))) agenda
-      ∙ ap (λ n. left n (in_front (agenda_of d e) (written_to (world_of m.world) to (Some (values.bool b)) f))) count
-      ∙ ap (λ c. left e.counted (in_front (agenda_of d e) (written_to (world_of m.world) to (Some (values.bool c)) f))) answers
+      ∙ ap (λ n. left n (in_front (rest_of d e) (written_to (world_of m.world) to (Some (values.bool b)) f))) count
+      ∙ ap (λ c. left e.counted (in_front (rest_of d e) (written_to (world_of m.world) to (Some (values.bool c)) f))) answers
 
-  as_told : connect_so ≡ left e.counted (in_front (agenda_of d e) (written_to (told_by d o (world_of e.world) x).state to (Some (values.bool (is_connected o))) f))
-  as_told = ap (λ (a : Answer Started). left e.counted (in_front (agenda_of d e) a)) (connect_tells d (world_of e.world) (agenda_of d e) f to object k x o meant comes)
+  as_told : connect_so ≡ left e.counted (in_front (rest_of d e) (written_to (told_by d o (world_of e.world) x).state to (Some (values.bool (is_connected o))) f))
+  as_told = ap (λ (a : Answer Started). left e.counted (in_front (rest_of d e) a)) (connect_tells d (world_of e.world) (rest_of d e) f to object k x o meant comes)
 
   -- no arm stops the write where none stops the program
   pub written_able : Able connect_so → Able written_behind
   written_able able =
-      let told : Able (left e.counted (in_front (agenda_of d e) (written_to (told_by d o (world_of e.world) x).state to (Some (values.bool (is_connected o))) f))) = able_as as_told able in
-      able_as (sym same_place) (written_able_elsewhere e.counted (agenda_of d e) to (Some (values.bool (is_connected o))) f (told_by d o (world_of e.world) x).state (world_of m.world) told)
+      let told : Able (left e.counted (in_front (rest_of d e) (written_to (told_by d o (world_of e.world) x).state to (Some (values.bool (is_connected o))) f))) = able_as as_told able in
+      able_as (sym same_place) (written_able_elsewhere e.counted (rest_of d e) to (Some (values.bool (is_connected o))) f (told_by d o (world_of e.world) x).state (world_of m.world) told)
 
   -- all that is left
   pub connect_written : (mid new : Engine) → written_behind ≡ Ok (config_of d mid) → world_of new.world ≡ (told_by d o (world_of e.world) x).state
       → agenda_of d new ≡ agenda_of d mid → new.counted ≡ mid.counted → connect_so ≡ Ok (config_of d new)
   connect_written mid new wrote world tasks counted =
       as_told
-      ∙ (written_elsewhere e.counted (agenda_of d e) to (Some (values.bool (is_connected o))) f (world_of m.world) (told_by d o (world_of e.world) x).state (config_of d mid) (sym same_place ∙ wrote)).1
+      ∙ (written_elsewhere e.counted (rest_of d e) to (Some (values.bool (is_connected o))) f (world_of m.world) (told_by d o (world_of e.world) x).state (config_of d mid) (sym same_place ∙ wrote)).1
       ∙ rw (world, tasks, counted) refl
 
   -- the world behind the write
   pub connect_world_behind : (mid : Engine) → written_behind ≡ Ok (config_of d mid) → world_of mid.world ≡ world_of m.world
   connect_world_behind mid wrote =
-      (written_elsewhere e.counted (agenda_of d e) to (Some (values.bool (is_connected o))) f (world_of m.world) (world_of m.world) (config_of d mid) (sym same_place ∙ wrote)).0
+      (written_elsewhere e.counted (rest_of d e) to (Some (values.bool (is_connected o))) f (world_of m.world) (world_of m.world) (config_of d mid) (sym same_place ∙ wrote)).0
 
 -- no line is reported by the connection itself
 pub left_quiet : (o : Outcome) (w : World) (x : Connection) → IsQuiet w (left_by o w x)

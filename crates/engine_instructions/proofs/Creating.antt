@@ -24,6 +24,7 @@ use Rattle.ui_machine.specs.Steps.{left}
 use Rattle.definition_format.specs.Meaning.{IsBasic, is_object, object_count}
 use Rattle.engine_instructions.specs.CreateView.{Prototype, created, created_if, has_room, prototype_named}
 use Rattle.engine_world.specs.EngineView.{config_of}
+use Rattle.engine_world.specs.FirstPrograms.{rest_of}
 use Rattle.engine_world.specs.TaskView.{agenda_of, build_end, build_from, connects_from, item_of, signals_of, binds_from}
 use Rattle.engine_world.specs.View.{world_of}
 use Rattle.engine_world.specs.declared.engine.Engine.{Engine}
@@ -101,37 +102,37 @@ module _ (n : ℕ) (rest : List Task) (to : ℕ) (v : Option Value) (f : Frame) 
       by (Ok r) able = tt
 
 module _ (d : Definition) (e m : Engine) (f : Frame) (to place : ℕ) (peer : Option ℕ) (u : World) (t : Task) (v : Value) (made : making d (world_of e.world) place peer false ≡ starts u (t ∷ []))
-    (agenda : agenda_of d m ≡ agenda_of d e) (count : m.counted ≡ e.counted) (names : v ≡ values.object (Some (suc (length (world_of e.world).objects)))) where
+    (agenda : rest_of d m ≡ rest_of d e) (count : m.counted ≡ e.counted) (names : v ≡ values.object (Some (suc (length (world_of e.world).objects)))) where
   abbrev writing_so : Answer Config
-  writing_so = left m.counted (in_front (agenda_of d m) (written_to (world_of m.world) to (Some v) f))
+  writing_so = left m.counted (in_front (rest_of d m) (written_to (world_of m.world) to (Some v) f))
 
   abbrev creating_so : Answer Config
-  creating_so = left e.counted (in_front (agenda_of d e) (created d (world_of e.world) f to place peer))
+  creating_so = left e.counted (in_front (rest_of d e) (created d (world_of e.world) f to place peer))
 
-  same_place : writing_so ≡ left e.counted (in_front (agenda_of d e) (written_to (world_of m.world) to (Some v) f))
+  same_place : writing_so ≡ left e.counted (in_front (rest_of d e) (written_to (world_of m.world) to (Some v) f))
   same_place =
       ap (λ (ts : List Task). left m.counted (in_front ts (written_to (world_of m.world) to (Some v) f))) agenda
-      ∙ ap (λ n. left n (in_front (agenda_of d e) (written_to (world_of m.world) to (Some v) f))) count
+      ∙ ap (λ n. left n (in_front (rest_of d e) (written_to (world_of m.world) to (Some v) f))) count
 
-  as_made : creating_so ≡ goes_behind e.counted (agenda_of d e) to (Some v) f u t (with_register to (Some v) f.registers)
+  as_made : creating_so ≡ goes_behind e.counted (rest_of d e) to (Some v) f u t (with_register to (Some v) f.registers)
   unfolding created
   as_made =
-      ap (λ (a : Answer Started). left e.counted (in_front (agenda_of d e) (a >>= λ (s : Started).
+      ap (λ (a : Answer Started). left e.counted (in_front (rest_of d e) (a >>= λ (s : Started).
       with_register to (Some (values.object (Some (suc (length (world_of e.world).objects))))) f.registers >>= λ (r : Registers). goes_on s.world s.tasks (record f { registers = r })))) made
-      ∙ ap (λ (x : Value). goes_behind e.counted (agenda_of d e) to (Some x) f u t (with_register to (Some x) f.registers)) (sym names)
+      ∙ ap (λ (x : Value). goes_behind e.counted (rest_of d e) to (Some x) f u t (with_register to (Some x) f.registers)) (sym names)
 
   -- no arm stops the write where none stops the program
   pub write_able : Able creating_so → Able writing_so
-  write_able able = able_as (sym same_place) (able_before e.counted (agenda_of d e) to (Some v) f (world_of m.world) u t (able_as as_made able))
+  write_able able = able_as (sym same_place) (able_before e.counted (rest_of d e) to (Some v) f (world_of m.world) u t (able_as as_made able))
 
   module _ (mid : Engine) (wrote : writing_so ≡ Ok (config_of d mid)) where
     pub create_world : world_of mid.world ≡ world_of m.world
-    create_world = (written_behind e.counted (agenda_of d e) to (Some v) f (world_of m.world) u t (config_of d mid) (sym same_place ∙ wrote)).0
+    create_world = (written_behind e.counted (rest_of d e) to (Some v) f (world_of m.world) u t (config_of d mid) (sym same_place ∙ wrote)).0
 
     -- all that is left
     pub create_written : (new : Engine) → world_of new.world ≡ u → agenda_of d new ≡ t ∷ agenda_of d mid → new.counted ≡ mid.counted → creating_so ≡ Ok (config_of d new)
     create_written new world tasks counted =
-        as_made ∙ (written_behind e.counted (agenda_of d e) to (Some v) f (world_of m.world) u t (config_of d mid) (sym same_place ∙ wrote)).1 ∙ rw (world, tasks, counted) refl
+        as_made ∙ (written_behind e.counted (rest_of d e) to (Some v) f (world_of m.world) u t (config_of d mid) (sym same_place ∙ wrote)).1 ∙ rw (world, tasks, counted) refl
 
 -- ** how many objects are still to be made
 

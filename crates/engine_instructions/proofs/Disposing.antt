@@ -28,6 +28,7 @@ use Rattle.engine_world.specs.Able.{Able, Leads, LeadsWithoutGone}
 use Rattle.engine_world.specs.Counting.{KeepsCounts}
 use Rattle.engine_world.specs.EngineView.{config_of}
 use Rattle.engine_world.specs.Standing.{gone_handlers}
+use Rattle.engine_world.specs.FirstPrograms.{rest_of}
 use Rattle.engine_world.specs.TaskView.{agenda_of, tasks_of}
 use Rattle.engine_world.specs.View.{held_of, world_of}
 use Rattle.engine_world.specs.declared.engine.Engine.{Engine}
@@ -57,25 +58,25 @@ keeps_disposed d e t hs bs w gone id closing disposes closes only is left =
 -- ** by a program
 
 module _ (d : Definition) (e b new : Engine) (f : Frame) (object id : ℕ) (is : operand_in (world_of e.world) f object ≡ Ok id) (first : is_disposed (living e.world.table.objects id) ≡ false)
-    (beside : b ≡ record e { stack = b.stack }) (agenda : agenda_of d b ≡ Running f ∷ agenda_of d e) where
+    (beside : b ≡ record e { stack = b.stack }) (agenda : agenda_of d b ≡ Running f ∷ rest_of d e) where
   -- its part is not stuck where the instruction is not
-  pub disposes_able : Able (left e.counted (in_front (agenda_of d e) (disposing d (world_of e.world) f object))) → Able (disposed d (world_of b.world) id)
+  pub disposes_able : Able (left e.counted (in_front (rest_of d e) (disposing d (world_of e.world) f object))) → Able (disposed d (world_of b.world) id)
   disposes_able able =
       subst (λ (w : World). Able (disposed d w id)) (sym (world_pushed d e b f beside))
       (none_stops (disposed d (world_of e.world) id) (λ arm stuck. no_arm _ arm able
-      (stops_left e.counted (agenda_of d e) (disposing d (world_of e.world) f object) (halts.Stuck arm) (dispose_stuck d (world_of e.world) f object id is first arm stuck))))
+      (stops_left e.counted (rest_of d e) (disposing d (world_of e.world) f object) (halts.Stuck arm) (dispose_stuck d (world_of e.world) f object id is first arm stuck))))
 
   pub disposes_behind : {X : Type 0} (result : Result X AllocError) → Leads result (disposed d (world_of b.world) id) (world_of new.world)
       → OnOk result (agenda_of d new ≡ map (pruned (gone_handlers (world_of new.world))) (agenda_of d b)) → OnOk result (new.counted ≡ b.counted)
-      → LeadsWithoutGone result (left e.counted (in_front (agenda_of d e) (disposing d (world_of e.world) f object))) (config_of d new)
+      → LeadsWithoutGone result (left e.counted (in_front (rest_of d e) (disposing d (world_of e.world) f object))) (config_of d new)
   disposes_behind {X} result leads tasks count = by result (subst (λ (w : World). Leads result (disposed d w id) (world_of new.world)) (world_pushed d e b f beside) leads) tasks count
     where
       by : (result : Result X AllocError) → Leads result (disposed d (world_of e.world) id) (world_of new.world)
           → OnOk result (agenda_of d new ≡ map (pruned (gone_handlers (world_of new.world))) (agenda_of d b)) → OnOk result (new.counted ≡ b.counted)
-          → LeadsWithoutGone result (left e.counted (in_front (agenda_of d e) (disposing d (world_of e.world) f object))) (config_of d new)
+          → LeadsWithoutGone result (left e.counted (in_front (rest_of d e) (disposing d (world_of e.world) f object))) (config_of d new)
       by (Ok x) done tasks count = (
-        record { world = world_of new.world; agenda = Running f ∷ agenda_of d e; counted = e.counted },
-        started_left e.counted (agenda_of d e) (disposing d (world_of e.world) f object) (world_of new.world) [] f _ _ _
+        record { world = world_of new.world; agenda = Running f ∷ rest_of d e; counted = e.counted },
+        started_left e.counted (rest_of d e) (disposing d (world_of e.world) f object) (world_of new.world) [] f _ _ _
             (disposes d (world_of e.world) f object id is first (world_of new.world) done) refl refl refl,
         (let left_so = tasks ∙ ap (λ (ts : List Task). map (pruned (gone_handlers (world_of new.world))) ts) agenda in
             let counted_so = count ∙ count_pushed d e b f beside in

@@ -15,15 +15,13 @@ use Rattle.law_typing.specs.Good.Living.{IsLiving, NamesLiving, TaskNamesLiving}
 use Rattle.law_typing.specs.Verdict.Accepted.{Each}
 use Rattle.instance_tables.specs.Store.{count_of}
 use Rattle.instance_tables.proofs.Few.{option_most}
-use Rattle.frames.specs.FrameView.{frame_view}
-use Rattle.frames.specs.declared.frame.Frame as frames
 use Rattle.engine_world.specs.Able.{LeadsToLiving}
-use Rattle.engine_world.specs.Counting.{Counts, IsCounted, MayBeHeld, MayHold, in_frame, nothing}
+use Rattle.engine_world.specs.Counting.{Counts, IsCounted, MayBeHeld, MayHold, nothing}
 use Rattle.engine_world.specs.View.{world_of}
 use Rattle.engine_world.specs.declared.engine.Engine.{Engine}
 use Rattle.engine_world.proofs.Held.{counted_lives, may_counted, option_lives, register_lives, same_lives, values_live}
 use Rattle.engine_world.proofs.Named.{names_as}
-use Rattle.engine_world.proofs.Rooms.{frame_counted, register_most}
+use Rattle.engine_world.proofs.Rooms.{register_most}
 
 -- ** what lives
 
@@ -59,14 +57,14 @@ counted_may d e v room dead counted within =
     may_counted d e (λ o. in_register o v) room counted (λ o. omega (arith, register_most o v))
     (λ o held. counted_lives d counted.taken e dead counted.counts o (omega (arith, held, within o, counted.counts.exact o)))
 
-module _ (d : Definition) (e : Engine) (f : frames.Frame) (room : (d : Definition) → IsCounted d e → (o : ℕ) → count_of e.world.table.counts o + 2 ^ 64 < 2 ^ 128)
-    (counts : Counts d (λ o. in_frame o (frame_view f)) e) where
+module _ (d : Definition) (e : Engine) (room : (d : Definition) → IsCounted d e → (o : ℕ) → count_of e.world.table.counts o + 2 ^ 64 < 2 ^ 128)
+    (counts : Counts d nothing e) where
   -- what is written to a register of a program
   pub written_may : (v : Option Value) → IfSome v (NamesLiving (world_of e.world)) → MayHold e.world.table (λ o. in_register o v)
   written_may v names =
-      may_counted d e (λ o. in_register o v) room (frame_counted d e f counts) (λ o. omega (arith, register_most o v)) (λ o held. register_lives e.world.table.objects o v names held)
+      may_counted d e (λ o. in_register o v) room (all_counted d e counts) (λ o. omega (arith, register_most o v)) (λ o held. register_lives e.world.table.objects o v names held)
 
   -- the data of a source
   pub data_may : (i : Option ℕ) → IfSome i (λ id. IsSome (living e.world.table.objects id)) → MayHold e.world.table (λ o. in_option o i)
   data_may i lives =
-      may_counted d e (λ o. in_option o i) room (frame_counted d e f counts) (λ o. omega (arith, option_most o i)) (λ o held. option_lives e.world.table.objects o i lives held)
+      may_counted d e (λ o. in_option o i) room (all_counted d e counts) (λ o. omega (arith, option_most o i)) (λ o held. option_lives e.world.table.objects o i lives held)

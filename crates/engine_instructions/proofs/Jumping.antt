@@ -2,6 +2,7 @@
 use Rattle.std.proofs.Common.{◌≡◌, ◌∙◌, sym, ap, refl, ℕ, Bool, true, false, cond, List, [], ◌∷◌, Option, None, Some, IsSome, option_map, slice_get, Ok, Err}
 use Rattle.ui_machine.specs.declared.arm.Arm.{Arm}
 use Rattle.ui_machine.specs.declared.arm.Arm.TheVariants as arms
+use Rattle.ui_machine.specs.declared.arm.Halt.TheVariants as halts
 use Rattle.ui_machine.specs.Definition.{Definition}
 use Rattle.ui_machine.specs.Definition.Lookups.{program_at}
 use Rattle.ui_machine.specs.Definition.Programs.{Block, Program}
@@ -9,7 +10,7 @@ use Rattle.ui_machine.specs.Definition.Values.{Value}
 use Rattle.ui_machine.specs.Definition.Values as values
 use Rattle.ui_machine.specs.Instructions.{in_front}
 use Rattle.ui_machine.specs.Instructions.Jumps.{branching, branching_null, jumping, null_of}
-use Rattle.ui_machine.specs.Instructions.Registers.{goes_on, truth_in}
+use Rattle.ui_machine.specs.Instructions.Registers.{goes_on, truth_in, with_register, written_to}
 use Rattle.ui_machine.specs.Instructions.Registers as machine
 use Rattle.ui_machine.specs.Outcome.{Answer, known, ◌>>=◌}
 use Rattle.ui_machine.specs.Seq.{read}
@@ -19,25 +20,34 @@ use Rattle.ui_machine.specs.Steps.{left}
 use Rattle.frames.specs.Computing.{of_one, truth_of}
 use Rattle.frames.specs.FrameView.{at_block}
 use Rattle.frames.proofs.FrameSteps.{jumping_there}
+use Rattle.engine_world.specs.Able.{Able}
 use Rattle.engine_world.specs.EngineView.{config_of}
+use Rattle.engine_world.proofs.Ableness.{no_arm, none_stops}
+use Rattle.engine_world.proofs.Registers.{stops_left, write_stops}
 use Rattle.engine_instructions.specs.JumpView.{is_null}
+use Rattle.engine_world.specs.FirstPrograms.{rest_of}
 use Rattle.engine_world.specs.TaskView.{agenda_of}
 use Rattle.engine_world.specs.View.{world_of}
 use Rattle.engine_world.specs.declared.engine.Engine.{Engine}
 
 -- a program that goes on is all that is put in front
 pub goes_on_left : (d : Definition) (e new : Engine) (f : Frame) (a : Answer Started) → a ≡ goes_on (world_of e.world) [] f → new ≡ record e { stack = new.stack }
-    → agenda_of d new ≡ Running f ∷ agenda_of d e → left e.counted (in_front (agenda_of d e) a) ≡ Ok (config_of d new)
+    → agenda_of d new ≡ Running f ∷ rest_of d e → left e.counted (in_front (rest_of d e) a) ≡ Ok (config_of d new)
 unfolding left in_front
 goes_on_left d e new f a is beside agenda =
-    ap (λ (x : Answer Started). left e.counted (in_front (agenda_of d e) x)) is
+    ap (λ (x : Answer Started). left e.counted (in_front (rest_of d e) x)) is
     ∙ ap (λ (ts : List Task). Ok (record { world = world_of e.world; agenda = ts; counted = e.counted })) (sym agenda)
     ∙ ap (λ (x : Engine). Ok (record { world = world_of x.world; agenda = agenda_of d new; counted = x.counted })) (sym beside)
 
+-- a register is there where a write to it is not stuck
+pub register_able : (n : ℕ) (rest : List Task) (w : World) (f : Frame) (to : ℕ) (v : Option Value) → Able (left n (in_front rest (written_to w to v f))) → Able (with_register to v f.registers)
+register_able n rest w f to v able =
+    none_stops _ (λ arm none. no_arm _ arm able (stops_left n rest (written_to w to v f) (halts.Stuck arm) (write_stops w f to v (halts.Stuck arm) none)))
+
 -- what is stuck puts nothing there
-pub stuck_left : (d : Definition) (e : Engine) (a : Answer Started) (arm : Arm) → a ≡ Err arm → left e.counted (in_front (agenda_of d e) a) ≡ Err arm
+pub stuck_left : (d : Definition) (e : Engine) (a : Answer Started) (arm : Arm) → a ≡ Err arm → left e.counted (in_front (rest_of d e) a) ≡ Err arm
 unfolding left in_front
-stuck_left d e a arm is = ap (λ (x : Answer Started). left e.counted (in_front (agenda_of d e) x)) is
+stuck_left d e a arm is = ap (λ (x : Answer Started). left e.counted (in_front (rest_of d e) x)) is
 
 module _ (d : Definition) (w : World) (f : Frame) where
   module _ (p : Program) (is : program_at d f.program ≡ Some p) (to : ℕ) where

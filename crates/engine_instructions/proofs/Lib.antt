@@ -21,4 +21,3 @@ mod Unbinding
 mod PeerCalls
 mod Holding
 pub mod LinkedNames
-mod InPlace

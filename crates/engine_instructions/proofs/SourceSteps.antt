@@ -15,7 +15,7 @@ use Rattle.ui_machine.specs.State.Tasks.{Frame}
 use Rattle.ui_machine.specs.Steps.{left}
 use Rattle.std.specs.Prelude.{List}
 use Rattle.engine_world.specs.Able.{Able}
-use Rattle.engine_world.specs.TaskView.{agenda_of}
+use Rattle.engine_world.specs.FirstPrograms.{rest_of}
 use Rattle.engine_world.specs.View.{world_of}
 use Rattle.engine_world.specs.declared.engine.Engine.{Engine}
 use Rattle.engine_world.proofs.Ableness.{able_as, first}
@@ -50,23 +50,23 @@ module _ (d : Definition) (w : World) (f : Frame) (to : ℕ) (a : Attach) where
 
 -- a register is written behind it
 module _ (d : Definition) (e m : Engine) (f : Frame) (to : ℕ) (a : Attach) (program : ℕ) (is : program_of d a.program ≡ Some program) (arg : Option ℕ)
-    (found : data_in (world_of e.world) f a.with ≡ Ok arg) (agenda : agenda_of d m ≡ agenda_of d e) (count : m.counted ≡ e.counted) where
+    (found : data_in (world_of e.world) f a.with ≡ Ok arg) (agenda : rest_of d m ≡ rest_of d e) (count : m.counted ≡ e.counted) where
   abbrev attach_so : Answer Config
-  attach_so = left e.counted (in_front (agenda_of d e) (attaching d (world_of e.world) f to a))
+  attach_so = left e.counted (in_front (rest_of d e) (attaching d (world_of e.world) f to a))
 
   abbrev writes_behind : World → Bool → Answer Config
-  writes_behind w b = left m.counted (in_front (agenda_of d m) (written_to w to (Some (values.bool b)) f))
+  writes_behind w b = left m.counted (in_front (rest_of d m) (written_to w to (Some (values.bool b)) f))
 
   pub attached_left : sources.has_room (world_of e.world).sources (world_of e.world).last_source ≡ true → world_of m.world ≡ with_source (world_of e.world) a program arg
       → attach_so ≡ writes_behind (world_of m.world) true
   attached_left room world =
-      same_left e.counted m.counted (agenda_of d e) (agenda_of d m) _ _
+      same_left e.counted m.counted (rest_of d e) (rest_of d m) _ _
       (attaches d (world_of e.world) f to a program is arg found room ∙ ap (λ (w : World). written_to w to (Some (values.bool true)) f) (sym world)) agenda count
 
   pub unattached_left : sources.has_room (world_of e.world).sources (world_of e.world).last_source ≡ false → world_of m.world ≡ world_of e.world
       → attach_so ≡ writes_behind (said d (world_of m.world) (lines.limit a.word)) false
   unattached_left full world =
-      same_left e.counted m.counted (agenda_of d e) (agenda_of d m) _ _
+      same_left e.counted m.counted (rest_of d e) (rest_of d m) _ _
       (attaches_none d (world_of e.world) f to a program is arg found full ∙ ap (λ (w : World). written_to (said d w (lines.limit a.word)) to (Some (values.bool false)) f) (sym world)) agenda count
 
 module _ (d : Definition) (w : World) (f : Frame) (name : List ℕ) where

@@ -2,7 +2,6 @@ pub mod CollectView
 pub mod EmitView
 pub mod AttachView
 pub mod HandlersView
-pub mod InPlaceView
 pub mod JumpView
 pub mod UnbindView
 pub mod PropertyView

@@ -12,8 +12,8 @@ ghost use Rattle.ui_machine.specs.Steps.{left};
 ghost use Rattle.law_typing.specs.Good.Meanings.{KeepsMeanings, class_methods};
 ghost use Rattle.linked_programs.specs.Linked.{LinksMethod};
 ghost use Rattle.bytecode.specs.View.{number_of};
-ghost use Rattle.frames.specs.FrameView.{frame_view};
-ghost use Rattle.engine_world.specs.Counting.{Counts, in_frame, nothing};
+ghost use Rattle.engine_world.specs.FirstPrograms.{IsProgram, first_frame, rest_of};
+ghost use Rattle.engine_world.specs.Counting.{Counts, nothing};
 ghost use Rattle.engine_world.specs.EngineView.{config_of};
 ghost use Rattle.engine_world.specs.Able.{Able, Leads, LeadsToLiving};
 ghost use Rattle.engine_world.specs.Quiet.{IsQuiet};
@@ -27,10 +27,10 @@ use crate::operands::object_in;
 use bytecode::{Call, Register};
 use definitions::Definition;
 use engine_world::engine::Engine;
-use engine_world::program_frames::push_frame;
+use engine_world::program_frames::first_registers;
 use engine_world::references::push_task;
 use engine_world::task::{DueCall, Task};
-use frames::{Frame, copy_values};
+use frames::copy_values;
 use linked_programs::Link;
 use peer_shapes::MethodRef;
 use std::alloc::AllocError;
@@ -97,23 +97,23 @@ fn method_called<'a>(
 fn due_call(
     engine: &Engine,
     definition: &Definition,
-    frame: &Frame,
     call: &Call,
     link: Link,
 ) -> Result<DueCall, AllocError>
+    requires first { IsProgram engine.now }
     requires link { LinksMethod definition.now engine.now.links (string_bytes call.now.method) link }
     requires meanings { KeepsMeanings definition.now (world_of engine.now.world) }
-    requires able { Able (due_call definition.now (world_of engine.now.world) (frame_view frame.now)
+    requires able { Able (due_call definition.now (world_of engine.now.world) (first_frame engine.now)
         call.now.to.0 call.now.object.0 (string_bytes call.now.method) (map number_of call.now.args.items)) }
-    ensures { IfOk result (λ due. due_call definition.now (world_of engine.now.world) (frame_view frame.now)
+    ensures { IfOk result (λ due. due_call definition.now (world_of engine.now.world) (first_frame engine.now)
         call.now.to.0 call.now.object.0 (string_bytes call.now.method) (map number_of call.now.args.items) ≡ Ok (call_of due)) }
 {
-    let object = object_in(engine, frame, call.object);
+    let object = object_in(engine, call.object);
     let name = call.method.as_str();
     let Some(called) = method_called(engine, definition, object, name, link) else {
         unreachable!()
     };
-    let registers = frame.registers.as_slice();
+    let registers = first_registers(engine);
     let from = call.args.as_slice();
     let mut args = Vec::new(engine.alloc);
     copy_values(registers, from, &mut args)?;
@@ -130,28 +130,27 @@ fn due_call(
 pub(crate) fn call_from_program(
     engine: &mut Engine,
     definition: &Definition,
-    frame: Frame,
     call: &Call,
     link: Link,
 ) -> Result<(), AllocError>
+    requires first { IsProgram engine.now }
     requires link { LinksMethod definition.now engine.now.links (string_bytes call.now.method) link }
     requires meanings { KeepsMeanings definition.now (world_of engine.now.world) }
-    requires able { Able (left engine.now.counted (in_front (agenda_of definition.now engine.now) (calling definition.now (world_of engine.now.world) (frame_view frame)
+    requires able { Able (left engine.now.counted (in_front (rest_of definition.now engine.now) (calling definition.now (world_of engine.now.world) (first_frame engine.now)
         call.now.to.0 call.now.object.0 (string_bytes call.now.method) (map number_of call.now.args.items)))) }
-    requires names { LeadsToLiving (left engine.now.counted (in_front (agenda_of definition.now engine.now) (calling definition.now (world_of engine.now.world) (frame_view frame)
+    requires names { LeadsToLiving (left engine.now.counted (in_front (rest_of definition.now engine.now) (calling definition.now (world_of engine.now.world) (first_frame engine.now)
         call.now.to.0 call.now.object.0 (string_bytes call.now.method) (map number_of call.now.args.items)))) }
-    requires counted { Counts definition.now (λ o. in_frame o (frame_view frame)) engine.now }
-    requires room { HasRoom 2 engine.now }
+    requires counted { Counts definition.now nothing engine.now }
+    requires room { HasRoom 1 engine.now }
     ensures step { Leads result
-        (left engine.old.counted (in_front (agenda_of definition.now engine.old) (calling definition.now (world_of engine.old.world) (frame_view frame)
+        (left engine.old.counted (in_front (rest_of definition.now engine.old) (calling definition.now (world_of engine.old.world) (first_frame engine.old)
         call.now.to.0 call.now.object.0 (string_bytes call.now.method) (map number_of call.now.args.items))))
         (config_of definition.now engine.new) }
     ensures quiet { OnErr result (IsQuiet (world_of engine.old.world) (world_of engine.new.world)) }
     ensures counted { OnOk result (Counts definition.now nothing engine.new) }
     ensures room { SameRoom engine.old engine.new }
 {
-    let due = due_call(engine, definition, &frame, call, link)?;
-    push_frame(engine, frame);
+    let due = due_call(engine, definition, call, link)?;
     push_task(engine, Task::Calling(due));
     Ok(())
 }

@@ -4,11 +4,11 @@ ghost use Rattle.std.specs.Prelude.{◌≡◌, true, IfOk, Ok, OnOk, OnErr};
 ghost use Rattle.ui_machine.specs.Instructions.{in_front};
 ghost use Rattle.ui_machine.specs.Instructions.Signals.{connecting};
 ghost use Rattle.ui_machine.specs.Steps.{left};
-ghost use Rattle.frames.specs.FrameView.{frame_view};
+ghost use Rattle.engine_world.specs.FirstPrograms.{IsProgram, first_frame, rest_of};
 ghost use Rattle.bytecode.specs.View.{connect_view};
 ghost use Rattle.signal_core.specs.Connected.{connection_of};
 ghost use Rattle.engine_world.specs.ConnectView.{connection_in};
-ghost use Rattle.engine_world.specs.Counting.{Counts, in_frame, nothing};
+ghost use Rattle.engine_world.specs.Counting.{Counts, nothing};
 ghost use Rattle.engine_world.specs.EngineView.{config_of};
 ghost use Rattle.engine_world.specs.Able.{Able, Leads};
 ghost use Rattle.linked_programs.specs.Linked.{LinksConnection};
@@ -27,7 +27,6 @@ use engine_world::arguments::as_text;
 use engine_world::children::say_limit;
 use engine_world::connections::connect_handler;
 use engine_world::engine::Engine;
-use frames::Frame;
 use g_values::Value;
 use linked_programs::Link;
 use signal_core::Connection;
@@ -37,17 +36,17 @@ use std::alloc::AllocError;
 fn new_connection(
     engine: &Engine,
     definition: &Definition,
-    frame: &Frame,
     object: Register,
     connect: &Connect,
     link: Link,
 ) -> Result<Connection, AllocError>
+    requires first { IsProgram engine.now }
     requires link { LinksConnection definition.now engine.now.links (connect_view connect.now) link }
-    requires able { Able (connection_in definition.now (world_of engine.now.world) (frame_view frame.now) object.0 (connect_view connect.now)) }
-    ensures connection { IfOk result (λ c. connection_in definition.now (world_of engine.now.world) (frame_view frame.now) object.0 (connect_view connect.now) ≡ Ok (connection_of c)) }
+    requires able { Able (connection_in definition.now (world_of engine.now.world) (first_frame engine.now) object.0 (connect_view connect.now)) }
+    ensures connection { IfOk result (λ c. connection_in definition.now (world_of engine.now.world) (first_frame engine.now) object.0 (connect_view connect.now) ≡ Ok (connection_of c)) }
     ensures by_code { IfOk result (λ c. c.by_code ≡ true) }
 {
-    let object = object_in(engine, frame, object);
+    let object = object_in(engine, object);
     let signal = signal_in(engine, definition, object, connect.signal.as_str(), link);
     let detail = detail_in(
         engine,
@@ -58,7 +57,7 @@ fn new_connection(
         link,
     )?;
     let program = program_named(definition, connect.program.as_str(), link);
-    let data = data_in(engine, frame, connect.with);
+    let data = data_in(engine, connect.with);
     Ok(Connection {
         object,
         signal,
@@ -76,35 +75,28 @@ fn new_connection(
 pub(crate) fn connect_from_program(
     engine: &mut Engine,
     definition: &Definition,
-    frame: Frame,
     to: Register,
     object: Register,
     connect: &Connect,
     link: Link,
 ) -> Result<(), AllocError>
+    requires first { IsProgram engine.now }
     requires link { LinksConnection definition.now engine.now.links (connect_view connect.now) link }
-    requires able { Able (left engine.now.counted (in_front (agenda_of definition.now engine.now)
-        (connecting definition.now (world_of engine.now.world) (agenda_of definition.now engine.now) (frame_view frame) to.0 object.0 (connect_view connect.now)))) }
-    requires counted { Counts definition.now (λ o. in_frame o (frame_view frame)) engine.now }
-    requires room { HasRoom 1 engine.now }
+    requires able { Able (left engine.now.counted (in_front (rest_of definition.now engine.now)
+        (connecting definition.now (world_of engine.now.world) (rest_of definition.now engine.now) (first_frame engine.now) to.0 object.0 (connect_view connect.now)))) }
+    requires counted { Counts definition.now nothing engine.now }
     ensures step { Leads result
-        (left engine.old.counted (in_front (agenda_of definition.now engine.old)
-        (connecting definition.now (world_of engine.old.world) (agenda_of definition.now engine.old) (frame_view frame) to.0 object.0 (connect_view connect.now))))
+        (left engine.old.counted (in_front (rest_of definition.now engine.old)
+        (connecting definition.now (world_of engine.old.world) (rest_of definition.now engine.old) (first_frame engine.old) to.0 object.0 (connect_view connect.now))))
         (config_of definition.now engine.new) }
     ensures quiet { OnErr result (IsQuiet (world_of engine.old.world) (world_of engine.new.world)) }
     ensures counted { OnOk result (Counts definition.now nothing engine.new) }
     ensures room { SameRoom engine.old engine.new }
 {
-    let connection = new_connection(engine, definition, &frame, object, connect, link)?;
+    let connection = new_connection(engine, definition, object, connect, link)?;
     let outcome = connect_handler(engine, definition, connection)?;
     let is_connected = outcome.is_connected();
-    write_register(
-        engine,
-        definition,
-        frame,
-        to,
-        Some(Value::Bool(is_connected)),
-    );
+    write_register(engine, definition, to, Some(Value::Bool(is_connected)));
     if !outcome.is_full() {
         return Ok(());
     }

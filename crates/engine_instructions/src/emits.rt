@@ -4,8 +4,8 @@ ghost use Rattle.std.specs.Prelude.{◌≡◌, [], IfOk, Ok, OnOk, OnErr};
 ghost use Rattle.ui_machine.specs.Instructions.{in_front};
 ghost use Rattle.ui_machine.specs.Instructions.Signals.{emitting, signal_in};
 ghost use Rattle.ui_machine.specs.Steps.{left};
-ghost use Rattle.frames.specs.FrameView.{frame_view};
-ghost use Rattle.engine_world.specs.Counting.{Counts, in_frame, nothing};
+ghost use Rattle.engine_world.specs.FirstPrograms.{IsProgram, first_frame, rest_of};
+ghost use Rattle.engine_world.specs.Counting.{Counts, nothing};
 ghost use Rattle.engine_world.specs.EngineView.{config_of};
 ghost use Rattle.engine_instructions.specs.EmitView.{emission_by_code, emit_of};
 ghost use Rattle.engine_world.specs.Able.{Able, Leads, LeadsToLiving};
@@ -21,10 +21,10 @@ use crate::operands::object_in;
 use bytecode::Register;
 use definitions::Definition;
 use engine_world::engine::Engine;
-use engine_world::program_frames::push_frame;
+use engine_world::program_frames::first_registers;
 use engine_world::references::push_task;
 use engine_world::task::{NewEmission, Task};
-use frames::{Frame, copy_values};
+use frames::copy_values;
 use g_values::Value;
 use linked_programs::Link;
 use std::alloc::AllocError;
@@ -68,20 +68,20 @@ pub(crate) fn signal_in(
 fn new_emission(
     engine: &Engine,
     definition: &Definition,
-    frame: &Frame,
     object: Register,
     emit: Emit<'_>,
     mut args: Vec<Value>,
 ) -> Result<NewEmission, AllocError>
+    requires first { IsProgram engine.now }
     requires none { args.items ≡ [] }
     requires link { LinksEmission definition.now engine.now.links emit.signal.now (emit_of emit).detail emit.link }
-    requires able { Able (emission_by_code definition.now (world_of engine.now.world) (frame_view frame.now) object.0 (emit_of emit)) }
-    ensures { IfOk result (λ e. emission_by_code definition.now (world_of engine.now.world) (frame_view frame.now) object.0 (emit_of emit.entry) ≡ Ok (new_of e)) }
+    requires able { Able (emission_by_code definition.now (world_of engine.now.world) (first_frame engine.now) object.0 (emit_of emit)) }
+    ensures { IfOk result (λ e. emission_by_code definition.now (world_of engine.now.world) (first_frame engine.now) object.0 (emit_of emit.entry) ≡ Ok (new_of e)) }
 {
-    let object = object_in(engine, frame, object);
+    let object = object_in(engine, object);
     let signal = signal_in(engine, definition, object, emit.signal, emit.link);
     let detail = shared_detail_in(engine, definition, object, signal, emit.detail, emit.link)?;
-    let registers = frame.registers.as_slice();
+    let registers = first_registers(engine);
     copy_values(registers, emit.args, &mut args)?;
     Ok(NewEmission {
         object,
@@ -96,26 +96,25 @@ fn new_emission(
 pub(crate) fn emit_from_program(
     engine: &mut Engine,
     definition: &Definition,
-    mut frame: Frame,
     object: Register,
     emit: Emit<'_>,
 ) -> Result<(), AllocError>
+    requires first { IsProgram engine.now }
     requires link { LinksEmission definition.now engine.now.links emit.signal.now (emit_of emit).detail emit.link }
-    requires able { Able (left engine.now.counted (in_front (agenda_of definition.now engine.now) (emitting definition.now (world_of engine.now.world) (frame_view frame) object.0 (emit_of emit)))) }
-    requires names { LeadsToLiving (left engine.now.counted (in_front (agenda_of definition.now engine.now) (emitting definition.now (world_of engine.now.world) (frame_view frame) object.0 (emit_of emit)))) }
-    requires counted { Counts definition.now (λ o. in_frame o (frame_view frame)) engine.now }
-    requires room { HasRoom 2 engine.now }
+    requires able { Able (left engine.now.counted (in_front (rest_of definition.now engine.now) (emitting definition.now (world_of engine.now.world) (first_frame engine.now) object.0 (emit_of emit)))) }
+    requires names { LeadsToLiving (left engine.now.counted (in_front (rest_of definition.now engine.now) (emitting definition.now (world_of engine.now.world) (first_frame engine.now) object.0 (emit_of emit)))) }
+    requires counted { Counts definition.now nothing engine.now }
+    requires room { HasRoom 1 engine.now }
     ensures step { Leads result
-        (left engine.old.counted (in_front (agenda_of definition.now engine.old) (emitting definition.now (world_of engine.old.world) (frame_view frame) object.0 (emit_of emit.entry))))
+        (left engine.old.counted (in_front (rest_of definition.now engine.old) (emitting definition.now (world_of engine.old.world) (first_frame engine.old) object.0 (emit_of emit.entry))))
         (config_of definition.now engine.new) }
     ensures quiet { OnErr result (IsQuiet (world_of engine.old.world) (world_of engine.new.world)) }
     ensures counted { OnOk result (Counts definition.now nothing engine.new) }
     ensures room { SameRoom engine.old engine.new }
 {
     let args = engine.spare_args.take_for(engine.alloc, emit.args.len());
-    let emission = new_emission(engine, definition, &frame, object, emit, args)?;
-    frame.into = emit.into;
-    push_frame(engine, frame);
+    let emission = new_emission(engine, definition, object, emit, args)?;
+    engine.stack.wait_first(emit.into);
     push_task(engine, Task::Beginning(emission));
     Ok(())
 }

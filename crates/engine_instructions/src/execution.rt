@@ -6,14 +6,14 @@ ghost use Rattle.ui_machine.specs.Instructions.{instruction_step};
 ghost use Rattle.ui_machine.specs.Steps.{left};
 ghost use Rattle.g_values.specs.View.{IsKnown};
 ghost use Rattle.law_typing.specs.Good.Meanings.{KeepsMeanings};
-ghost use Rattle.frames.specs.FrameView.{frame_view};
+ghost use Rattle.engine_world.specs.FirstPrograms.{IsProgram, first_frame, rest_of};
 ghost use Rattle.bytecode.specs.Known.{HasKnownKinds};
 ghost use Rattle.bytecode.specs.View.{control_view, instruction_view, object_instruction_view, program_view, property_instruction_view, signal_instruction_view, source_instruction_view};
 ghost use Rattle.engine_world.specs.Quiet.{IsQuiet};
 ghost use Rattle.engine_world.specs.Room.{HasRoom, SameRoom};
 ghost use Rattle.engine_world.specs.View.{world_of};
 ghost use Rattle.engine_world.specs.TaskView.{agenda_of};
-ghost use Rattle.engine_world.specs.Counting.{Counts, in_frame, nothing};
+ghost use Rattle.engine_world.specs.Counting.{Counts, nothing};
 ghost use Rattle.engine_world.specs.EngineView.{config_of};
 ghost use Rattle.engine_world.specs.Able.{Able, Leads, LeadsToLiving, LeadsWithoutGone};
 ghost use Rattle.engine_instructions.specs.ClosedPeers.{LeavesClosed};
@@ -40,28 +40,25 @@ use bytecode::{
 };
 use definitions::Definition;
 use engine_world::engine::Engine;
-use frames::Frame;
+use engine_world::program_frames::first_frame;
 use linked_programs::Link;
 use std::alloc::AllocError;
 
-// Returns the link of an instruction that a frame has taken.
-fn link_of(
-    engine: &Engine,
-    definition: &Definition,
-    frame: &Frame,
-    instruction: &Instruction,
-) -> Link
+// Returns the link of an instruction that the program which is the first task has taken.
+fn link_of(engine: &Engine, definition: &Definition, instruction: &Instruction) -> Link
+    requires first { IsProgram engine.now }
     requires links { AreLinked definition.now engine.now.links }
-    requires taken { instruction_at definition.now (frame_view frame.now).program (frame_view frame.now).block ((frame_view frame.now).at - 1) ≡ Some (instruction_view instruction.now) }
+    requires taken { instruction_at definition.now (first_frame engine.now).program (first_frame engine.now).block ((first_frame engine.now).at - 1) ≡ Some (instruction_view instruction.now) }
     ensures { IsLink definition.now engine.now.links (instruction_view instruction.now) result }
 {
     // For the proof: the clauses speak of the definition, and of the instruction.
     let (_, _) = (definition, instruction);
+    let frame = first_frame(engine);
     let at = frame.at.saturating_sub(1);
     engine.links.link(frame.program, frame.block, at)
 }
 
-/// Carries out an instruction, which its frame has taken and which is counted already. Leaves the number of a peer that it closes in the
+/// Carries out an instruction, which the program that is the first task has taken and which is counted already. Leaves the number of a peer that it closes in the
 /// engine. Handlers that it disconnects have no more turns in the emissions that are under way.
 ///
 /// # Errors
@@ -71,52 +68,50 @@ pub fn execute(
     engine: &mut Engine,
     definition: &Definition,
     program: &Program,
-    frame: Frame,
     instruction: &Instruction,
 ) -> Result<(), AllocError>
-    requires able { Able (left engine.now.counted (instruction_step definition.now (world_of engine.now.world) (agenda_of definition.now engine.now) (frame_view frame) (instruction_view instruction.now))) }
-    requires names { LeadsToLiving (left engine.now.counted (instruction_step definition.now (world_of engine.now.world) (agenda_of definition.now engine.now) (frame_view frame) (instruction_view instruction.now))) }
-    requires program { program_at definition.now (frame_view frame).program ≡ Some (program_view program.now) }
-    requires taken { instruction_at definition.now (frame_view frame).program (frame_view frame).block ((frame_view frame).at - 1) ≡ Some (instruction_view instruction.now) }
+    requires first { IsProgram engine.now }
+    requires able { Able (left engine.now.counted (instruction_step definition.now (world_of engine.now.world) (rest_of definition.now engine.now) (first_frame engine.now) (instruction_view instruction.now))) }
+    requires names { LeadsToLiving (left engine.now.counted (instruction_step definition.now (world_of engine.now.world) (rest_of definition.now engine.now) (first_frame engine.now) (instruction_view instruction.now))) }
+    requires program { program_at definition.now (first_frame engine.now).program ≡ Some (program_view program.now) }
+    requires taken { instruction_at definition.now (first_frame engine.now).program (first_frame engine.now).block ((first_frame engine.now).at - 1) ≡ Some (instruction_view instruction.now) }
     requires known { HasKnownKinds definition.now.types instruction.now }
     requires meanings { KeepsMeanings definition.now (world_of engine.now.world) }
     requires result { IfSome program.now.result (IsKnown definition.now.types) }
-    requires counted { Counts definition.now (λ o. in_frame o (frame_view frame)) engine.now }
-    requires room { HasRoom 2 engine.now }
+    requires counted { Counts definition.now nothing engine.now }
+    requires room { HasRoom 1 engine.now }
     ensures step { LeadsWithoutGone result
-        (left engine.old.counted (instruction_step definition.now (world_of engine.old.world) (agenda_of definition.now engine.old) (frame_view frame) (instruction_view instruction.now)))
+        (left engine.old.counted (instruction_step definition.now (world_of engine.old.world) (rest_of definition.now engine.old) (first_frame engine.old) (instruction_view instruction.now)))
         (config_of definition.now engine.new) }
     ensures quiet { OnErr result (IsQuiet (world_of engine.old.world) (world_of engine.new.world)) }
-    ensures closing { OnOk result (LeavesClosed (instruction_view instruction.now) (world_of engine.old.world) (frame_view frame) engine.old.closing engine.new.closing) }
+    ensures closing { OnOk result (LeavesClosed (instruction_view instruction.now) (world_of engine.old.world) (first_frame engine.old) engine.old.closing engine.new.closing) }
     ensures counted { OnOk result (Counts definition.now nothing engine.new) }
     ensures room { SameRoom engine.old engine.new }
 {
     match instruction {
         Instruction::Compute { to, computation } => {
-            compute_register(engine, definition, frame, *to, computation)
+            compute_register(engine, definition, *to, computation)
         }
-        Instruction::Control(control) => {
-            execute_control(engine, definition, program, frame, control)
-        }
+        Instruction::Control(control) => { execute_control(engine, definition, program, control) }
         Instruction::Property(property) => {
-            let link = link_of(engine, definition, &frame, instruction);
-            execute_on_properties(engine, definition, frame, property, link)
+            let link = link_of(engine, definition, instruction);
+            execute_on_properties(engine, definition, property, link)
         }
         Instruction::Object(object) => {
-            let link = link_of(engine, definition, &frame, instruction);
-            execute_on_objects(engine, definition, frame, object, link)
+            let link = link_of(engine, definition, instruction);
+            execute_on_objects(engine, definition, object, link)
         }
         Instruction::Signal(signal) => {
-            let link = link_of(engine, definition, &frame, instruction);
-            execute_on_signals(engine, definition, frame, signal, link)
+            let link = link_of(engine, definition, instruction);
+            execute_on_signals(engine, definition, signal, link)
         }
         Instruction::Source(source) => {
-            let link = link_of(engine, definition, &frame, instruction);
-            execute_on_sources(engine, definition, frame, source, link)
+            let link = link_of(engine, definition, instruction);
+            execute_on_sources(engine, definition, source, link)
         }
         Instruction::Peer(call) => {
-            let link = link_of(engine, definition, &frame, instruction);
-            call_from_program(engine, definition, frame, call, link)
+            let link = link_of(engine, definition, instruction);
+            call_from_program(engine, definition, call, link)
         }
     }
 }
@@ -126,35 +121,34 @@ fn execute_control(
     engine: &mut Engine,
     definition: &Definition,
     program: &Program,
-    frame: Frame,
     instruction: &ControlInstruction,
 ) -> Result<(), AllocError>
-    requires able { Able (left engine.now.counted (instruction_step definition.now (world_of engine.now.world) (agenda_of definition.now engine.now) (frame_view frame) (control_view instruction.now))) }
-    requires program { program_at definition.now (frame_view frame).program ≡ Some (program_view program.now) }
+    requires first { IsProgram engine.now }
+    requires able { Able (left engine.now.counted (instruction_step definition.now (world_of engine.now.world) (rest_of definition.now engine.now) (first_frame engine.now) (control_view instruction.now))) }
+    requires program { program_at definition.now (first_frame engine.now).program ≡ Some (program_view program.now) }
     requires result { IfSome program.now.result (IsKnown definition.now.types) }
-    requires counted { Counts definition.now (λ o. in_frame o (frame_view frame)) engine.now }
-    requires room { HasRoom 1 engine.now }
+    requires counted { Counts definition.now nothing engine.now }
     ensures step { Leads result
-        (left engine.old.counted (instruction_step definition.now (world_of engine.old.world) (agenda_of definition.now engine.old) (frame_view frame) (control_view instruction.now)))
+        (left engine.old.counted (instruction_step definition.now (world_of engine.old.world) (rest_of definition.now engine.old) (first_frame engine.old) (control_view instruction.now)))
         (config_of definition.now engine.new) }
     ensures quiet { OnErr result (IsQuiet (world_of engine.old.world) (world_of engine.new.world)) }
     ensures counted { OnOk result (Counts definition.now nothing engine.new) }
     ensures room { SameRoom engine.old engine.new }
 {
     match instruction {
-        ControlInstruction::Jump(to) => jump(engine, definition, program, frame, *to),
+        ControlInstruction::Jump(to) => jump(engine, definition, program, *to),
         ControlInstruction::Branch {
             on,
             then_to,
             else_to,
-        } => branch(engine, definition, program, frame, *on, *then_to, *else_to),
+        } => branch(engine, definition, program, *on, *then_to, *else_to),
         ControlInstruction::BranchNull {
             on,
             then_to,
             else_to,
-        } => branch_null(engine, definition, program, frame, *on, *then_to, *else_to),
+        } => branch_null(engine, definition, program, *on, *then_to, *else_to),
         ControlInstruction::Return(from) => {
-            return_from_program(engine, definition, program, frame, *from)?;
+            return_from_program(engine, definition, program, *from)?;
         }
     }
     Ok(())
@@ -164,17 +158,17 @@ fn execute_control(
 fn execute_on_properties(
     engine: &mut Engine,
     definition: &Definition,
-    frame: Frame,
     instruction: &PropertyInstruction,
     link: Link,
 ) -> Result<(), AllocError>
+    requires first { IsProgram engine.now }
     requires link { IsLink definition.now engine.now.links (property_instruction_view instruction.now) link }
-    requires able { Able (left engine.now.counted (instruction_step definition.now (world_of engine.now.world) (agenda_of definition.now engine.now) (frame_view frame) (property_instruction_view instruction.now))) }
-    requires names { LeadsToLiving (left engine.now.counted (instruction_step definition.now (world_of engine.now.world) (agenda_of definition.now engine.now) (frame_view frame) (property_instruction_view instruction.now))) }
-    requires counted { Counts definition.now (λ o. in_frame o (frame_view frame)) engine.now }
-    requires room { HasRoom 2 engine.now }
+    requires able { Able (left engine.now.counted (instruction_step definition.now (world_of engine.now.world) (rest_of definition.now engine.now) (first_frame engine.now) (property_instruction_view instruction.now))) }
+    requires names { LeadsToLiving (left engine.now.counted (instruction_step definition.now (world_of engine.now.world) (rest_of definition.now engine.now) (first_frame engine.now) (property_instruction_view instruction.now))) }
+    requires counted { Counts definition.now nothing engine.now }
+    requires room { HasRoom 1 engine.now }
     ensures step { Leads result
-        (left engine.old.counted (instruction_step definition.now (world_of engine.old.world) (agenda_of definition.now engine.old) (frame_view frame) (property_instruction_view instruction.now)))
+        (left engine.old.counted (instruction_step definition.now (world_of engine.old.world) (rest_of definition.now engine.old) (first_frame engine.old) (property_instruction_view instruction.now)))
         (config_of definition.now engine.new) }
     ensures quiet { OnErr result (IsQuiet (world_of engine.old.world) (world_of engine.new.world)) }
     ensures counted { OnOk result (Counts definition.now nothing engine.new) }
@@ -185,33 +179,17 @@ fn execute_on_properties(
             to,
             object,
             property,
-        } => get_property(
-            engine,
-            definition,
-            frame,
-            *to,
-            *object,
-            property.as_str(),
-            link,
-        )?,
+        } => get_property(engine, definition, *to, *object, property.as_str(), link)?,
         PropertyInstruction::Set {
             object,
             property,
             from,
-        } => set_property(
-            engine,
-            definition,
-            frame,
-            *object,
-            property.as_str(),
-            *from,
-            link,
-        )?,
+        } => set_property(engine, definition, *object, property.as_str(), *from, link)?,
         PropertyInstruction::Notify { object, property } => {
-            notify_from_program(engine, definition, frame, *object, property.as_str(), link)?;
+            notify_from_program(engine, definition, *object, property.as_str(), link)?;
         }
-        PropertyInstruction::Freeze(object) => freeze_notify(engine, definition, frame, *object),
-        PropertyInstruction::Thaw(object) => thaw_notify(engine, definition, frame, *object),
+        PropertyInstruction::Freeze(object) => freeze_notify(engine, definition, *object),
+        PropertyInstruction::Thaw(object) => thaw_notify(engine, definition, *object),
     }
     Ok(())
 }
@@ -220,40 +198,33 @@ fn execute_on_properties(
 fn execute_on_objects(
     engine: &mut Engine,
     definition: &Definition,
-    frame: Frame,
     instruction: &ObjectInstruction,
     link: Link,
 ) -> Result<(), AllocError>
+    requires first { IsProgram engine.now }
     requires link { IsLink definition.now engine.now.links (object_instruction_view instruction.now) link }
-    requires able { Able (left engine.now.counted (instruction_step definition.now (world_of engine.now.world) (agenda_of definition.now engine.now) (frame_view frame) (object_instruction_view instruction.now))) }
-    requires names { LeadsToLiving (left engine.now.counted (instruction_step definition.now (world_of engine.now.world) (agenda_of definition.now engine.now) (frame_view frame) (object_instruction_view instruction.now))) }
-    requires counted { Counts definition.now (λ o. in_frame o (frame_view frame)) engine.now }
-    requires room { HasRoom 2 engine.now }
+    requires able { Able (left engine.now.counted (instruction_step definition.now (world_of engine.now.world) (rest_of definition.now engine.now) (first_frame engine.now) (object_instruction_view instruction.now))) }
+    requires names { LeadsToLiving (left engine.now.counted (instruction_step definition.now (world_of engine.now.world) (rest_of definition.now engine.now) (first_frame engine.now) (object_instruction_view instruction.now))) }
+    requires counted { Counts definition.now nothing engine.now }
+    requires room { HasRoom 1 engine.now }
     ensures step { LeadsWithoutGone result
-        (left engine.old.counted (instruction_step definition.now (world_of engine.old.world) (agenda_of definition.now engine.old) (frame_view frame) (object_instruction_view instruction.now)))
+        (left engine.old.counted (instruction_step definition.now (world_of engine.old.world) (rest_of definition.now engine.old) (first_frame engine.old) (object_instruction_view instruction.now)))
         (config_of definition.now engine.new) }
     ensures quiet { OnErr result (IsQuiet (world_of engine.old.world) (world_of engine.new.world)) }
-    ensures closing { OnOk result (LeavesClosed (object_instruction_view instruction.now) (world_of engine.old.world) (frame_view frame) engine.old.closing engine.new.closing) }
+    ensures closing { OnOk result (LeavesClosed (object_instruction_view instruction.now) (world_of engine.old.world) (first_frame engine.old) engine.old.closing engine.new.closing) }
     ensures counted { OnOk result (Counts definition.now nothing engine.new) }
     ensures room { SameRoom engine.old engine.new }
 {
     match instruction {
         ObjectInstruction::LookUp { to, id } => {
-            look_up_object(engine, definition, frame, *to, id.as_str(), link);
+            look_up_object(engine, definition, *to, id.as_str(), link);
         }
-        ObjectInstruction::New { to, id } => create(
-            engine,
-            definition,
-            frame,
-            *to,
-            id.as_str(),
-            link,
-        )?,
-        ObjectInstruction::Sink(object) => sink(engine, definition, frame, *object),
-        ObjectInstruction::Orphan(object) => orphan(engine, definition, frame, *object)?,
-        ObjectInstruction::Dispose(object) => run_dispose(engine, definition, frame, *object)?,
+        ObjectInstruction::New { to, id } => create(engine, definition, *to, id.as_str(), link)?,
+        ObjectInstruction::Sink(object) => sink(engine, definition, *object),
+        ObjectInstruction::Orphan(object) => orphan(engine, definition, *object)?,
+        ObjectInstruction::Dispose(object) => run_dispose(engine, definition, *object)?,
         ObjectInstruction::Adopt { to, parent, child } => {
-            adopt_from_program(engine, definition, frame, *to, *parent, *child)?;
+            adopt_from_program(engine, definition, *to, *parent, *child)?;
         }
     }
     Ok(())
@@ -263,17 +234,17 @@ fn execute_on_objects(
 fn execute_on_signals(
     engine: &mut Engine,
     definition: &Definition,
-    frame: Frame,
     instruction: &SignalInstruction,
     link: Link,
 ) -> Result<(), AllocError>
+    requires first { IsProgram engine.now }
     requires link { IsLink definition.now engine.now.links (signal_instruction_view instruction.now) link }
-    requires able { Able (left engine.now.counted (instruction_step definition.now (world_of engine.now.world) (agenda_of definition.now engine.now) (frame_view frame) (signal_instruction_view instruction.now))) }
-    requires names { LeadsToLiving (left engine.now.counted (instruction_step definition.now (world_of engine.now.world) (agenda_of definition.now engine.now) (frame_view frame) (signal_instruction_view instruction.now))) }
-    requires counted { Counts definition.now (λ o. in_frame o (frame_view frame)) engine.now }
-    requires room { HasRoom 2 engine.now }
+    requires able { Able (left engine.now.counted (instruction_step definition.now (world_of engine.now.world) (rest_of definition.now engine.now) (first_frame engine.now) (signal_instruction_view instruction.now))) }
+    requires names { LeadsToLiving (left engine.now.counted (instruction_step definition.now (world_of engine.now.world) (rest_of definition.now engine.now) (first_frame engine.now) (signal_instruction_view instruction.now))) }
+    requires counted { Counts definition.now nothing engine.now }
+    requires room { HasRoom 1 engine.now }
     ensures step { LeadsWithoutGone result
-        (left engine.old.counted (instruction_step definition.now (world_of engine.old.world) (agenda_of definition.now engine.old) (frame_view frame) (signal_instruction_view instruction.now)))
+        (left engine.old.counted (instruction_step definition.now (world_of engine.old.world) (rest_of definition.now engine.old) (first_frame engine.old) (signal_instruction_view instruction.now)))
         (config_of definition.now engine.new) }
     ensures quiet { OnErr result (IsQuiet (world_of engine.old.world) (world_of engine.new.world)) }
     ensures counted { OnOk result (Counts definition.now nothing engine.new) }
@@ -294,23 +265,23 @@ fn execute_on_signals(
                 args: args.as_slice(),
                 link,
             };
-            emit_from_program(engine, definition, frame, *object, emit)?;
+            emit_from_program(engine, definition, *object, emit)?;
         }
         SignalInstruction::Connect {
             to,
             object,
             connection,
-        } => connect_from_program(engine, definition, frame, *to, *object, connection, link)?,
+        } => connect_from_program(engine, definition, *to, *object, connection, link)?,
         SignalInstruction::Disconnect { object, program } => {
-            disconnect_matched(engine, definition, frame, *object, program.as_str(), link);
+            disconnect_matched(engine, definition, *object, program.as_str(), link);
         }
         SignalInstruction::Block { object, program } => {
-            block_matched(engine, definition, frame, *object, program.as_str(), link);
+            block_matched(engine, definition, *object, program.as_str(), link);
         }
         SignalInstruction::Unblock { object, program } => {
-            unblock_matched(engine, definition, frame, *object, program.as_str(), link);
+            unblock_matched(engine, definition, *object, program.as_str(), link);
         }
-        SignalInstruction::Stop => stop_from_program(engine, definition, frame),
+        SignalInstruction::Stop => stop_from_program(engine, definition),
     }
     Ok(())
 }
@@ -319,17 +290,16 @@ fn execute_on_signals(
 fn execute_on_sources(
     engine: &mut Engine,
     definition: &Definition,
-    frame: Frame,
     instruction: &SourceInstruction,
     link: Link,
 ) -> Result<(), AllocError>
+    requires first { IsProgram engine.now }
     requires link { IsLink definition.now engine.now.links (source_instruction_view instruction.now) link }
     requires meanings { KeepsMeanings definition.now (world_of engine.now.world) }
-    requires able { Able (left engine.now.counted (instruction_step definition.now (world_of engine.now.world) (agenda_of definition.now engine.now) (frame_view frame) (source_instruction_view instruction.now))) }
-    requires counted { Counts definition.now (λ o. in_frame o (frame_view frame)) engine.now }
-    requires room { HasRoom 1 engine.now }
+    requires able { Able (left engine.now.counted (instruction_step definition.now (world_of engine.now.world) (rest_of definition.now engine.now) (first_frame engine.now) (source_instruction_view instruction.now))) }
+    requires counted { Counts definition.now nothing engine.now }
     ensures step { Leads result
-        (left engine.old.counted (instruction_step definition.now (world_of engine.old.world) (agenda_of definition.now engine.old) (frame_view frame) (source_instruction_view instruction.now)))
+        (left engine.old.counted (instruction_step definition.now (world_of engine.old.world) (rest_of definition.now engine.old) (first_frame engine.old) (source_instruction_view instruction.now)))
         (config_of definition.now engine.new) }
     ensures quiet { OnErr result (IsQuiet (world_of engine.old.world) (world_of engine.new.world)) }
     ensures counted { OnOk result (Counts definition.now nothing engine.new) }
@@ -337,7 +307,7 @@ fn execute_on_sources(
 {
     match instruction {
         SourceInstruction::Unbind(name) => {
-            unbind_from_program(engine, definition, frame, name.as_str(), link);
+            unbind_from_program(engine, definition, name.as_str(), link);
         }
         SourceInstruction::Idle {
             to,
@@ -353,7 +323,7 @@ fn execute_on_sources(
                 interval: None,
                 with: *with,
             };
-            attach_from_program(engine, definition, frame, *to, attach)?;
+            attach_from_program(engine, definition, *to, attach)?;
         }
         SourceInstruction::Timeout {
             to,
@@ -370,10 +340,10 @@ fn execute_on_sources(
                 interval: Some(*interval),
                 with: *with,
             };
-            attach_from_program(engine, definition, frame, *to, attach)?;
+            attach_from_program(engine, definition, *to, attach)?;
         }
         SourceInstruction::Remove(program) => {
-            remove_from_program(engine, definition, frame, program.as_str(), link);
+            remove_from_program(engine, definition, program.as_str(), link);
         }
     }
     Ok(())

@@ -8,22 +8,22 @@ ghost use Rattle.ui_machine.specs.Seq.{read};
 ghost use Rattle.ui_machine.specs.Steps.{left};
 ghost use Rattle.bytecode.specs.Computing.{registers_of};
 ghost use Rattle.frames.specs.Computing.{of_one};
-ghost use Rattle.frames.specs.FrameView.{frame_view};
+ghost use Rattle.engine_world.specs.FirstPrograms.{IsProgram, first_frame, rest_of};
 ghost use Rattle.bytecode.specs.View.{program_view};
 ghost use Rattle.engine_world.specs.Able.{Able, Leads};
 ghost use Rattle.engine_world.specs.Quiet.{IsQuiet};
 ghost use Rattle.engine_world.specs.Room.{HasRoom, SameRoom};
 ghost use Rattle.engine_world.specs.View.{world_of};
 ghost use Rattle.engine_world.specs.TaskView.{agenda_of};
-ghost use Rattle.engine_world.specs.Counting.{Counts, in_frame, nothing};
+ghost use Rattle.engine_world.specs.Counting.{Counts, nothing};
 ghost use Rattle.engine_world.specs.EngineView.{config_of};
 ghost use Rattle.engine_instructions.specs.JumpView.{is_null};
 
 use bytecode::{BlockNumber, Program, Register};
 use definitions::Definition;
 use engine_world::engine::Engine;
-use engine_world::program_frames::push_frame;
-use frames::{Frame, truth_at, value_at};
+use engine_world::program_frames::first_registers;
+use frames::{truth_at, value_at};
 use g_values::Value;
 use std::alloc::AllocError;
 
@@ -39,26 +39,19 @@ fn null_at(registers: &[Option<Value>], at: Register) -> Option<bool>
 }
 
 /// Makes the program go on at a block.
-pub(crate) fn jump(
-    engine: &mut Engine,
-    definition: &Definition,
-    program: &Program,
-    mut frame: Frame,
-    to: BlockNumber,
-)
-    requires able { Able (left engine.now.counted (in_front (agenda_of definition.now engine.now) (jumping definition.now (world_of engine.now.world) (frame_view frame) to.0))) }
-    requires program { program_at definition.now (frame_view frame).program ≡ Some (program_view program.now) }
-    requires counted { Counts definition.now (λ o. in_frame o (frame_view frame)) engine.now }
-    requires room { HasRoom 1 engine.now }
-    ensures step { left engine.old.counted (in_front (agenda_of definition.now engine.old) (jumping definition.now (world_of engine.old.world) (frame_view frame) to.0))
+pub(crate) fn jump(engine: &mut Engine, definition: &Definition, program: &Program, to: BlockNumber)
+    requires first { IsProgram engine.now }
+    requires able { Able (left engine.now.counted (in_front (rest_of definition.now engine.now) (jumping definition.now (world_of engine.now.world) (first_frame engine.now) to.0))) }
+    requires program { program_at definition.now (first_frame engine.now).program ≡ Some (program_view program.now) }
+    requires counted { Counts definition.now nothing engine.now }
+    ensures step { left engine.old.counted (in_front (rest_of definition.now engine.old) (jumping definition.now (world_of engine.old.world) (first_frame engine.old) to.0))
         ≡ Ok (config_of definition.now engine.new) }
     ensures counted { Counts definition.now nothing engine.new }
     ensures room { SameRoom engine.old engine.new }
 {
     // For the proof: the clauses speak of the definition.
     let _ = definition;
-    frame.jump(program, to);
-    push_frame(engine, frame);
+    engine.stack.jump_first(program, to);
 }
 
 /// Makes the program go on at one of two blocks, by the truth value in a register.
@@ -66,27 +59,26 @@ pub(crate) fn branch(
     engine: &mut Engine,
     definition: &Definition,
     program: &Program,
-    frame: Frame,
     on: Register,
     then_to: BlockNumber,
     else_to: BlockNumber,
 )
-    requires able { Able (left engine.now.counted (in_front (agenda_of definition.now engine.now) (branching definition.now (world_of engine.now.world) (frame_view frame) on.0 then_to.0 else_to.0))) }
-    requires program { program_at definition.now (frame_view frame).program ≡ Some (program_view program.now) }
-    requires counted { Counts definition.now (λ o. in_frame o (frame_view frame)) engine.now }
-    requires room { HasRoom 1 engine.now }
-    ensures step { left engine.old.counted (in_front (agenda_of definition.now engine.old) (branching definition.now (world_of engine.old.world) (frame_view frame) on.0 then_to.0 else_to.0))
+    requires first { IsProgram engine.now }
+    requires able { Able (left engine.now.counted (in_front (rest_of definition.now engine.now) (branching definition.now (world_of engine.now.world) (first_frame engine.now) on.0 then_to.0 else_to.0))) }
+    requires program { program_at definition.now (first_frame engine.now).program ≡ Some (program_view program.now) }
+    requires counted { Counts definition.now nothing engine.now }
+    ensures step { left engine.old.counted (in_front (rest_of definition.now engine.old) (branching definition.now (world_of engine.old.world) (first_frame engine.old) on.0 then_to.0 else_to.0))
         ≡ Ok (config_of definition.now engine.new) }
     ensures counted { Counts definition.now nothing engine.new }
     ensures room { SameRoom engine.old engine.new }
 {
-    let Some(truth) = truth_at(frame.registers.as_slice(), on) else {
+    let Some(truth) = truth_at(first_registers(engine), on) else {
         unreachable!()
     };
     if truth {
-        return jump(engine, definition, program, frame, then_to);
+        return jump(engine, definition, program, then_to);
     }
-    jump(engine, definition, program, frame, else_to)
+    jump(engine, definition, program, else_to)
 }
 
 /// Makes the program go on at one of two blocks, by whether the text or the object in a register is null.
@@ -94,25 +86,24 @@ pub(crate) fn branch_null(
     engine: &mut Engine,
     definition: &Definition,
     program: &Program,
-    frame: Frame,
     on: Register,
     then_to: BlockNumber,
     else_to: BlockNumber,
 )
-    requires able { Able (left engine.now.counted (in_front (agenda_of definition.now engine.now) (branching_null definition.now (world_of engine.now.world) (frame_view frame) on.0 then_to.0 else_to.0))) }
-    requires program { program_at definition.now (frame_view frame).program ≡ Some (program_view program.now) }
-    requires counted { Counts definition.now (λ o. in_frame o (frame_view frame)) engine.now }
-    requires room { HasRoom 1 engine.now }
-    ensures step { left engine.old.counted (in_front (agenda_of definition.now engine.old) (branching_null definition.now (world_of engine.old.world) (frame_view frame) on.0 then_to.0 else_to.0))
+    requires first { IsProgram engine.now }
+    requires able { Able (left engine.now.counted (in_front (rest_of definition.now engine.now) (branching_null definition.now (world_of engine.now.world) (first_frame engine.now) on.0 then_to.0 else_to.0))) }
+    requires program { program_at definition.now (first_frame engine.now).program ≡ Some (program_view program.now) }
+    requires counted { Counts definition.now nothing engine.now }
+    ensures step { left engine.old.counted (in_front (rest_of definition.now engine.old) (branching_null definition.now (world_of engine.old.world) (first_frame engine.old) on.0 then_to.0 else_to.0))
         ≡ Ok (config_of definition.now engine.new) }
     ensures counted { Counts definition.now nothing engine.new }
     ensures room { SameRoom engine.old engine.new }
 {
-    let Some(is_null) = null_at(frame.registers.as_slice(), on) else {
+    let Some(is_null) = null_at(first_registers(engine), on) else {
         unreachable!()
     };
     if is_null {
-        return jump(engine, definition, program, frame, then_to);
+        return jump(engine, definition, program, then_to);
     }
-    jump(engine, definition, program, frame, else_to)
+    jump(engine, definition, program, else_to)
 }

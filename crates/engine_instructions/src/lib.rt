@@ -7,7 +7,6 @@ pub mod connects;
 pub mod details;
 pub mod emits;
 pub mod execution;
-pub mod in_place;
 pub mod jumps;
 pub mod matched_handlers;
 pub mod new_objects;

@@ -6,9 +6,9 @@ ghost use Rattle.ui_machine.specs.Instructions.{in_front};
 ghost use Rattle.ui_machine.specs.Instructions.Signals.{blocking, disconnecting, unblocking};
 ghost use Rattle.ui_machine.specs.Rules.Connections.{blocked, disconnected, unblocked, with_handlers_on};
 ghost use Rattle.ui_machine.specs.Steps.{left};
-ghost use Rattle.frames.specs.FrameView.{frame_view};
+ghost use Rattle.engine_world.specs.FirstPrograms.{IsProgram, first_frame, rest_of};
 ghost use Rattle.machine_laws.specs.GoneLaws.{pruned};
-ghost use Rattle.engine_world.specs.Counting.{Counts, KeepsCounts, in_frame, nothing};
+ghost use Rattle.engine_world.specs.Counting.{Counts, KeepsCounts, nothing};
 ghost use Rattle.engine_world.specs.EngineView.{config_of};
 ghost use Rattle.engine_instructions.specs.HandlersView.{matched_in, matched_of};
 ghost use Rattle.engine_world.specs.Able.{Able, ComesWithoutGone};
@@ -23,8 +23,6 @@ use crate::operands::{object_in, program_named};
 use bytecode::Register;
 use definitions::Definition;
 use engine_world::engine::Engine;
-use engine_world::program_frames::push_frame;
-use frames::Frame;
 use linked_programs::Link;
 use std::alloc::AllocError;
 use ui_machine::{ObjectId, ProgramId};
@@ -40,16 +38,16 @@ struct Matched {
 fn matched_in(
     engine: &Engine,
     definition: &Definition,
-    frame: &Frame,
     object: Register,
     program: &str,
     link: Link,
 ) -> Matched
+    requires first { IsProgram engine.now }
     requires link { LinksProgram definition.now program.now link }
-    requires able { Able (matched_in definition.now (world_of engine.now.world) (frame_view frame.now) object.0 program.now) }
-    ensures { matched_in definition.now (world_of engine.now.world) (frame_view frame.now) object.0 program.now ≡ Ok (matched_of result) }
+    requires able { Able (matched_in definition.now (world_of engine.now.world) (first_frame engine.now) object.0 program.now) }
+    ensures { matched_in definition.now (world_of engine.now.world) (first_frame engine.now) object.0 program.now ≡ Ok (matched_of result) }
 {
-    let object = object_in(engine, frame, object);
+    let object = object_in(engine, object);
     let program = program_named(definition, program, link);
     Matched { object, program }
 }
@@ -107,68 +105,62 @@ fn unblock(engine: &mut Engine, definition: &Definition, matched: Matched)
 pub(crate) fn disconnect_matched(
     engine: &mut Engine,
     definition: &Definition,
-    frame: Frame,
     object: Register,
     program: &str,
     link: Link,
 )
+    requires first { IsProgram engine.now }
     requires link { LinksProgram definition.now program.now link }
-    requires able { Able (left engine.now.counted (in_front (agenda_of definition.now engine.now) (disconnecting definition.now (world_of engine.now.world) (frame_view frame) object.0 program.now))) }
-    requires counted { Counts definition.now (λ o. in_frame o (frame_view frame)) engine.now }
-    requires room { HasRoom 1 engine.now }
+    requires able { Able (left engine.now.counted (in_front (rest_of definition.now engine.now) (disconnecting definition.now (world_of engine.now.world) (first_frame engine.now) object.0 program.now))) }
+    requires counted { Counts definition.now nothing engine.now }
     ensures step { ComesWithoutGone
-        (left engine.old.counted (in_front (agenda_of definition.now engine.old) (disconnecting definition.now (world_of engine.old.world) (frame_view frame) object.0 program.now)))
+        (left engine.old.counted (in_front (rest_of definition.now engine.old) (disconnecting definition.now (world_of engine.old.world) (first_frame engine.old) object.0 program.now)))
         (config_of definition.now engine.new) }
     ensures counted { Counts definition.now nothing engine.new }
     ensures room { SameRoom engine.old engine.new }
 {
-    let matched = matched_in(engine, definition, &frame, object, program, link);
+    let matched = matched_in(engine, definition, object, program, link);
     disconnect(engine, definition, matched);
-    push_frame(engine, frame);
 }
 
 /// Blocks the handlers of a program on an object once more.
 pub(crate) fn block_matched(
     engine: &mut Engine,
     definition: &Definition,
-    frame: Frame,
     object: Register,
     program: &str,
     link: Link,
 )
+    requires first { IsProgram engine.now }
     requires link { LinksProgram definition.now program.now link }
-    requires able { Able (left engine.now.counted (in_front (agenda_of definition.now engine.now) (blocking definition.now (world_of engine.now.world) (frame_view frame) object.0 program.now))) }
-    requires counted { Counts definition.now (λ o. in_frame o (frame_view frame)) engine.now }
-    requires room { HasRoom 1 engine.now }
-    ensures step { left engine.old.counted (in_front (agenda_of definition.now engine.old) (blocking definition.now (world_of engine.old.world) (frame_view frame) object.0 program.now))
+    requires able { Able (left engine.now.counted (in_front (rest_of definition.now engine.now) (blocking definition.now (world_of engine.now.world) (first_frame engine.now) object.0 program.now))) }
+    requires counted { Counts definition.now nothing engine.now }
+    ensures step { left engine.old.counted (in_front (rest_of definition.now engine.old) (blocking definition.now (world_of engine.old.world) (first_frame engine.old) object.0 program.now))
         ≡ Ok (config_of definition.now engine.new) }
     ensures counted { Counts definition.now nothing engine.new }
     ensures room { SameRoom engine.old engine.new }
 {
-    let matched = matched_in(engine, definition, &frame, object, program, link);
+    let matched = matched_in(engine, definition, object, program, link);
     block(engine, definition, matched);
-    push_frame(engine, frame);
 }
 
 /// Unblocks the handlers of a program on an object once.
 pub(crate) fn unblock_matched(
     engine: &mut Engine,
     definition: &Definition,
-    frame: Frame,
     object: Register,
     program: &str,
     link: Link,
 )
+    requires first { IsProgram engine.now }
     requires link { LinksProgram definition.now program.now link }
-    requires able { Able (left engine.now.counted (in_front (agenda_of definition.now engine.now) (unblocking definition.now (world_of engine.now.world) (frame_view frame) object.0 program.now))) }
-    requires counted { Counts definition.now (λ o. in_frame o (frame_view frame)) engine.now }
-    requires room { HasRoom 1 engine.now }
-    ensures step { left engine.old.counted (in_front (agenda_of definition.now engine.old) (unblocking definition.now (world_of engine.old.world) (frame_view frame) object.0 program.now))
+    requires able { Able (left engine.now.counted (in_front (rest_of definition.now engine.now) (unblocking definition.now (world_of engine.now.world) (first_frame engine.now) object.0 program.now))) }
+    requires counted { Counts definition.now nothing engine.now }
+    ensures step { left engine.old.counted (in_front (rest_of definition.now engine.old) (unblocking definition.now (world_of engine.old.world) (first_frame engine.old) object.0 program.now))
         ≡ Ok (config_of definition.now engine.new) }
     ensures counted { Counts definition.now nothing engine.new }
     ensures room { SameRoom engine.old engine.new }
 {
-    let matched = matched_in(engine, definition, &frame, object, program, link);
+    let matched = matched_in(engine, definition, object, program, link);
     unblock(engine, definition, matched);
-    push_frame(engine, frame);
 }

@@ -10,8 +10,8 @@ ghost use Rattle.ui_machine.specs.State.Handlers.{Handler};
 ghost use Rattle.ui_machine.specs.State.Objects.{most_identities};
 ghost use Rattle.ui_machine.specs.Steps.{left};
 ghost use Rattle.definition_format.specs.Meaning.{object_count};
-ghost use Rattle.frames.specs.FrameView.{frame_view};
-ghost use Rattle.engine_world.specs.Counting.{Counts, in_frame, nothing};
+ghost use Rattle.engine_world.specs.FirstPrograms.{IsProgram, first_frame, rest_of};
+ghost use Rattle.engine_world.specs.Counting.{Counts, nothing};
 ghost use Rattle.definitions.specs.EntryView.{entry_view};
 ghost use Rattle.engine_instructions.specs.CreateView.{created, has_room, prototype_named, prototype_of};
 ghost use Rattle.engine_world.specs.EngineView.{config_of};
@@ -32,7 +32,6 @@ use engine_world::object_peers::{NewPeer, new_peer};
 use engine_world::objects::{begin_construction, make};
 use engine_world::places::entry_at;
 use engine_world::task::Task;
-use frames::Frame;
 use linked_programs::Link;
 use std::alloc::AllocError;
 use ui_machine::Place;
@@ -122,31 +121,25 @@ fn may_create(engine: &Engine, definition: &Definition, peer: NewPeer) -> bool
 fn create_at(
     engine: &mut Engine,
     definition: &Definition,
-    frame: Frame,
     to: Register,
     place: Place,
     peer: Option<usize>,
 ) -> Result<(), AllocError>
-    requires able { Able (left engine.now.counted (in_front (agenda_of definition.now engine.now) (created definition.now (world_of engine.now.world) (frame_view frame) to.0 place.0 peer))) }
+    requires first { IsProgram engine.now }
+    requires able { Able (left engine.now.counted (in_front (rest_of definition.now engine.now) (created definition.now (world_of engine.now.world) (first_frame engine.now) to.0 place.0 peer))) }
     requires peer { IfSome peer (λ number. number < length engine.now.world.seats) }
     requires identity { length (world_of engine.now.world).objects < most_identities }
-    requires counted { Counts definition.now (λ o. in_frame o (frame_view frame)) engine.now }
-    requires room { HasRoom 2 engine.now }
+    requires counted { Counts definition.now nothing engine.now }
+    requires room { HasRoom 1 engine.now }
     ensures step { Leads result
-        (left engine.old.counted (in_front (agenda_of definition.now engine.old) (created definition.now (world_of engine.old.world) (frame_view frame) to.0 place.0 peer)))
+        (left engine.old.counted (in_front (rest_of definition.now engine.old) (created definition.now (world_of engine.old.world) (first_frame engine.old) to.0 place.0 peer)))
         (config_of definition.now engine.new) }
     ensures quiet { OnErr result (IsQuiet (world_of engine.old.world) (world_of engine.new.world)) }
     ensures counted { OnOk result (Counts definition.now nothing engine.new) }
     ensures room { SameRoom engine.old engine.new }
 {
     let new = make(engine, definition, place, peer)?;
-    write_register(
-        engine,
-        definition,
-        frame,
-        to,
-        Some(object_value(new.object)),
-    );
+    write_register(engine, definition, to, Some(object_value(new.object)));
     begin_construction(engine, new, false)?;
     Ok(())
 }
@@ -157,19 +150,19 @@ fn create_at(
 pub(crate) fn create(
     engine: &mut Engine,
     definition: &Definition,
-    frame: Frame,
     to: Register,
     id: &str,
     link: Link,
 ) -> Result<(), AllocError>
+    requires first { IsProgram engine.now }
     requires link { LinksPlace definition.now id.now link }
-    requires able { Able (left engine.now.counted (in_front (agenda_of definition.now engine.now)
-        (creating definition.now (world_of engine.now.world) (agenda_of definition.now engine.now) (frame_view frame) to.0 id.now))) }
-    requires counted { Counts definition.now (λ o. in_frame o (frame_view frame)) engine.now }
-    requires room { HasRoom 2 engine.now }
+    requires able { Able (left engine.now.counted (in_front (rest_of definition.now engine.now)
+        (creating definition.now (world_of engine.now.world) (rest_of definition.now engine.now) (first_frame engine.now) to.0 id.now))) }
+    requires counted { Counts definition.now nothing engine.now }
+    requires room { HasRoom 1 engine.now }
     ensures step { Leads result
-        (left engine.old.counted (in_front (agenda_of definition.now engine.old)
-        (creating definition.now (world_of engine.old.world) (agenda_of definition.now engine.old) (frame_view frame) to.0 id.now)))
+        (left engine.old.counted (in_front (rest_of definition.now engine.old)
+        (creating definition.now (world_of engine.old.world) (rest_of definition.now engine.old) (first_frame engine.old) to.0 id.now)))
         (config_of definition.now engine.new) }
     ensures quiet { OnErr result (IsQuiet (world_of engine.old.world) (world_of engine.new.world)) }
     ensures counted { OnOk result (Counts definition.now nothing engine.new) }
@@ -182,14 +175,7 @@ pub(crate) fn create(
     };
     let peer = new_peer(engine, definition, prototype.place, &prototype.entry);
     if !may_create(engine, definition, peer) {
-        return write_null_and_say_limit(engine, definition, frame, to, object_or_null(None), "new");
+        return write_null_and_say_limit(engine, definition, to, object_or_null(None), "new");
     }
-    create_at(
-        engine,
-        definition,
-        frame,
-        to,
-        prototype.place,
-        peer.number(),
-    )
+    create_at(engine, definition, to, prototype.place, peer.number())
 }

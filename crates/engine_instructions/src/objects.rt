@@ -9,7 +9,7 @@ ghost use Rattle.ui_machine.specs.Rules.Disposal.{disposed};
 ghost use Rattle.ui_machine.specs.Rules.Sets.{is_disposed};
 ghost use Rattle.ui_machine.specs.State.Objects.{living};
 ghost use Rattle.ui_machine.specs.Steps.{left};
-ghost use Rattle.frames.specs.FrameView.{frame_view};
+ghost use Rattle.engine_world.specs.FirstPrograms.{IsProgram, first_frame, rest_of};
 ghost use Rattle.instance_tables.specs.Family.{parent_in};
 ghost use Rattle.instance_tables.specs.Weak.{Knows};
 ghost use Rattle.machine_laws.specs.GoneLaws.{pruned};
@@ -20,7 +20,7 @@ ghost use Rattle.engine_world.specs.Room.{HasRoom, SameRoom};
 ghost use Rattle.engine_world.specs.View.{world_of};
 ghost use Rattle.engine_world.specs.TaskView.{agenda_of};
 ghost use Rattle.engine_world.specs.ClosingView.{closed_with, or_number};
-ghost use Rattle.engine_world.specs.Counting.{Counts, KeepsCounts, in_frame, nothing};
+ghost use Rattle.engine_world.specs.Counting.{Counts, KeepsCounts, nothing};
 ghost use Rattle.engine_world.specs.EngineView.{config_of};
 ghost use Rattle.engine_world.specs.Standing.{gone_handlers};
 ghost use Rattle.engine_instructions.specs.ClosedPeers.{closed_in};
@@ -34,10 +34,8 @@ use engine_world::closings::{closing_with, dispose_line, say_and_close};
 use engine_world::engine::Engine;
 use engine_world::given::object_or_null;
 use engine_world::lines::Line;
-use engine_world::program_frames::push_frame;
 use engine_world::references::push_task;
 use engine_world::task::{Slots, Task};
-use frames::Frame;
 use g_values::Value;
 use linked_programs::Link;
 use std::alloc::AllocError;
@@ -47,17 +45,16 @@ use ui_machine::ObjectId;
 pub(crate) fn look_up_object(
     engine: &mut Engine,
     definition: &Definition,
-    frame: Frame,
     to: Register,
     id: &str,
     link: Link,
 )
+    requires first { IsProgram engine.now }
     requires link { LinksPlace definition.now id.now link }
-    requires able { Able (left engine.now.counted (in_front (agenda_of definition.now engine.now) (look_up_object definition.now (world_of engine.now.world) (frame_view frame) to.0 id.now))) }
-    requires names { LeadsToLiving (left engine.now.counted (in_front (agenda_of definition.now engine.now) (look_up_object definition.now (world_of engine.now.world) (frame_view frame) to.0 id.now))) }
-    requires counted { Counts definition.now (λ o. in_frame o (frame_view frame)) engine.now }
-    requires room { HasRoom 1 engine.now }
-    ensures step { left engine.old.counted (in_front (agenda_of definition.now engine.old) (look_up_object definition.now (world_of engine.old.world) (frame_view frame) to.0 id.now))
+    requires able { Able (left engine.now.counted (in_front (rest_of definition.now engine.now) (look_up_object definition.now (world_of engine.now.world) (first_frame engine.now) to.0 id.now))) }
+    requires names { LeadsToLiving (left engine.now.counted (in_front (rest_of definition.now engine.now) (look_up_object definition.now (world_of engine.now.world) (first_frame engine.now) to.0 id.now))) }
+    requires counted { Counts definition.now nothing engine.now }
+    ensures step { left engine.old.counted (in_front (rest_of definition.now engine.old) (look_up_object definition.now (world_of engine.old.world) (first_frame engine.old) to.0 id.now))
         ≡ Ok (config_of definition.now engine.new) }
     ensures counted { Counts definition.now nothing engine.new }
     ensures room { SameRoom engine.old engine.new }
@@ -68,68 +65,56 @@ pub(crate) fn look_up_object(
         unreachable!()
     };
     let object = object_or_null(engine.world.built(place));
-    write_register(engine, definition, frame, to, Some(object))
+    write_register(engine, definition, to, Some(object))
 }
 
 /// Sinks an object, which floats no longer.
-pub(crate) fn sink(engine: &mut Engine, definition: &Definition, frame: Frame, object: Register)
-    requires able { Able (left engine.now.counted (in_front (agenda_of definition.now engine.now) (sinking (world_of engine.now.world) (frame_view frame) object.0))) }
-    requires counted { Counts definition.now (λ o. in_frame o (frame_view frame)) engine.now }
-    requires room { HasRoom 1 engine.now }
-    ensures step { left engine.old.counted (in_front (agenda_of definition.now engine.old) (sinking (world_of engine.old.world) (frame_view frame) object.0))
+pub(crate) fn sink(engine: &mut Engine, definition: &Definition, object: Register)
+    requires first { IsProgram engine.now }
+    requires able { Able (left engine.now.counted (in_front (rest_of definition.now engine.now) (sinking (world_of engine.now.world) (first_frame engine.now) object.0))) }
+    requires counted { Counts definition.now nothing engine.now }
+    ensures step { left engine.old.counted (in_front (rest_of definition.now engine.old) (sinking (world_of engine.old.world) (first_frame engine.old) object.0))
         ≡ Ok (config_of definition.now engine.new) }
     ensures counted { Counts definition.now nothing engine.new }
     ensures room { SameRoom engine.old engine.new }
 {
     // For the proof: the clauses speak of the definition.
     let _ = definition;
-    let object = object_in(engine, &frame, object);
+    let object = object_in(engine, object);
     engine.world.table.sink(object);
-    push_frame(engine, frame);
 }
 
 /// Freezes the notifications of an object, which wait from then on.
-pub(crate) fn freeze_notify(
-    engine: &mut Engine,
-    definition: &Definition,
-    frame: Frame,
-    object: Register,
-)
-    requires able { Able (left engine.now.counted (in_front (agenda_of definition.now engine.now) (freezing (world_of engine.now.world) (frame_view frame) object.0))) }
-    requires counted { Counts definition.now (λ o. in_frame o (frame_view frame)) engine.now }
-    requires room { HasRoom 1 engine.now }
-    ensures step { left engine.old.counted (in_front (agenda_of definition.now engine.old) (freezing (world_of engine.old.world) (frame_view frame) object.0))
+pub(crate) fn freeze_notify(engine: &mut Engine, definition: &Definition, object: Register)
+    requires first { IsProgram engine.now }
+    requires able { Able (left engine.now.counted (in_front (rest_of definition.now engine.now) (freezing (world_of engine.now.world) (first_frame engine.now) object.0))) }
+    requires counted { Counts definition.now nothing engine.now }
+    ensures step { left engine.old.counted (in_front (rest_of definition.now engine.old) (freezing (world_of engine.old.world) (first_frame engine.old) object.0))
         ≡ Ok (config_of definition.now engine.new) }
     ensures counted { Counts definition.now nothing engine.new }
     ensures room { SameRoom engine.old engine.new }
 {
     // For the proof: the clauses speak of the definition.
     let _ = definition;
-    let object = object_in(engine, &frame, object);
+    let object = object_in(engine, object);
     engine.world.table.freeze(object);
-    push_frame(engine, frame);
 }
 
 /// Takes one freeze of an object off. If it was the last one, the properties that wait are notified before the program goes on.
-pub(crate) fn thaw_notify(
-    engine: &mut Engine,
-    definition: &Definition,
-    frame: Frame,
-    object: Register,
-)
-    requires able { Able (left engine.now.counted (in_front (agenda_of definition.now engine.now) (thaw_notify (world_of engine.now.world) (frame_view frame) object.0))) }
-    requires counted { Counts definition.now (λ o. in_frame o (frame_view frame)) engine.now }
-    requires room { HasRoom 2 engine.now }
-    ensures step { left engine.old.counted (in_front (agenda_of definition.now engine.old) (thaw_notify (world_of engine.old.world) (frame_view frame) object.0))
+pub(crate) fn thaw_notify(engine: &mut Engine, definition: &Definition, object: Register)
+    requires first { IsProgram engine.now }
+    requires able { Able (left engine.now.counted (in_front (rest_of definition.now engine.now) (thaw_notify (world_of engine.now.world) (first_frame engine.now) object.0))) }
+    requires counted { Counts definition.now nothing engine.now }
+    requires room { HasRoom 1 engine.now }
+    ensures step { left engine.old.counted (in_front (rest_of definition.now engine.old) (thaw_notify (world_of engine.old.world) (first_frame engine.old) object.0))
         ≡ Ok (config_of definition.now engine.new) }
     ensures counted { Counts definition.now nothing engine.new }
     ensures room { SameRoom engine.old engine.new }
 {
     // For the proof: the clauses speak of the definition.
     let _ = definition;
-    let object = object_in(engine, &frame, object);
+    let object = object_in(engine, object);
     let slots = engine.world.table.thaw(object);
-    push_frame(engine, frame);
     push_task(
         engine,
         Task::Thawing {
@@ -160,21 +145,19 @@ fn leave(engine: &mut Engine, definition: &Definition, child: ObjectId) -> Resul
 pub(crate) fn orphan(
     engine: &mut Engine,
     definition: &Definition,
-    frame: Frame,
     object: Register,
 ) -> Result<(), AllocError>
-    requires able { Able (left engine.now.counted (in_front (agenda_of definition.now engine.now) (orphaning definition.now (world_of engine.now.world) (frame_view frame) object.0))) }
-    requires counted { Counts definition.now (λ o. in_frame o (frame_view frame)) engine.now }
-    requires room { HasRoom 1 engine.now }
+    requires first { IsProgram engine.now }
+    requires able { Able (left engine.now.counted (in_front (rest_of definition.now engine.now) (orphaning definition.now (world_of engine.now.world) (first_frame engine.now) object.0))) }
+    requires counted { Counts definition.now nothing engine.now }
     ensures step { Leads result
-        (left engine.old.counted (in_front (agenda_of definition.now engine.old) (orphaning definition.now (world_of engine.old.world) (frame_view frame) object.0)))
+        (left engine.old.counted (in_front (rest_of definition.now engine.old) (orphaning definition.now (world_of engine.old.world) (first_frame engine.old) object.0)))
         (config_of definition.now engine.new) }
     ensures quiet { OnErr result (IsQuiet (world_of engine.old.world) (world_of engine.new.world)) }
     ensures counted { OnOk result (Counts definition.now nothing engine.new) }
     ensures room { SameRoom engine.old engine.new }
 {
-    let object = object_in(engine, &frame, object);
-    push_frame(engine, frame);
+    let object = object_in(engine, object);
     leave(engine, definition, object)?;
     Ok(())
 }
@@ -183,25 +166,24 @@ pub(crate) fn orphan(
 pub(crate) fn adopt_from_program(
     engine: &mut Engine,
     definition: &Definition,
-    frame: Frame,
     to: Register,
     parent: Register,
     child: Register,
 ) -> Result<(), AllocError>
-    requires able { Able (left engine.now.counted (in_front (agenda_of definition.now engine.now) (adopting definition.now (world_of engine.now.world) (frame_view frame) to.0 parent.0 child.0))) }
-    requires counted { Counts definition.now (λ o. in_frame o (frame_view frame)) engine.now }
-    requires room { HasRoom 1 engine.now }
+    requires first { IsProgram engine.now }
+    requires able { Able (left engine.now.counted (in_front (rest_of definition.now engine.now) (adopting definition.now (world_of engine.now.world) (first_frame engine.now) to.0 parent.0 child.0))) }
+    requires counted { Counts definition.now nothing engine.now }
     ensures step { Leads result
-        (left engine.old.counted (in_front (agenda_of definition.now engine.old) (adopting definition.now (world_of engine.old.world) (frame_view frame) to.0 parent.0 child.0)))
+        (left engine.old.counted (in_front (rest_of definition.now engine.old) (adopting definition.now (world_of engine.old.world) (first_frame engine.old) to.0 parent.0 child.0)))
         (config_of definition.now engine.new) }
     ensures quiet { OnErr result (IsQuiet (world_of engine.old.world) (world_of engine.new.world)) }
     ensures counted { OnOk result (Counts definition.now nothing engine.new) }
     ensures room { SameRoom engine.old engine.new }
 {
-    let parent = object_in(engine, &frame, parent);
-    let child = object_in(engine, &frame, child);
+    let parent = object_in(engine, parent);
+    let child = object_in(engine, child);
     let is_free = engine.world.table.refusal(parent, child).is_none();
-    write_register(engine, definition, frame, to, Some(Value::Bool(is_free)));
+    write_register(engine, definition, to, Some(Value::Bool(is_free)));
     join_objects(engine, definition, parent, child)
 }
 
@@ -235,23 +217,21 @@ fn dispose(engine: &mut Engine, definition: &Definition, object: ObjectId) -> Re
 pub(crate) fn run_dispose(
     engine: &mut Engine,
     definition: &Definition,
-    frame: Frame,
     object: Register,
 ) -> Result<(), AllocError>
-    requires able { Able (left engine.now.counted (in_front (agenda_of definition.now engine.now) (disposing definition.now (world_of engine.now.world) (frame_view frame) object.0))) }
-    requires counted { Counts definition.now (λ o. in_frame o (frame_view frame)) engine.now }
-    requires room { HasRoom 1 engine.now }
+    requires first { IsProgram engine.now }
+    requires able { Able (left engine.now.counted (in_front (rest_of definition.now engine.now) (disposing definition.now (world_of engine.now.world) (first_frame engine.now) object.0))) }
+    requires counted { Counts definition.now nothing engine.now }
     ensures step { LeadsWithoutGone result
-        (left engine.old.counted (in_front (agenda_of definition.now engine.old) (disposing definition.now (world_of engine.old.world) (frame_view frame) object.0)))
+        (left engine.old.counted (in_front (rest_of definition.now engine.old) (disposing definition.now (world_of engine.old.world) (first_frame engine.old) object.0)))
         (config_of definition.now engine.new) }
     ensures quiet { OnErr result (IsQuiet (world_of engine.old.world) (world_of engine.new.world)) }
     ensures closing { OnOk result (engine.new.closing
-        ≡ or_number (closed_in (world_of engine.old.world) (operand_in (world_of engine.old.world) (frame_view frame) object.0)) engine.old.closing) }
+        ≡ or_number (closed_in (world_of engine.old.world) (operand_in (world_of engine.old.world) (first_frame engine.old) object.0)) engine.old.closing) }
     ensures counted { OnOk result (Counts definition.now nothing engine.new) }
     ensures room { SameRoom engine.old engine.new }
 {
-    let object = object_in(engine, &frame, object);
-    push_frame(engine, frame);
+    let object = object_in(engine, object);
     if engine.world.table.is_disposed(object) {
         return Ok(());
     }

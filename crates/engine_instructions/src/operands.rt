@@ -5,7 +5,7 @@ ghost use Rattle.ui_machine.specs.Definition.Lookups.{program_of};
 ghost use Rattle.ui_machine.specs.Instructions.Registers.{data_in, operand_in};
 ghost use Rattle.ui_machine.specs.Outcome.{known};
 ghost use Rattle.ui_machine.specs.declared.arm.Arm.TheVariants as arms;
-ghost use Rattle.frames.specs.FrameView.{frame_view};
+ghost use Rattle.engine_world.specs.FirstPrograms.{IsProgram, first_frame, rest_of};
 ghost use Rattle.bytecode.specs.View.{number_of};
 ghost use Rattle.instance_tables.specs.Store.{id_of};
 ghost use Rattle.engine_world.specs.View.{world_of};
@@ -15,27 +15,28 @@ ghost use Rattle.linked_programs.specs.Linked.{LinksProgram};
 use bytecode::Register;
 use definitions::Definition;
 use engine_world::engine::Engine;
-use frames::{Frame, identity_at};
+use engine_world::program_frames::first_registers;
+use frames::identity_at;
 use linked_programs::Link;
 use ui_machine::{ObjectId, ProgramId};
 
 /// Returns the living object that a register names.
-pub(crate) fn object_in(engine: &Engine, frame: &Frame, from: Register) -> ObjectId
-    requires able { Able (operand_in (world_of engine.now.world) (frame_view frame.now) from.0) }
-    ensures { operand_in (world_of engine.now.world) (frame_view frame.now) from.0 ≡ Ok result.0 }
+pub(crate) fn object_in(engine: &Engine, from: Register) -> ObjectId
+    requires first { IsProgram engine.now }
+    requires able { Able (operand_in (world_of engine.now.world) (first_frame engine.now) from.0) }
+    ensures { operand_in (world_of engine.now.world) (first_frame engine.now) from.0 ≡ Ok result.0 }
 {
-    // For the proof: the clauses speak of the engine.
-    let _ = engine;
-    identity_at(frame.registers.as_slice(), from)
+    identity_at(first_registers(engine), from)
 }
 
 /// Returns the data object that a register names, if a register is given.
 #[tactic(auto, unfolding(ui_machine::specs::Instructions::Registers::data_in))]
-pub(crate) fn data_in(engine: &Engine, frame: &Frame, with: Option<Register>) -> Option<ObjectId>
-    requires able { Able (data_in (world_of engine.now.world) (frame_view frame.now) (option_map number_of with)) }
-    ensures { data_in (world_of engine.now.world) (frame_view frame.now) (option_map number_of with) ≡ Ok (id_of result) }
+pub(crate) fn data_in(engine: &Engine, with: Option<Register>) -> Option<ObjectId>
+    requires first { IsProgram engine.now }
+    requires able { Able (data_in (world_of engine.now.world) (first_frame engine.now) (option_map number_of with)) }
+    ensures { data_in (world_of engine.now.world) (first_frame engine.now) (option_map number_of with) ≡ Ok (id_of result) }
 {
-    Some(object_in(engine, frame, with?))
+    Some(object_in(engine, with?))
 }
 
 /// Returns the number of the program of a name, which the instruction's link says.

@@ -7,7 +7,7 @@ ghost use Rattle.ui_machine.specs.Instructions.Registers.{value_in};
 ghost use Rattle.ui_machine.specs.Rules.Sets.{raising};
 ghost use Rattle.ui_machine.specs.Steps.{left, uncounted};
 ghost use Rattle.g_values.specs.View.{value_view};
-ghost use Rattle.frames.specs.FrameView.{frame_view};
+ghost use Rattle.engine_world.specs.FirstPrograms.{IsProgram, first_frame, rest_of};
 ghost use Rattle.engine_world.specs.Able.{Able, Leads, LeadsToLiving};
 ghost use Rattle.linked_programs.specs.Linked.{LinksProperty};
 ghost use Rattle.engine_world.specs.Quiet.{IsQuiet};
@@ -15,7 +15,7 @@ ghost use Rattle.engine_world.specs.Room.{HasRoom, SameRoom};
 ghost use Rattle.engine_world.specs.View.{world_of};
 ghost use Rattle.engine_instructions.specs.PropertyView.{readable_value};
 ghost use Rattle.engine_world.specs.TaskView.{agenda_of};
-ghost use Rattle.engine_world.specs.Counting.{Counts, IsCounted, KeepsCounts, in_frame, nothing};
+ghost use Rattle.engine_world.specs.Counting.{Counts, IsCounted, KeepsCounts, nothing};
 ghost use Rattle.engine_world.specs.EngineView.{config_of};
 
 use crate::operands::object_in;
@@ -23,22 +23,24 @@ use crate::registers::write_register;
 use bytecode::Register;
 use definitions::Definition;
 use engine_world::engine::Engine;
-use engine_world::program_frames::push_frame;
+use engine_world::program_frames::first_registers;
 use engine_world::properties::spec_of;
 use engine_world::references::push_task;
 use engine_world::task::Task;
-use frames::{Frame, value_at};
+use frames::value_at;
 use g_values::Value;
 use linked_programs::Link;
 use std::alloc::AllocError;
 use ui_machine::{ObjectId, Slot};
 
 /// Returns a copy of the value of a register, which has to be set.
-pub(crate) fn value_in(frame: &Frame, from: Register) -> Result<Value, AllocError>
-    requires able { Able (value_in (frame_view frame.now) from.0) }
-    ensures { IfOk result (λ value. value_in (frame_view frame.now) from.0 ≡ Ok (value_view value)) }
+pub(crate) fn value_in(engine: &Engine, from: Register) -> Result<Value, AllocError>
+    requires first { IsProgram engine.now }
+    requires able { Able (value_in (first_frame engine.now) from.0) }
+    ensures { IfOk result (λ value. value_in (first_frame engine.now) from.0 ≡ Ok (value_view value)) }
 {
-    let Some(value) = value_at(frame.registers.as_slice(), from) else {
+    let registers = first_registers(engine);
+    let Some(value) = value_at(registers, from) else {
         unreachable!()
     };
     value.copied()
@@ -85,27 +87,26 @@ fn readable_value(
 pub(crate) fn get_property(
     engine: &mut Engine,
     definition: &Definition,
-    frame: Frame,
     to: Register,
     object: Register,
     property: &str,
     link: Link,
 ) -> Result<(), AllocError>
-    requires able { Able (left engine.now.counted (in_front (agenda_of definition.now engine.now) (get_property definition.now (world_of engine.now.world) (frame_view frame) to.0 object.0 property.now))) }
-    requires names { LeadsToLiving (left engine.now.counted (in_front (agenda_of definition.now engine.now) (get_property definition.now (world_of engine.now.world) (frame_view frame) to.0 object.0 property.now))) }
+    requires first { IsProgram engine.now }
+    requires able { Able (left engine.now.counted (in_front (rest_of definition.now engine.now) (get_property definition.now (world_of engine.now.world) (first_frame engine.now) to.0 object.0 property.now))) }
+    requires names { LeadsToLiving (left engine.now.counted (in_front (rest_of definition.now engine.now) (get_property definition.now (world_of engine.now.world) (first_frame engine.now) to.0 object.0 property.now))) }
     requires link { LinksProperty definition.now engine.now.links property.now link }
-    requires counted { Counts definition.now (λ o. in_frame o (frame_view frame)) engine.now }
-    requires room { HasRoom 1 engine.now }
+    requires counted { Counts definition.now nothing engine.now }
     ensures step { Leads result
-        (left engine.old.counted (in_front (agenda_of definition.now engine.old) (get_property definition.now (world_of engine.old.world) (frame_view frame) to.0 object.0 property.now)))
+        (left engine.old.counted (in_front (rest_of definition.now engine.old) (get_property definition.now (world_of engine.old.world) (first_frame engine.old) to.0 object.0 property.now)))
         (config_of definition.now engine.new) }
     ensures quiet { OnErr result (IsQuiet (world_of engine.old.world) (world_of engine.new.world)) }
     ensures counted { OnOk result (Counts definition.now nothing engine.new) }
     ensures room { SameRoom engine.old engine.new }
 {
-    let object = object_in(engine, &frame, object);
+    let object = object_in(engine, object);
     let value = readable_value(engine, definition, object, property, link)?;
-    write_register(engine, definition, frame, to, Some(value));
+    write_register(engine, definition, to, Some(value));
     Ok(())
 }
 
@@ -113,27 +114,26 @@ pub(crate) fn get_property(
 pub(crate) fn set_property(
     engine: &mut Engine,
     definition: &Definition,
-    frame: Frame,
     object: Register,
     property: &str,
     from: Register,
     link: Link,
 ) -> Result<(), AllocError>
-    requires able { Able (left engine.now.counted (in_front (agenda_of definition.now engine.now) (set_property definition.now (world_of engine.now.world) (frame_view frame) object.0 property.now from.0))) }
+    requires first { IsProgram engine.now }
+    requires able { Able (left engine.now.counted (in_front (rest_of definition.now engine.now) (set_property definition.now (world_of engine.now.world) (first_frame engine.now) object.0 property.now from.0))) }
     requires link { LinksProperty definition.now engine.now.links property.now link }
-    requires counted { Counts definition.now (λ o. in_frame o (frame_view frame)) engine.now }
-    requires room { HasRoom 2 engine.now }
+    requires counted { Counts definition.now nothing engine.now }
+    requires room { HasRoom 1 engine.now }
     ensures step { Leads result
-        (left engine.old.counted (in_front (agenda_of definition.now engine.old) (set_property definition.now (world_of engine.old.world) (frame_view frame) object.0 property.now from.0)))
+        (left engine.old.counted (in_front (rest_of definition.now engine.old) (set_property definition.now (world_of engine.old.world) (first_frame engine.old) object.0 property.now from.0)))
         (config_of definition.now engine.new) }
     ensures quiet { OnErr result (IsQuiet (world_of engine.old.world) (world_of engine.new.world)) }
     ensures counted { OnOk result (Counts definition.now nothing engine.new) }
     ensures room { SameRoom engine.old engine.new }
 {
-    let object = object_in(engine, &frame, object);
+    let object = object_in(engine, object);
     let slot = slot_at(engine, definition, object, property, link);
-    let value = value_in(&frame, from)?;
-    push_frame(engine, frame);
+    let value = value_in(engine, from)?;
     push_task(
         engine,
         Task::Setting {
@@ -175,26 +175,25 @@ fn raise(
 pub(crate) fn notify_from_program(
     engine: &mut Engine,
     definition: &Definition,
-    frame: Frame,
     object: Register,
     property: &str,
     link: Link,
 ) -> Result<(), AllocError>
-    requires able { Able (left engine.now.counted (in_front (agenda_of definition.now engine.now) (notify_from_program definition.now (world_of engine.now.world) (frame_view frame) object.0 property.now))) }
+    requires first { IsProgram engine.now }
+    requires able { Able (left engine.now.counted (in_front (rest_of definition.now engine.now) (notify_from_program definition.now (world_of engine.now.world) (first_frame engine.now) object.0 property.now))) }
     requires link { LinksProperty definition.now engine.now.links property.now link }
-    requires counted { Counts definition.now (λ o. in_frame o (frame_view frame)) engine.now }
-    requires room { HasRoom 2 engine.now }
+    requires counted { Counts definition.now nothing engine.now }
+    requires room { HasRoom 1 engine.now }
     ensures step { Leads result
-        (left engine.old.counted (in_front (agenda_of definition.now engine.old) (notify_from_program definition.now (world_of engine.old.world) (frame_view frame) object.0 property.now)))
+        (left engine.old.counted (in_front (rest_of definition.now engine.old) (notify_from_program definition.now (world_of engine.old.world) (first_frame engine.old) object.0 property.now)))
         (config_of definition.now engine.new) }
     ensures quiet { OnErr result (IsQuiet (world_of engine.old.world) (world_of engine.new.world)) }
     ensures counted { OnOk result (Counts definition.now nothing engine.new) }
     ensures room { SameRoom engine.old engine.new }
 {
-    let object = object_in(engine, &frame, object);
+    let object = object_in(engine, object);
     let slot = slot_at(engine, definition, object, property, link);
     let spec = spec_of(engine, definition, object, slot);
-    push_frame(engine, frame);
     if !spec.is_readable() {
         return Ok(());
     }

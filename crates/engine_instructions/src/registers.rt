@@ -9,22 +9,22 @@ ghost use Rattle.ui_machine.specs.Steps.{left};
 ghost use Rattle.law_typing.specs.Good.Living.{NamesLiving};
 ghost use Rattle.g_values.specs.View.{value_view};
 ghost use Rattle.bytecode.specs.Computing.{HasKnownKind, instruction_of};
-ghost use Rattle.frames.specs.FrameView.{frame_view};
+ghost use Rattle.engine_world.specs.FirstPrograms.{IsProgram, first_frame, rest_of};
 ghost use Rattle.engine_world.specs.Able.{Able, Leads, LeadsToLiving};
 ghost use Rattle.engine_world.specs.Quiet.{IsQuiet};
 ghost use Rattle.engine_world.specs.Room.{HasRoom, SameRoom, TakesRoom};
 ghost use Rattle.engine_world.specs.View.{world_of};
 ghost use Rattle.engine_world.specs.TaskView.{agenda_of};
-ghost use Rattle.engine_world.specs.Counting.{Counts, in_frame, nothing};
+ghost use Rattle.engine_world.specs.Counting.{Counts, nothing};
 ghost use Rattle.engine_world.specs.EngineView.{config_of};
 
 use bytecode::{Computation, Computed, Register};
 use definitions::Definition;
 use engine_world::children::say_limit;
 use engine_world::engine::Engine;
-use engine_world::program_frames::{push_frame, put};
+use engine_world::program_frames::{first_registers, put};
 use engine_world::references::never_full;
-use frames::{Frame, compute};
+use frames::compute;
 use g_values::Value;
 use std::alloc::AllocError;
 
@@ -33,43 +33,39 @@ use std::alloc::AllocError;
 pub(crate) fn write_register(
     engine: &mut Engine,
     definition: &Definition,
-    mut frame: Frame,
     to: Register,
     value: Option<Value>,
 )
-    requires able { Able (left engine.now.counted (in_front (agenda_of definition.now engine.now) (written_to (world_of engine.now.world) to.0 (option_map value_view value) (frame_view frame)))) }
+    requires first { IsProgram engine.now }
+    requires able { Able (left engine.now.counted (in_front (rest_of definition.now engine.now) (written_to (world_of engine.now.world) to.0 (option_map value_view value) (first_frame engine.now)))) }
     requires names { IfSome (option_map value_view value) (NamesLiving (world_of engine.now.world)) }
-    requires counted { Counts definition.now (λ o. in_frame o (frame_view frame)) engine.now }
-    requires room { HasRoom 1 engine.now }
-    ensures step { left engine.old.counted (in_front (agenda_of definition.now engine.old) (written_to (world_of engine.old.world) to.0 (option_map value_view value) (frame_view frame)))
+    requires counted { Counts definition.now nothing engine.now }
+    ensures step { left engine.old.counted (in_front (rest_of definition.now engine.old) (written_to (world_of engine.old.world) to.0 (option_map value_view value) (first_frame engine.old)))
         ≡ Ok (config_of definition.now engine.new) }
     ensures counted { Counts definition.now nothing engine.new }
-    ensures room { TakesRoom 1 engine.old engine.new }
+    ensures room { TakesRoom 0 engine.old engine.new }
 {
-    // For the proof: the clauses speak of the definition, and what lives may be held once more.
-    let _ = definition;
+    // For the proof: what lives may be held once more.
     never_full(engine);
-    put(&mut engine.world.table, &mut frame, to, value);
-    push_frame(engine, frame);
+    put(engine, definition, to, value);
 }
 
 /// Says the line that a limit was reached, and writes a value to a register all the same. The word names what is limited.
 pub(crate) fn write_null_and_say_limit(
     engine: &mut Engine,
     definition: &Definition,
-    mut frame: Frame,
     to: Register,
     value: Value,
     word: &str,
 ) -> Result<(), AllocError>
-    requires able { Able (left engine.now.counted (in_front (agenda_of definition.now engine.now)
-        (written_to (said definition.now (world_of engine.now.world) (lines.limit word.now)) to.0 (Some (value_view value)) (frame_view frame)))) }
+    requires first { IsProgram engine.now }
+    requires able { Able (left engine.now.counted (in_front (rest_of definition.now engine.now)
+        (written_to (said definition.now (world_of engine.now.world) (lines.limit word.now)) to.0 (Some (value_view value)) (first_frame engine.now)))) }
     requires names { NamesLiving (world_of engine.now.world) (value_view value) }
-    requires counted { Counts definition.now (λ o. in_frame o (frame_view frame)) engine.now }
-    requires room { HasRoom 1 engine.now }
+    requires counted { Counts definition.now nothing engine.now }
     ensures step { Leads result
-        (left engine.old.counted (in_front (agenda_of definition.now engine.old)
-        (written_to (said definition.now (world_of engine.old.world) (lines.limit word.now)) to.0 (Some (value_view value)) (frame_view frame))))
+        (left engine.old.counted (in_front (rest_of definition.now engine.old)
+        (written_to (said definition.now (world_of engine.old.world) (lines.limit word.now)) to.0 (Some (value_view value)) (first_frame engine.old))))
         (config_of definition.now engine.new) }
     ensures quiet { OnErr result (IsQuiet (world_of engine.old.world) (world_of engine.new.world)) }
     ensures counted { OnOk result (Counts definition.now nothing engine.new) }
@@ -77,8 +73,7 @@ pub(crate) fn write_null_and_say_limit(
 {
     // For the proof: what lives may be held once more.
     never_full(engine);
-    put(&mut engine.world.table, &mut frame, to, Some(value));
-    push_frame(engine, frame);
+    put(engine, definition, to, Some(value));
     say_limit(engine, definition, word)?;
     Ok(())
 }
@@ -87,31 +82,30 @@ pub(crate) fn write_null_and_say_limit(
 pub(crate) fn compute_register(
     engine: &mut Engine,
     definition: &Definition,
-    frame: Frame,
     to: Register,
     computation: &Computation,
 ) -> Result<(), AllocError>
-    requires able { Able (left engine.now.counted (instruction_step definition.now (world_of engine.now.world) (agenda_of definition.now engine.now) (frame_view frame) (instruction_of computation.now to.0))) }
-    requires names { LeadsToLiving (left engine.now.counted (instruction_step definition.now (world_of engine.now.world) (agenda_of definition.now engine.now) (frame_view frame) (instruction_of computation.now to.0))) }
+    requires first { IsProgram engine.now }
+    requires able { Able (left engine.now.counted (instruction_step definition.now (world_of engine.now.world) (rest_of definition.now engine.now) (first_frame engine.now) (instruction_of computation.now to.0))) }
+    requires names { LeadsToLiving (left engine.now.counted (instruction_step definition.now (world_of engine.now.world) (rest_of definition.now engine.now) (first_frame engine.now) (instruction_of computation.now to.0))) }
     requires known { HasKnownKind definition.now.types computation.now }
-    requires counted { Counts definition.now (λ o. in_frame o (frame_view frame)) engine.now }
-    requires room { HasRoom 1 engine.now }
+    requires counted { Counts definition.now nothing engine.now }
     ensures step { Leads result
-        (left engine.old.counted (instruction_step definition.now (world_of engine.old.world) (agenda_of definition.now engine.old) (frame_view frame) (instruction_of computation.now to.0)))
+        (left engine.old.counted (instruction_step definition.now (world_of engine.old.world) (rest_of definition.now engine.old) (first_frame engine.old) (instruction_of computation.now to.0)))
         (config_of definition.now engine.new) }
     ensures quiet { OnErr result (IsQuiet (world_of engine.old.world) (world_of engine.new.world)) }
     ensures counted { OnOk result (Counts definition.now nothing engine.new) }
     ensures room { SameRoom engine.old engine.new }
 {
     let types = definition.types();
-    let registers = frame.registers.as_slice();
+    let registers = first_registers(engine);
     let computed = compute(engine.alloc, types, registers, computation)?;
     match computed {
-        Computed::Value(value) => write_register(engine, definition, frame, to, Some(value)),
-        Computed::Unset => write_register(engine, definition, frame, to, None),
+        Computed::Value(value) => write_register(engine, definition, to, Some(value)),
+        Computed::Unset => write_register(engine, definition, to, None),
         Computed::TooLong => {
             let null = Value::Text(None);
-            write_null_and_say_limit(engine, definition, frame, to, null, "join")?;
+            write_null_and_say_limit(engine, definition, to, null, "join")?;
         }
     }
     Ok(())

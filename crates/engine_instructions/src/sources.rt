@@ -10,11 +10,11 @@ ghost use Rattle.linked_programs.specs.Linked.{LinksProgram};
 ghost use Rattle.engine_world.specs.Quiet.{IsQuiet};
 ghost use Rattle.engine_world.specs.SourceView.{with_new_source};
 ghost use Rattle.ui_machine.specs.Steps.{left};
-ghost use Rattle.frames.specs.FrameView.{frame_view};
+ghost use Rattle.engine_world.specs.FirstPrograms.{IsProgram, first_frame, rest_of};
 ghost use Rattle.engine_world.specs.Room.{HasRoom, SameRoom};
 ghost use Rattle.engine_world.specs.View.{world_of};
 ghost use Rattle.engine_world.specs.TaskView.{agenda_of};
-ghost use Rattle.engine_world.specs.Counting.{Counts, in_frame, nothing};
+ghost use Rattle.engine_world.specs.Counting.{Counts, nothing};
 ghost use Rattle.engine_world.specs.EngineView.{config_of};
 ghost use Rattle.engine_instructions.specs.AttachView.{attach_of};
 
@@ -23,10 +23,8 @@ use crate::registers::{write_null_and_say_limit, write_register};
 use bytecode::Register;
 use definitions::Definition;
 use engine_world::engine::Engine;
-use engine_world::program_frames::push_frame;
 use engine_world::references::never_full;
 use engine_world::sources::{NewSource, attach_source, remove_sources};
-use frames::Frame;
 use g_values::Value;
 use linked_programs::Link;
 use std::alloc::AllocError;
@@ -65,58 +63,48 @@ impl Attach<'_> {
 pub(crate) fn attach_from_program(
     engine: &mut Engine,
     definition: &Definition,
-    frame: Frame,
     to: Register,
     attach: Attach<'_>,
 ) -> Result<(), AllocError>
+    requires first { IsProgram engine.now }
     requires link { LinksProgram definition.now attach.program.now attach.link }
-    requires able { Able (left engine.now.counted (in_front (agenda_of definition.now engine.now) (attaching definition.now (world_of engine.now.world) (frame_view frame) to.0 (attach_of attach)))) }
-    requires counted { Counts definition.now (λ o. in_frame o (frame_view frame)) engine.now }
-    requires room { HasRoom 1 engine.now }
+    requires able { Able (left engine.now.counted (in_front (rest_of definition.now engine.now) (attaching definition.now (world_of engine.now.world) (first_frame engine.now) to.0 (attach_of attach)))) }
+    requires counted { Counts definition.now nothing engine.now }
     ensures step { Leads result
-        (left engine.old.counted (in_front (agenda_of definition.now engine.old) (attaching definition.now (world_of engine.old.world) (frame_view frame) to.0 (attach_of attach.entry))))
+        (left engine.old.counted (in_front (rest_of definition.now engine.old) (attaching definition.now (world_of engine.old.world) (first_frame engine.old) to.0 (attach_of attach.entry))))
         (config_of definition.now engine.new) }
     ensures quiet { OnErr result (IsQuiet (world_of engine.old.world) (world_of engine.new.world)) }
     ensures counted { OnOk result (Counts definition.now nothing engine.new) }
     ensures room { SameRoom engine.old engine.new }
 {
     let program = program_named(definition, attach.program, attach.link);
-    let arg = data_in(engine, &frame, attach.with);
+    let arg = data_in(engine, attach.with);
     let source = attach.source(program, arg);
     // For the proof: what lives may be held once more.
     never_full(engine);
     if attach_source(engine, source)? {
-        write_register(engine, definition, frame, to, Some(Value::Bool(true)));
+        write_register(engine, definition, to, Some(Value::Bool(true)));
         return Ok(());
     }
-    write_null_and_say_limit(
-        engine,
-        definition,
-        frame,
-        to,
-        Value::Bool(false),
-        attach.word,
-    )
+    write_null_and_say_limit(engine, definition, to, Value::Bool(false), attach.word)
 }
 
 /// Removes each source of a program.
 pub(crate) fn remove_from_program(
     engine: &mut Engine,
     definition: &Definition,
-    frame: Frame,
     program: &str,
     link: Link,
 )
+    requires first { IsProgram engine.now }
     requires link { LinksProgram definition.now program.now link }
-    requires able { Able (left engine.now.counted (in_front (agenda_of definition.now engine.now) (removing definition.now (world_of engine.now.world) (frame_view frame) program.now))) }
-    requires counted { Counts definition.now (λ o. in_frame o (frame_view frame)) engine.now }
-    requires room { HasRoom 1 engine.now }
-    ensures step { left engine.old.counted (in_front (agenda_of definition.now engine.old) (removing definition.now (world_of engine.old.world) (frame_view frame) program.now))
+    requires able { Able (left engine.now.counted (in_front (rest_of definition.now engine.now) (removing definition.now (world_of engine.now.world) (first_frame engine.now) program.now))) }
+    requires counted { Counts definition.now nothing engine.now }
+    ensures step { left engine.old.counted (in_front (rest_of definition.now engine.old) (removing definition.now (world_of engine.old.world) (first_frame engine.old) program.now))
         ≡ Ok (config_of definition.now engine.new) }
     ensures counted { Counts definition.now nothing engine.new }
     ensures room { SameRoom engine.old engine.new }
 {
     let number = program_named(definition, program, link);
     remove_sources(engine, number);
-    push_frame(engine, frame);
 }

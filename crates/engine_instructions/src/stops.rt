@@ -6,21 +6,20 @@ ghost use Rattle.ui_machine.specs.Definition.Programs as words;
 ghost use Rattle.ui_machine.specs.Instructions.{instruction_step};
 ghost use Rattle.ui_machine.specs.Rules.Accumulation.{stopped};
 ghost use Rattle.ui_machine.specs.Steps.{left};
-ghost use Rattle.frames.specs.FrameView.{frame_view};
+ghost use Rattle.engine_world.specs.FirstPrograms.{IsProgram, first_frame, rest_of};
 ghost use Rattle.engine_world.specs.KnownHandlers.{AllTakeKnownHandlers};
-ghost use Rattle.engine_world.specs.Counting.{Counts, in_frame, nothing};
+ghost use Rattle.engine_world.specs.Counting.{Counts, nothing};
 ghost use Rattle.engine_world.specs.EngineView.{config_of};
 ghost use Rattle.engine_world.specs.Able.{Able, Leads};
 ghost use Rattle.engine_world.specs.Quiet.{IsQuiet};
 ghost use Rattle.engine_world.specs.TaskView.{agenda_of};
-ghost use Rattle.engine_world.specs.Room.{HasRoom, SameRoom, TakesRoom};
+ghost use Rattle.engine_world.specs.Room.{SameRoom, TakesRoom};
 ghost use Rattle.engine_world.specs.View.{world_of};
 
 use definitions::Definition;
 use engine_world::engine::Engine;
-use engine_world::program_frames::push_frame;
+use engine_world::program_frames::{pop_frame, push_frame};
 use engine_world::task::Task;
-use frames::Frame;
 use std::alloc::AllocError;
 
 // Stops the emission that is the first task, if one is. Only its cleanup stage is left then, which makes no transfers.
@@ -55,17 +54,18 @@ fn stop_emission(engine: &mut Engine)
 }
 
 /// Stops the emission that runs the program, and lets the program go on.
-pub(crate) fn stop_from_program(engine: &mut Engine, definition: &Definition, frame: Frame)
-    requires able { Able (left engine.now.counted (instruction_step definition.now (world_of engine.now.world) (agenda_of definition.now engine.now) (frame_view frame) words.stop)) }
-    requires counted { Counts definition.now (λ o. in_frame o (frame_view frame)) engine.now }
-    requires room { HasRoom 1 engine.now }
-    ensures step { left engine.old.counted (instruction_step definition.now (world_of engine.old.world) (agenda_of definition.now engine.old) (frame_view frame) words.stop)
+pub(crate) fn stop_from_program(engine: &mut Engine, definition: &Definition)
+    requires first { IsProgram engine.now }
+    requires able { Able (left engine.now.counted (instruction_step definition.now (world_of engine.now.world) (rest_of definition.now engine.now) (first_frame engine.now) words.stop)) }
+    requires counted { Counts definition.now nothing engine.now }
+    ensures step { left engine.old.counted (instruction_step definition.now (world_of engine.old.world) (rest_of definition.now engine.old) (first_frame engine.old) words.stop)
         ≡ Ok (config_of definition.now engine.new) }
     ensures counted { Counts definition.now nothing engine.new }
     ensures room { SameRoom engine.old engine.new }
 {
     // For the proof: the clauses speak of the definition.
     let _ = definition;
+    let frame = pop_frame(engine);
     stop_emission(engine);
     push_frame(engine, frame);
 }

@@ -6,8 +6,8 @@ ghost use Rattle.ui_machine.specs.Instructions.{in_front};
 ghost use Rattle.ui_machine.specs.Instructions.Signals.{unbinding};
 ghost use Rattle.ui_machine.specs.State.Bindings.{bindings_without};
 ghost use Rattle.ui_machine.specs.Steps.{left};
-ghost use Rattle.frames.specs.FrameView.{frame_view};
-ghost use Rattle.engine_world.specs.Counting.{Counts, KeepsCounts, in_frame, nothing};
+ghost use Rattle.engine_world.specs.FirstPrograms.{IsProgram, first_frame, rest_of};
+ghost use Rattle.engine_world.specs.Counting.{Counts, KeepsCounts, nothing};
 ghost use Rattle.engine_world.specs.EngineView.{config_of};
 ghost use Rattle.engine_world.specs.Able.{Able};
 ghost use Rattle.engine_world.specs.TaskView.{agenda_of};
@@ -20,8 +20,6 @@ ghost use Rattle.linked_programs.specs.Linked.{LinksBindings};
 use bindings::Bindings;
 use definitions::Definition;
 use engine_world::engine::Engine;
-use engine_world::program_frames::push_frame;
-use frames::Frame;
 use linked_programs::Link;
 
 // Ends the bindings with these numbers.
@@ -52,20 +50,18 @@ fn unbind(engine: &mut Engine, definition: &Definition, name: &str, link: Link)
 pub(crate) fn unbind_from_program(
     engine: &mut Engine,
     definition: &Definition,
-    frame: Frame,
     name: &str,
     link: Link,
 )
+    requires first { IsProgram engine.now }
     requires link { LinksBindings definition.now engine.now.links name.now link }
     requires meanings { KeepsMeanings definition.now (world_of engine.now.world) }
-    requires able { Able (left engine.now.counted (in_front (agenda_of definition.now engine.now) (unbinding definition.now (world_of engine.now.world) (frame_view frame) name.now))) }
-    requires counted { Counts definition.now (λ o. in_frame o (frame_view frame)) engine.now }
-    requires room { HasRoom 1 engine.now }
-    ensures step { left engine.old.counted (in_front (agenda_of definition.now engine.old) (unbinding definition.now (world_of engine.old.world) (frame_view frame) name.now))
+    requires able { Able (left engine.now.counted (in_front (rest_of definition.now engine.now) (unbinding definition.now (world_of engine.now.world) (first_frame engine.now) name.now))) }
+    requires counted { Counts definition.now nothing engine.now }
+    ensures step { left engine.old.counted (in_front (rest_of definition.now engine.old) (unbinding definition.now (world_of engine.old.world) (first_frame engine.old) name.now))
         ≡ Ok (config_of definition.now engine.new) }
     ensures counted { Counts definition.now nothing engine.new }
     ensures room { SameRoom engine.old engine.new }
 {
     unbind(engine, definition, name, link);
-    push_frame(engine, frame);
 }

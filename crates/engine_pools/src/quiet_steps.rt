@@ -5,6 +5,7 @@ ghost use Rattle.ui_machine.specs.Prefix.{IsPrefix};
 ghost use Rattle.ui_machine.specs.Steps.{asked_first, question};
 ghost use Rattle.engine_world.specs.Counting.{Counts, nothing};
 ghost use Rattle.engine_world.specs.EngineView.{config_of};
+ghost use Rattle.engine_world.specs.FirstPrograms.{first_program};
 ghost use Rattle.engine_world.specs.Quiet.{IsQuiet};
 ghost use Rattle.engine_world.specs.TaskView.{agenda_of};
 ghost use Rattle.engine_world.specs.Room.{SameRoom};
@@ -12,9 +13,9 @@ ghost use Rattle.engine_world.specs.View.{world_of};
 ghost use Rattle.engine_pools.specs.QuietSteps.{IsSafeView, LeavesKnown, QuietlyStepped};
 ghost use Rattle.engine_pools.specs.Safety.{NoneUnheld};
 
+use crate::program_steps::run_program;
 use crate::tasks::act;
 use definitions::Definition;
-use engine_instructions::in_place::compute_in_place;
 use engine_tasks::finalisation::finalise;
 use engine_world::engine::{Engine, StepKind};
 use engine_world::references::let_go_any;
@@ -40,13 +41,14 @@ fn sink_first_floating(engine: &mut Engine, definition: &Definition) -> StepKind
     StepKind::Uncounted
 }
 
-// Takes the first task off and makes its step, or sinks what floats if there is no task. The task asks no peer, and nothing is to be
-// finalised.
+// Takes the first task off, which is no program, and makes its step, or sinks what floats if there is no task. The task asks no peer, and
+// nothing is to be finalised.
 fn take_first_task(engine: &mut Engine, definition: &Definition) -> Result<StepKind, AllocError>
     requires safe { IsSafeView definition.now (vec_capacity engine.now.stack.tasks) (config_of definition.now engine.now) }
     requires none { NoneUnheld definition.now (config_of definition.now engine.now) }
     requires quiet { asked_first (world_of engine.now.world) (agenda_of definition.now engine.now) ≡ None }
     requires counted { Counts definition.now nothing engine.now }
+    requires other { first_program engine.now.stack.tasks.items ≡ None }
     ensures counted { OnOk result (Counts definition.now nothing engine.new) }
     ensures stepped { QuietlyStepped result definition.now (config_of definition.now engine.old) (config_of definition.now engine.new) }
     ensures known { OnOk result (LeavesKnown (world_of engine.old.world) (world_of engine.new.world) engine.new.closing) }
@@ -65,7 +67,7 @@ fn take_first_task(engine: &mut Engine, definition: &Definition) -> Result<StepK
 }
 
 // Makes the step of the first task, or sinks what floats if there is no task. The task asks no peer, and nothing is to be finalised. A
-// program's computation is made in place, without taking the program off.
+// program takes its next instruction in its place.
 fn first_task(engine: &mut Engine, definition: &Definition) -> Result<StepKind, AllocError>
     requires safe { IsSafeView definition.now (vec_capacity engine.now.stack.tasks) (config_of definition.now engine.now) }
     requires none { NoneUnheld definition.now (config_of definition.now engine.now) }
@@ -77,10 +79,11 @@ fn first_task(engine: &mut Engine, definition: &Definition) -> Result<StepKind, 
     ensures grows { IsPrefix (world_of engine.old.world).transcript (world_of engine.new.world).transcript }
     ensures room { SameRoom engine.old engine.new }
 {
-    if compute_in_place(engine, definition)? {
-        return Ok(StepKind::Counted);
+    if engine.stack.first_program().is_none() {
+        return take_first_task(engine, definition);
     }
-    take_first_task(engine, definition)
+    run_program(engine, definition)?;
+    Ok(StepKind::Counted)
 }
 
 /// Makes a step in which no peer is asked, if there is one to make. It finalises what nothing holds first, then takes the first task, and

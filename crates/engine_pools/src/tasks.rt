@@ -7,6 +7,7 @@ ghost use Rattle.ui_machine.specs.State.Objects.{most_identities};
 ghost use Rattle.ui_machine.specs.State.References.{in_task};
 ghost use Rattle.ui_machine.specs.Steps.{act};
 ghost use Rattle.law_typing.specs.Good.Meanings.{KeepsMeanings};
+ghost use Rattle.engine_world.specs.FirstPrograms.{program_in};
 ghost use Rattle.engine_world.specs.KnownHandlers.{TakesKnownHandlers};
 ghost use Rattle.engine_world.specs.Quiet.{IsQuiet};
 ghost use Rattle.engine_world.specs.Room.{HasRoom, SameRoom};
@@ -18,7 +19,6 @@ ghost use Rattle.engine_world.specs.Able.{Able, LeadsToLiving, LeadsWithoutGone}
 ghost use Rattle.engine_world.specs.Standing.{past_turns};
 ghost use Rattle.engine_pools.specs.TaskClosings.{TaskLeaves};
 
-use crate::program_steps::run_program;
 use definitions::Definition;
 use engine_tasks::binds::bind_from_build;
 use engine_tasks::builds::{build, construct};
@@ -36,7 +36,7 @@ use engine_world::references::never_full;
 use engine_world::task::Task;
 use std::alloc::AllocError;
 
-/// Carries out a task, and returns whether that was a counted step. An emission passes over handlers that are blocked, and bindings that
+/// Carries out a task that is no program, and returns whether that was a counted step. An emission passes over handlers that are blocked, and bindings that
 /// set or have ended. The machine must not be stuck there, and a call has to be of a peer that is closed.
 ///
 /// # Errors
@@ -59,6 +59,7 @@ pub(crate) fn act(
     requires begun { TakesKnownHandlers engine.now.world.handlers.last task }
     requires counted { Counts definition.now (λ o. in_task o (task_in definition.now engine.now task)) engine.now }
     requires room { HasRoom 2 engine.now }
+    requires other { program_in task ≡ None }
     ensures step { LeadsWithoutGone result
         (act definition.now (world_of engine.old.world) None
         (past_turns (world_of engine.old.world) (task_in definition.now engine.old task) ∷ agenda_of definition.now engine.old) engine.old.counted)
@@ -106,10 +107,7 @@ pub(crate) fn act(
             unset(engine, definition, number);
             return Ok(StepKind::Uncounted);
         }
-        Task::Running(frame) => {
-            run_program(engine, definition, frame)?;
-            return Ok(StepKind::Counted);
-        }
+        Task::Running(_) => unreachable!(),
         Task::Thawing { object, slots } => {
             notify_thawed(engine, definition, object, slots);
             return Ok(StepKind::Uncounted);

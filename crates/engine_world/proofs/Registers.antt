@@ -1,7 +1,7 @@
 -- What the registers of a program hold as one is written, and the results that programs take.
 use Rattle.engine_world.specs.KnownHandlers.{AllTakeKnownHandlers}
 use Rattle.engine_world.proofs.Counts.{stays, restacked}
-use Rattle.std.proofs.Common.{◌≡◌, ◌∙◌, refl, ap, ℕ, ◌+◌, ◌<◌, length, List, [], ◌∷◌, Option, None, Some, Result, Ok, Err, zero, suc, arith}
+use Rattle.std.proofs.Common.{◌≡◌, ◌∙◌, refl, ap, sym, map, option_map, reverse, IsSome, is_some, Bool, true, false, not, ℕ, ◌+◌, ◌<◌, length, List, [], ◌∷◌, Option, None, Some, Result, Ok, Err, zero, suc, arith}
 use Rattle.std.specs.Prelude.{OnOk}
 use Rattle.ui_machine.specs.declared.arm.Arm.TheVariants as arms
 use Rattle.ui_machine.specs.Definition.{Definition}
@@ -22,7 +22,9 @@ use Rattle.instance_tables.specs.Store.{Store, count_of}
 use Rattle.engine_world.specs.Counting.{Counts, KeepsCounts, OnlyCounts, OnlyTasks, in_frame}
 use Rattle.engine_world.specs.Able.{Able}
 use Rattle.std.proofs.lemmas.Bool.Decides.{nat_tests}
-use Rattle.engine_world.proofs.Ableness.{first, tested}
+use Rattle.engine_world.specs.FirstPrograms.{first_program}
+use Rattle.engine_world.proofs.Ableness.{first, no_arm, tested}
+use Rattle.engine_world.proofs.FirstPrograms.{starts_else}
 use Rattle.engine_world.proofs.Emits.{stops_on}
 use Rattle.ui_machine.specs.declared.arm.Halt.{Halt}
 use Rattle.engine_world.specs.View.{world_of}
@@ -100,6 +102,42 @@ not_received d hs (tasks.Calling call) rest to v other = refl
 not_received d hs (tasks.Due source) rest to v other = refl
 not_received d hs (tasks.Handling event) rest to v other = refl
 
+-- whether a program was found
+module _ {X : Type 0} (g : X → frames.Frame) where
+  pub none_found : (o : Option X) (p : Option frames.Frame) (b : Bool) → option_map g o ≡ p → is_some o ≡ not b → b ≡ true → p ≡ None
+  none_found None p b is none so = sym is
+  none_found (Some x) p true is none so = absurd (cc none)
+  none_found (Some x) p false is none so = absurd (cc so)
+
+  pub some_found : (o : Option X) (p : Option frames.Frame) (b : Bool) → option_map g o ≡ p → is_some o ≡ not b → b ≡ false → IsSome p
+  some_found None p true is none so = absurd (cc so)
+  some_found None p false is none so = absurd (cc none)
+  some_found (Some x) p b is none so = ap (λ (o : Option frames.Frame). is_some o) (sym is)
+
+-- where no program is the first of some tasks
+module _ (d : Definition) (hs : List Handler) (v : Option Value) where
+  -- none takes a result
+  pub none_waits : (items : List code.Task) → first_program items ≡ None
+      → passed_down (reverse (map (task_of d hs) items)) v ≡ Ok (reverse (map (task_of d hs) items))
+  none_waits [] none = refl
+  none_waits (x ∷ xs) none =
+      let s = starts_else d hs x xs none in
+      ap (λ (ts : List Task). passed_down ts v) s.first ∙ passes_by d hs s.task s.behind v s.other ∙ ap (λ (ts : List Task). Ok ts) (sym s.first)
+
+  -- and none an answer
+  pub waits_there : (items : List code.Task) (to : ℕ) → Able (received (reverse (map (task_of d hs) items)) to v) → IsSome (first_program items)
+  waits_there items to able = by (first_program items) refl
+    where
+      none_there : (items : List code.Task) → first_program items ≡ None → received (reverse (map (task_of d hs) items)) to v ≡ Err arms.Code
+      none_there [] none = refl
+      none_there (x ∷ xs) none =
+          let s = starts_else d hs x xs none in
+          ap (λ (ts : List Task). received ts to v) s.first ∙ not_received d hs s.task s.behind to v s.other
+
+      by : (o : Option frames.Frame) → first_program items ≡ o → IsSome (first_program items)
+      by None is = absurd (no_arm _ _ able (none_there items is))
+      by (Some f) is = ap (λ (o : Option frames.Frame). is_some o) is
+
 -- ** counts
 
 -- the rest of a program goes on to hold what its registers name
@@ -166,6 +204,17 @@ stack_same d e s same_tasks begun = record {
     connects = restacked d e s begun h.connects;
     exact = λ o. omega (arith, h.exact o, ap (λ (ts : List Task). total (in_task o) ts) same_tasks);
   };
+}
+
+-- other tasks by which as much is held
+pub stack_same_held : (d : Definition) (e : Engine) (s : Stack) → ((o : ℕ) → total (in_task o) (tasks_of d e.world.handlers.handlers s) ≡ total (in_task o) (agenda_of d e))
+    → ((last : ℕ) → AllTakeKnownHandlers last e.stack → AllTakeKnownHandlers last s) → (taken : ℕ → ℕ) → Counts d taken e → Counts d taken (record e { stack = s })
+stack_same_held d e s held begun taken h = record {
+  knows = h.knows;
+  links = h.links;
+  passes = h.passes;
+  connects = restacked d e s begun h.connects;
+  exact = λ o. omega (arith, h.exact o, held o);
 }
 
 -- a program that was taken off

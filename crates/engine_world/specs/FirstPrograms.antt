@@ -1,10 +1,13 @@
 -- The program that is the first task.
-use Rattle.std.specs.Prelude.{ℕ, ◌<◌, ◌-◌, List, length, Option, None, Some, option_and_then, slice_get}
-use Rattle.std.specs.Option.{IsSomeAnd}
-use Rattle.ui_machine.specs.Definition.Programs as words
+use Rattle.std.specs.Prelude.{◌≡◌, ◌-◌, List, [], ◌∷◌, drop, length, IsSome, Option, None, Some, option_and_then, slice_get}
+use Rattle.ui_machine.specs.Definition as machine
+use Rattle.ui_machine.specs.State.Handlers.{Handler}
 use Rattle.ui_machine.specs.State.Tasks as config
-use Rattle.frames.specs.FrameView.{taken_in}
+use Rattle.frames.specs.FrameView.{frame_view}
 use Rattle.frames.specs.declared.frame.Frame.{Frame}
+use Rattle.engine_world.specs.TaskView.{agenda_of, tasks_of}
+use Rattle.engine_world.specs.declared.engine.Engine.{Engine}
+use Rattle.engine_world.specs.declared.stacks.Stack.{Stack}
 use Rattle.engine_world.specs.declared.task.Task.{Task}
 use Rattle.engine_world.specs.declared.task.Task.TheVariants as tasks
 
@@ -17,6 +20,30 @@ program_in _ = None
 abbrev pub first_program : List Task → Option Frame
 first_program items = option_and_then program_in (slice_get items (length items - 1))
 
--- a program has an instruction to take, and a register of this number
-abbrev pub CanWrite : words.Program → (to : ℕ) → config.Frame → Type 0
-CanWrite p to f = IsSomeAnd (taken_in p f) (λ t. to < length t.frame.registers)
+-- the frame of a program that is there, or an empty one
+abbrev pub frame_in : Option Frame → config.Frame
+frame_in None = record { program = 0; block = 0; at = 0; passes = 0; into = None; registers = [] }
+frame_in (Some f) = frame_view f
+
+-- the frame of the first task of a stack, or an empty one where that is no program
+unfoldable pub stack_frame : Stack → config.Frame
+stack_frame s = frame_in (first_program s.tasks.items)
+
+-- the first task is a program, and the tasks below it are those that were below the first one
+pub record IsRewritten (old new : Stack) : Type 0 where
+  pub first : IsSome (first_program new.tasks.items)
+  pub tasks : (d : machine.Definition) (hs : List Handler) → tasks_of d hs new ≡ config.Running (stack_frame new) ∷ drop 1 (tasks_of d hs old)
+
+-- ** of an engine
+
+-- its first task is a program
+abbrev pub IsProgram : Engine → Type 0
+IsProgram e = IsSome (first_program e.stack.tasks.items)
+
+-- the frame of that program
+abbrev pub first_frame : Engine → config.Frame
+first_frame e = stack_frame e.stack
+
+-- the tasks behind the first one
+abbrev pub rest_of : machine.Definition → Engine → List config.Task
+rest_of d e = drop 1 (agenda_of d e)

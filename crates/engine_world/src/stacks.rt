@@ -1,17 +1,15 @@
 //! The stack of the tasks that are left.
 
-ghost use Rattle.std.specs.Prelude.{◌≡◌, ◌+◌, ◌<◌, ◌≤◌, ℕ, List, None, Some, [], ◌∷◌, drop, false, length, map, option_map, vec_capacity, vec_len, IfOk, IfSome, MatchOption};
+ghost use Rattle.std.specs.Prelude.{◌≡◌, ◌+◌, ◌<◌, ◌≤◌, ℕ, List, None, Some, [], ◌∷◌, drop, false, length, map, option_and_then, option_map, slice_get, vec_capacity, vec_len, IfOk, IfSome, IsSome, MatchOption};
 ghost use Rattle.std.specs.List.{list_any};
-ghost use Rattle.std.specs.Option.{IsSomeAnd};
 ghost use Rattle.ui_machine.specs.Seq.{read, write};
 ghost use Rattle.g_values.specs.View.{value_view};
-ghost use Rattle.bytecode.specs.View.{program_view};
-ghost use Rattle.frames.specs.FrameView.{Taken, frame_view, taken_in};
+ghost use Rattle.bytecode.specs.View.{instruction_view, number_of, program_view};
+ghost use Rattle.frames.specs.FrameView.{Takes, at_block, taken_in};
 ghost use Rattle.engine_world.specs.BuildTasks.{is_of_build};
-ghost use Rattle.engine_world.specs.FirstPrograms.{CanWrite, first_program};
 
 use crate::task::Task;
-use bytecode::{Program, Register};
+use bytecode::{BlockNumber, Instruction, Program, Register};
 use frames::Frame;
 use g_values::Value;
 use std::alloc::{AllocError, Global};
@@ -32,6 +30,7 @@ impl Stack {
     ghost use Rattle.ui_machine.specs.State.Handlers.{Handler};
     ghost use Rattle.ui_machine.specs.Rules.Build.{of_items};
     ghost use Rattle.ui_machine.specs.Seq.{total};
+    ghost use Rattle.engine_world.specs.FirstPrograms.{IsRewritten, first_program, program_in, stack_frame};
     ghost use Rattle.engine_world.specs.KnownHandlers.{AllTakeKnownHandlers, TakesKnownHandlers};
     ghost use Rattle.engine_world.specs.TaskView.{task_of, tasks_of};
 
@@ -85,19 +84,11 @@ impl Stack {
         }
     }
 
-    /// Takes the next instruction of the program that is the first task, and writes or unsets one of its registers. Returns what the
-    /// register held.
-    pub fn write_first(
-        &mut self,
-        program: &Program,
-        to: Register,
-        value: Option<Value>,
-    ) -> Option<Value>
-        requires there { IsSomeAnd (first_program self.now.tasks.items) (λ f. CanWrite (program_view program.now) to.0 (frame_view f)) }
-        ensures written { (d : machine.Definition) (hs : List Handler) (f : config.Frame) (t : Taken) (rest : List config.Task)
-            → tasks_of d hs self.old ≡ config.Running f ∷ rest → taken_in (program_view program.now) f ≡ Some t
-            → (tasks_of d hs self.new ≡ config.Running (record t.frame { registers = write None t.frame.registers to.0 (option_map value_view value) }) ∷ rest)
-            × (option_map value_view result ≡ read None t.frame.registers to.0) }
+    /// Takes the next instruction of the program that is the first task, or returns `None` if the program has none there.
+    pub fn take_first<'a>(&mut self, program: &'a Program) -> Option<&'a Instruction>
+        requires there { IsSome (first_program self.now.tasks.items) }
+        ensures taken { Takes (option_map (λ i. instruction_view i.now) result) (taken_in (program_view program.now) (stack_frame self.old)) (stack_frame self.new) }
+        ensures rewritten { IsRewritten self.old self.new }
         ensures begun { (last : ℕ) → AllTakeKnownHandlers last self.old → AllTakeKnownHandlers last self.new }
         ensures room { (vec_len self.new.tasks ≡ vec_len self.old.tasks) × (vec_capacity self.new.tasks ≡ vec_capacity self.old.tasks) }
     {
@@ -107,10 +98,61 @@ impl Stack {
         let Task::Running(frame) = task else {
             unreachable!()
         };
-        let Some(_taken) = frame.take(program) else {
+        frame.take(program)
+    }
+
+    /// Writes or unsets a register of the program that is the first task. Returns what the register held.
+    pub fn put_first(&mut self, to: Register, value: Option<Value>) -> Option<Value>
+        requires there { IsSome (first_program self.now.tasks.items) }
+        requires register { to.0 < length (stack_frame self.now).registers }
+        ensures written { stack_frame self.new ≡ record (stack_frame self.old) { registers = write None (stack_frame self.old).registers to.0 (option_map value_view value) } }
+        ensures held { option_map value_view result ≡ read None (stack_frame self.old).registers to.0 }
+        ensures rewritten { IsRewritten self.old self.new }
+        ensures begun { (last : ℕ) → AllTakeKnownHandlers last self.old → AllTakeKnownHandlers last self.new }
+        ensures room { (vec_len self.new.tasks ≡ vec_len self.old.tasks) × (vec_capacity self.new.tasks ≡ vec_capacity self.old.tasks) }
+    {
+        let Some(task) = self.tasks.last_mut() else {
+            unreachable!()
+        };
+        let Task::Running(frame) = task else {
             unreachable!()
         };
         frame.put(to, value)
+    }
+
+    /// Makes the program that is the first task go on at a block of it.
+    pub fn jump_first(&mut self, program: &Program, to: BlockNumber)
+        requires there { IsSome (first_program self.now.tasks.items) }
+        requires block { IsSome (slice_get (program_view program.now).blocks to.0) }
+        ensures jumped { option_map (at_block to.0 (stack_frame self.old)) (slice_get (program_view program.now).blocks to.0) ≡ Some (stack_frame self.new) }
+        ensures rewritten { IsRewritten self.old self.new }
+        ensures begun { (last : ℕ) → AllTakeKnownHandlers last self.old → AllTakeKnownHandlers last self.new }
+        ensures room { (vec_len self.new.tasks ≡ vec_len self.old.tasks) × (vec_capacity self.new.tasks ≡ vec_capacity self.old.tasks) }
+    {
+        let Some(task) = self.tasks.last_mut() else {
+            unreachable!()
+        };
+        let Task::Running(frame) = task else {
+            unreachable!()
+        };
+        frame.jump(program, to);
+    }
+
+    /// Makes the program that is the first task wait for a result, which goes to this register, or for none.
+    pub fn wait_first(&mut self, into: Option<Register>)
+        requires there { IsSome (first_program self.now.tasks.items) }
+        ensures waits { stack_frame self.new ≡ record (stack_frame self.old) { into = option_map number_of into } }
+        ensures rewritten { IsRewritten self.old self.new }
+        ensures begun { (last : ℕ) → AllTakeKnownHandlers last self.old → AllTakeKnownHandlers last self.new }
+        ensures room { (vec_len self.new.tasks ≡ vec_len self.old.tasks) × (vec_capacity self.new.tasks ≡ vec_capacity self.old.tasks) }
+    {
+        let Some(task) = self.tasks.last_mut() else {
+            unreachable!()
+        };
+        let Task::Running(frame) = task else {
+            unreachable!()
+        };
+        frame.into = into;
     }
 
     /// Takes the first task off, if there is one. Its room is free again.
@@ -120,6 +162,7 @@ impl Stack {
             (λ task. tasks_of d hs self.old ≡ task_of d hs task ∷ tasks_of d hs self.new) }
         ensures begun { (last : ℕ) → AllTakeKnownHandlers last self.old → AllTakeKnownHandlers last self.new }
         ensures first { IfSome result (λ task. (last : ℕ) → AllTakeKnownHandlers last self.old → TakesKnownHandlers last task) }
+        ensures program { option_and_then program_in result ≡ first_program self.old.tasks.items }
         ensures given { MatchOption result (vec_len self.new.tasks ≡ vec_len self.old.tasks) (λ _. vec_len self.old.tasks ≡ vec_len self.new.tasks + 1) }
         ensures free { IfSome result (λ _. vec_len self.new.tasks < vec_capacity self.new.tasks) }
         ensures room { vec_capacity self.new.tasks ≡ vec_capacity self.old.tasks }

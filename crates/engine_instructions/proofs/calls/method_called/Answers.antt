@@ -1,8 +1,4 @@
-use Rattle.std.proofs.Common.{◌≡◌, ◌∙◌, ℕ, List, Option, None, Some, IsSome, slice_get, sym, ap}
-use Rattle.ui_machine.specs.Definition.Names.{place_named}
-use Rattle.ui_machine.specs.Definition.Signals.{Method}
-use Rattle.ui_machine.specs.State.Peers.{Peer, method_number}
-use Rattle.law_typing.specs.Good.Meanings.{class_methods}
+use Rattle.std.proofs.Common.{None, Some, sym}
 use Rattle.engine_world.specs.View.{world_of}
 use Rattle.peer_shapes.specs.MethodViews as methods
 use Rattle.engine_instructions.proofs.PeerCalls.{by_number, no_number, no_peer, shaped_so}

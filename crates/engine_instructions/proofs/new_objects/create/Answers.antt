@@ -10,13 +10,13 @@ use Rattle.ui_machine.specs.Output.Lines as lines
 use Rattle.ui_machine.specs.Rules.Build.{to_make}
 use Rattle.ui_machine.specs.State.Config.{Started, said}
 use Rattle.ui_machine.specs.Steps.{left}
-use Rattle.frames.specs.FrameView.{frame_view}
 use Rattle.engine_instructions.specs.CreateView.{created, has_room, prototype_of}
 use Rattle.engine_world.specs.PeerPlaces.{is_there, taken}
-use Rattle.engine_world.specs.TaskView.{agenda_of}
 use Rattle.engine_world.specs.View.{world_of}
 use Rattle.engine_world.proofs.Ableness.{able_as, instructed, no_arm}
 use Rattle.engine_instructions.proofs.Creating.{creates, creates_none, identity_left}
+use Rattle.engine_world.specs.FirstPrograms.{first_frame, rest_of}
+use Rattle.engine_instructions.proofs.Pushed.{makes_behind}
 use Rattle.engine_instructions.proofs.new_objects.create.Goals as goal
 
 pub unreachable-requires : goal.unreachable-requires
@@ -24,33 +24,33 @@ unreachable-requires c =
     let d = c.args.definition.now in
     let e = c.args.engine.now in
     let w = world_of e.world in
-    let f = frame_view c.args.frame in
-    no_arm _ _ (instructed e.counted (agenda_of d e) (creating d w (agenda_of d e) f c.args.to.0 c.args.id.now) c.requires.able)
-    (creates_none d w (agenda_of d e) f c.args.to.0 c.args.id.now arms.Code (sym c.in_default.ensures.named))
+    let f = first_frame c.args.engine.now in
+    no_arm _ _ (instructed e.counted (rest_of d e) (creating d w (rest_of d e) f c.args.to.0 c.args.id.now) c.requires.able)
+    (creates_none d w (rest_of d e) f c.args.to.0 c.args.id.now arms.Code (sym c.in_default.ensures.named))
 
 pub write_null_and_say_limit-requires-clause-able : goal.write_null_and_say_limit-requires-clause-able
 write_null_and_say_limit-requires-clause-able c =
     let d = c.args.definition.now in
     let e = c.args.engine.now in
     let w = world_of e.world in
-    let f = frame_view c.args.frame in
+    let f = first_frame c.args.engine.now in
     let q = prototype_of c.in-Some.prototype in
     let there = is_there c.new_peer-peer.result in
-    let full : (has_room d w (to_make (agenda_of d e)) && there) ≡ false = sym c.if-not-may_create.ensures in
-    let refused = creates d w (agenda_of d e) f c.args.to.0 c.args.id.now q false there (taken c.new_peer-peer.result) (sym c.in-Some.ensures.named) full c.new_peer-peer.ensures.there c.new_peer-peer.ensures.taken
+    let full : (has_room d w (to_make (rest_of d e)) && there) ≡ false = ap (λ n. has_room d w n && there) (sym (makes_behind d e c.requires.first)) ∙ sym c.if-not-may_create.ensures in
+    let refused = creates d w (rest_of d e) f c.args.to.0 c.args.id.now q false there (taken c.new_peer-peer.result) (sym c.in-Some.ensures.named) full c.new_peer-peer.ensures.there c.new_peer-peer.ensures.taken
     ∙ ap (λ (v : Value). gives (said d w (lines.limit (codes "new"))) c.args.to.0 v f) (sym c.object_or_null.ensures) in
-    able_as (ap (λ (a : Answer Started). left e.counted (in_front (agenda_of d e) a)) refused) c.requires.able
+    able_as (ap (λ (a : Answer Started). left e.counted (in_front (rest_of d e) a)) refused) c.requires.able
 
 pub returns-then-not-may_create-clause-step : goal.returns-then-not-may_create-clause-step
 returns-then-not-may_create-clause-step c =
     let d = c.args.definition.now in
     let e = c.args.engine.now in
     let w = world_of e.world in
-    let f = frame_view c.args.frame in
+    let f = first_frame c.args.engine.now in
     let q = prototype_of c.in-Some.prototype in
     let there = is_there c.new_peer-peer.result in
-    let full : (has_room d w (to_make (agenda_of d e)) && there) ≡ false = sym c.if-not-may_create.ensures in
-    let refused = creates d w (agenda_of d e) f c.args.to.0 c.args.id.now q false there (taken c.new_peer-peer.result) (sym c.in-Some.ensures.named) full c.new_peer-peer.ensures.there c.new_peer-peer.ensures.taken
+    let full : (has_room d w (to_make (rest_of d e)) && there) ≡ false = ap (λ n. has_room d w n && there) (sym (makes_behind d e c.requires.first)) ∙ sym c.if-not-may_create.ensures in
+    let refused = creates d w (rest_of d e) f c.args.to.0 c.args.id.now q false there (taken c.new_peer-peer.result) (sym c.in-Some.ensures.named) full c.new_peer-peer.ensures.there c.new_peer-peer.ensures.taken
     ∙ ap (λ (v : Value). gives (said d w (lines.limit (codes "new"))) c.args.to.0 v f) (sym c.object_or_null.ensures) in
     rw refused c.write_null_and_say_limit.ensures.step
 
@@ -59,16 +59,17 @@ create_at-requires c =
     let d = c.args.definition.now in
     let e = c.args.engine.now in
     let w = world_of e.world in
-    let f = frame_view c.args.frame in
+    let f = first_frame c.args.engine.now in
     let q = prototype_of c.in-Some.prototype in
     let there = is_there c.new_peer-peer.result in
-    let room : (has_room d w (to_make (agenda_of d e)) && there) ≡ true = sym c.if-not-may_create.ensures in
-    let made = creates d w (agenda_of d e) f c.args.to.0 c.args.id.now q true there (taken c.new_peer-peer.result) (sym c.in-Some.ensures.named) room c.new_peer-peer.ensures.there c.new_peer-peer.ensures.taken
+    let room : (has_room d w (to_make (rest_of d e)) && there) ≡ true = ap (λ n. has_room d w n && there) (sym (makes_behind d e c.requires.first)) ∙ sym c.if-not-may_create.ensures in
+    let made = creates d w (rest_of d e) f c.args.to.0 c.args.id.now q true there (taken c.new_peer-peer.result) (sym c.in-Some.ensures.named) room c.new_peer-peer.ensures.there c.new_peer-peer.ensures.taken
     ∙ ap (λ (p : Option ℕ). created d w f c.args.to.0 q.number p) (sym c.number.ensures) in
     record {
-      able = able_as (ap (λ (a : Answer Started). left e.counted (in_front (agenda_of d e) a)) made) c.requires.able;
+      first = c.requires.first;
+      able = able_as (ap (λ (a : Answer Started). left e.counted (in_front (rest_of d e) a)) made) c.requires.able;
       peer = subst (λ (p : Option ℕ). IfSome p (λ number. number < length c.args.engine.now.world.seats)) (sym c.number.ensures) c.new_peer-peer.ensures.within;
-      identity = identity_left d w (to_make (agenda_of d e)) there room;
+      identity = identity_left d w (to_make (rest_of d e)) there room;
       counted = c.requires.counted;
       room = c.requires.room;
     }
@@ -78,10 +79,10 @@ returns-clause-step c =
     let d = c.args.definition.now in
     let e = c.args.engine.now in
     let w = world_of e.world in
-    let f = frame_view c.args.frame in
+    let f = first_frame c.args.engine.now in
     let q = prototype_of c.in-Some.prototype in
     let there = is_there c.new_peer-peer.result in
-    let room : (has_room d w (to_make (agenda_of d e)) && there) ≡ true = sym c.if-not-may_create.ensures in
-    let made = creates d w (agenda_of d e) f c.args.to.0 c.args.id.now q true there (taken c.new_peer-peer.result) (sym c.in-Some.ensures.named) room c.new_peer-peer.ensures.there c.new_peer-peer.ensures.taken
+    let room : (has_room d w (to_make (rest_of d e)) && there) ≡ true = ap (λ n. has_room d w n && there) (sym (makes_behind d e c.requires.first)) ∙ sym c.if-not-may_create.ensures in
+    let made = creates d w (rest_of d e) f c.args.to.0 c.args.id.now q true there (taken c.new_peer-peer.result) (sym c.in-Some.ensures.named) room c.new_peer-peer.ensures.there c.new_peer-peer.ensures.taken
     ∙ ap (λ (p : Option ℕ). created d w f c.args.to.0 q.number p) (sym c.number.ensures) in
     rw made c.create_at.ensures.step

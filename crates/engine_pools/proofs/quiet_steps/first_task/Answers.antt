@@ -1,41 +1,75 @@
-use Rattle.std.proofs.Common.{refl, sym, subst}
-use Rattle.ui_machine.specs.State.Config.{World}
-use Rattle.ui_machine.specs.State.Tasks.{Running}
+use Rattle.std.proofs.Common.{◌≡◌, ◌∙◌, ◌∷◌, List, refl, sym, subst, ap, vec_capacity, arith}
+use Rattle.std.proofs.lemmas.Result.{err_from_is_err_and}
+use Rattle.ui_machine.specs.State.Config.{Config, World}
+use Rattle.ui_machine.specs.State.Tasks.{Running, Task}
 use Rattle.engine_world.specs.EngineView.{config_of}
+use Rattle.engine_world.specs.FirstPrograms.{first_frame, first_program, rest_of}
+use Rattle.engine_world.specs.Standing.{with_first}
 use Rattle.engine_world.specs.View.{world_of}
-use Rattle.engine_world.specs.declared.engine.Engine.{Engine}
 use Rattle.engine_world.specs.declared.engine.StepKind.TheVariants as mades
 use Rattle.engine_world.proofs.Ableness.{none_stops}
-use Rattle.engine_instructions.proofs.Whole.{engine_whole}
-use Rattle.engine_pools.specs.QuietSteps.{QuietlyStepped}
-use Rattle.engine_pools.proofs.Closings.{SeenStays}
-use Rattle.engine_pools.proofs.LeftClosings.{still_known}
-use Rattle.engine_pools.proofs.Stepping.{first_can, first_names_so, first_stepped}
+use Rattle.engine_world.proofs.FirstPrograms.{begins}
+use Rattle.engine_world.proofs.Registers.{none_found, some_found}
+use Rattle.engine_world.proofs.Rooms.{tasks_counted}
+use Rattle.engine_pools.specs.QuietSteps.{LeavesKnown}
+use Rattle.engine_pools.specs.Safety.{NoneUnheld}
+use Rattle.engine_pools.proofs.LeftClosings.{task_known}
+use Rattle.engine_pools.proofs.Standing.{first_none}
+use Rattle.engine_pools.proofs.Stepping.{first_can, first_grows, first_names_so, first_stepped, view_few, view_meanings}
 use Rattle.engine_pools.proofs.quiet_steps.first_task.Goals as goal
 
-pub compute_in_place-requires-clause-able : goal.compute_in_place-requires-clause-able
-compute_in_place-requires-clause-able c f rest first =
+pub run_program-requires : goal.run_program-requires
+run_program-requires c =
     let d = c.args.definition.now in
-    let at = config_of d c.args.engine.now in (
-      none_stops _ (first_can d at at c.requires.none (Running f) rest first c.requires.quiet c.requires.safe),
-      first_names_so d at at c.requires.none (Running f) rest first c.requires.quiet c.requires.safe,
-    )
+    let e = c.args.engine.now in
+    let at = config_of d e in
+    let first = some_found _ c.first_program.result (first_program e.stack.tasks.items) c.is_none.result c.first_program.ensures c.is_none.ensures c.if-is_none.false in
+    let is = begins d e first in
+    record {
+      first = first;
+      able = none_stops _ (first_can d at at c.requires.none (Running (first_frame e)) (rest_of d e) is c.requires.quiet c.requires.safe);
+      names = first_names_so d at at c.requires.none (Running (first_frame e)) (rest_of d e) is c.requires.quiet c.requires.safe;
+      meanings = view_meanings d at c.requires.safe;
+      counted = c.requires.counted;
+      room =
+          let few = view_few d (vec_capacity e.stack.tasks) at c.requires.safe in
+          omega (arith, few, tasks_counted d e.world.handlers.handlers e.stack);
+    }
 
-pub returns-then-branch-clause-stepped : goal.returns-then-branch-clause-stepped
-returns-then-branch-clause-stepped c =
-    let d = c.args.definition.now in
-    let new = c.compute_in_place.new.engine in
-    let runs = c.in_ok-compute_in_place.ensures.runs c.if-branch.true in
-    first_stepped d (config_of d c.args.engine.now) (config_of d new) c.requires.none (Running runs.frame) runs.rest runs.first c.requires.quiet mades.Counted
-    (config_of d new, runs.step, engine_whole d new) refl
-
-pub returns-then-branch-clause-known : goal.returns-then-branch-clause-known
-returns-then-branch-clause-known c =
-    let runs = c.in_ok-compute_in_place.ensures.runs c.if-branch.true in
-    still_known (world_of c.args.engine.now.world) (world_of c.compute_in_place.new.engine.world) c.compute_in_place.new.engine.closing (subst (λ (w : World). SeenStays (world_of c.args.engine.now.world) w) (sym runs.world) refl)
+pub take_first_task-requires-clause-other : goal.take_first_task-requires-clause-other
+take_first_task-requires-clause-other c =
+    let e = c.args.engine.now in
+    none_found _ c.first_program.result (first_program e.stack.tasks.items) c.is_none.result c.first_program.ensures c.is_none.ensures c.if-is_none.true
 
 pub returns-clause-stepped : goal.returns-clause-stepped
 returns-clause-stepped c =
     let d = c.args.definition.now in
-    let same = c.in_ok-compute_in_place.ensures.other c.if-branch.false in
-    subst (λ (e : Engine). QuietlyStepped c.take_first_task.result d (config_of d e) (config_of d c.take_first_task.new.engine)) same c.take_first_task.ensures.stepped
+    let e = c.args.engine.now in
+    let at = config_of d e in
+    let first = some_found _ c.first_program.result (first_program e.stack.tasks.items) c.is_none.result c.first_program.ensures c.is_none.ensures c.if-is_none.false in
+    first_stepped d at (config_of d c.run_program.new.engine) c.requires.none (Running (first_frame e)) (rest_of d e) (begins d e first) c.requires.quiet mades.Counted c.in_ok-run_program.ensures.step refl
+
+pub returns-clause-grows : goal.returns-clause-grows
+returns-clause-grows c =
+    let d = c.args.definition.now in
+    let e = c.args.engine.now in
+    let at = config_of d e in
+    let first = some_found _ c.first_program.result (first_program e.stack.tasks.items) c.is_none.result c.first_program.ensures c.is_none.ensures c.if-is_none.false in
+    first_grows d at (config_of d c.run_program.new.engine) c.requires.none (Running (first_frame e)) (rest_of d e) (begins d e first) c.requires.quiet mades.Counted c.in_ok-run_program.ensures.step
+
+pub returns-clause-known : goal.returns-clause-known
+returns-clause-known c =
+    let d = c.args.definition.now in
+    let e = c.args.engine.now in
+    let w = world_of e.world in
+    let new = c.run_program.new.engine in
+    let first = some_found _ c.first_program.result (first_program e.stack.tasks.items) c.is_none.result c.first_program.ensures c.is_none.ensures c.if-is_none.false in
+    let none = subst (λ (ts : List Task). NoneUnheld d (record (config_of d e) { agenda = with_first w ts })) (begins d e first) (first_none d (config_of d e) c.requires.none) in
+    let goes = c.in_ok-run_program.ensures.step in
+    subst (λ (v : World). LeavesKnown w v new.closing) (ap (λ (x : Config). x.world) goes.2)
+    (task_known d w (rest_of d e) e.counted (Running (first_frame e)) goes.0 e.closing new.closing none goes.1 c.in_ok-run_program.ensures.closing)
+
+pub returns-in_err-run_program-clause-stepped : goal.returns-in_err-run_program-clause-stepped
+returns-in_err-run_program-clause-stepped c =
+    let p = err_from_is_err_and c.from_residual.result c.from_residual.ensures.1 in
+    rw p.1 c.in_err-run_program.ensures.quiet

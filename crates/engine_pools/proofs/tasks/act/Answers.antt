@@ -49,12 +49,6 @@ transfer-requires c = record {
   room = c.requires.room;
 }
 
-pub run_program-requires-clause-able : goal.run_program-requires-clause-able
-run_program-requires-clause-able c = rw c.in-Running.is at c.requires.able
-
-pub run_program-requires-clause-names : goal.run_program-requires-clause-names
-run_program-requires-clause-names c = rw c.in-Running.is at c.requires.names
-
 pub notify_thawed-requires : goal.notify_thawed-requires
 notify_thawed-requires c = record {
   able = rw c.in-Thawing.is at c.requires.able;

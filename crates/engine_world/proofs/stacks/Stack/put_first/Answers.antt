@@ -1,0 +1,45 @@
+use Rattle.std.proofs.Common.{◌∙◌, ◌<◌, None, length, option_map, vec_len, ap, refl, subst, sym}
+use Rattle.ui_machine.specs.State.Tasks as config
+use Rattle.frames.specs.FrameView.{frame_view}
+use Rattle.engine_world.specs.declared.task.Task.TheVariants as tasks
+use Rattle.engine_world.proofs.FirstPrograms.{ending, frame_last, frame_now, kept_so, rewritten}
+use Rattle.ui_machine.specs.Seq.{read, write}
+use Rattle.ui_machine.specs.State.Tasks.{Registers}
+use Rattle.g_values.specs.View.{value_view}
+use Rattle.engine_world.proofs.stacks.Stack.put_first.Goals as goal
+
+pub invariant_of-self : goal.invariant_of-self
+invariant_of-self c =
+    let s = c.args.self.now in
+    let e = ending (vec_len s.tasks) s.tasks.items (tasks.Running c.in-Running.frame) (tasks.Running c.in-Running.frame) s.tasks.ok.0 c.in-Some.ensures.item.3.0 (sym c.in-Running.is ∙ c.in-Some.ensures.item.3.1 (tasks.Running c.in-Running.frame)) in
+    let k = kept_so s c.in-Running.frame c.put.new.self e in
+    record { within = k.within; above = k.above }
+
+pub returns-clause-rewritten : goal.returns-clause-rewritten
+returns-clause-rewritten c =
+    let s = c.args.self.now in
+    let e = ending (vec_len s.tasks) s.tasks.items (tasks.Running c.in-Running.frame) (tasks.Running c.in-Running.frame) s.tasks.ok.0 c.in-Some.ensures.item.3.0 (sym c.in-Running.is ∙ c.in-Some.ensures.item.3.1 (tasks.Running c.in-Running.frame)) in
+    rewritten s _ c.in-Running.frame c.put.new.self e refl
+
+pub put-requires : goal.put-requires
+put-requires c =
+    let s = c.args.self.now in
+    let e = ending (vec_len s.tasks) s.tasks.items (tasks.Running c.in-Running.frame) (tasks.Running c.in-Running.frame) s.tasks.ok.0 c.in-Some.ensures.item.3.0 (sym c.in-Running.is ∙ c.in-Some.ensures.item.3.1 (tasks.Running c.in-Running.frame)) in
+    record { register = subst (λ (g : config.Frame). c.args.to.0 < length g.registers) (frame_last s c.in-Running.frame e) c.requires.register }
+
+pub returns-clause-written : goal.returns-clause-written
+returns-clause-written c =
+    let s = c.args.self.now in
+    let e = ending (vec_len s.tasks) s.tasks.items (tasks.Running c.in-Running.frame) (tasks.Running c.in-Running.frame) s.tasks.ok.0 c.in-Some.ensures.item.3.0 (sym c.in-Running.is ∙ c.in-Some.ensures.item.3.1 (tasks.Running c.in-Running.frame)) in
+    let to = c.args.to.0 in
+    let v = option_map value_view c.args.value in
+    frame_now s _ c.in-Running.frame c.put.new.self e refl
+    ∙ c.put.ensures.beside
+    ∙ ap (λ (rs : Registers). record (frame_view c.in-Running.frame) { registers = rs }) c.put.ensures.written
+    ∙ ap (λ (g : config.Frame). record g { registers = write None g.registers to v }) (sym (frame_last s c.in-Running.frame e))
+
+pub returns-clause-held : goal.returns-clause-held
+returns-clause-held c =
+    let s = c.args.self.now in
+    let e = ending (vec_len s.tasks) s.tasks.items (tasks.Running c.in-Running.frame) (tasks.Running c.in-Running.frame) s.tasks.ok.0 c.in-Some.ensures.item.3.0 (sym c.in-Running.is ∙ c.in-Some.ensures.item.3.1 (tasks.Running c.in-Running.frame)) in
+    c.put.ensures.held ∙ ap (λ (g : config.Frame). read None g.registers c.args.to.0) (sym (frame_last s c.in-Running.frame e))
