@@ -1,5 +1,5 @@
 -- Which value a reply has, once an event has ended.
-use Rattle.std.proofs.Common.{◌≡◌, Option, option_map, ap, sym, subst}
+use Rattle.std.proofs.Common.{◌≡◌, Option, option_map, sym, subst}
 use Rattle.ui_machine.specs.State.Config.{Config, World}
 use Rattle.g_values.specs.View.{kind_view}
 use Rattle.g_values.specs.declared.kind.Kind.{Kind}

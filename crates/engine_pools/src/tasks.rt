@@ -1,6 +1,6 @@
 //! The step of each task, as the machine makes it.
 
-ghost use Rattle.std.specs.Prelude.{◌+◌, ◌≤◌, ◌∷◌, length, OnOk, OnErr, IfOk};
+ghost use Rattle.std.specs.Prelude.{◌≡◌, ◌+◌, ◌≤◌, ◌∷◌, None, length, OnOk, OnErr, IfOk};
 ghost use Rattle.ui_machine.specs.Rules.Build.{to_connect, to_make};
 ghost use Rattle.ui_machine.specs.Rules.Connections.{greatest_handler};
 ghost use Rattle.ui_machine.specs.State.Objects.{most_identities};

@@ -1,4 +1,4 @@
-use Rattle.std.proofs.Common.{◌≡◌, ◌∷◌, ◌+◌, ◌≤◌, ◌<◌, ℕ, Option, Some, Result, Ok, Err, List, drop, vec_capacity, vec_len, ap, refl, subst, suc, sym, ◌∙◌, arith}
+use Rattle.std.proofs.Common.{◌≡◌, ◌<◌, ℕ, Option, Some, Result, Ok, Err, List, drop, ap, refl, subst, suc, sym, ◌∙◌, arith}
 use Rattle.std.specs.Prelude.{OnOk}
 use Rattle.std.specs.declared.alloc.AllocError.{AllocError}
 use Rattle.ui_machine.specs.Definition.Lookups.{program_at}
@@ -11,13 +11,12 @@ use Rattle.ui_machine.specs.State.Config.{Config}
 use Rattle.ui_machine.specs.State.References.{in_register, in_task}
 use Rattle.ui_machine.specs.State.Tasks.{Frame, Registers, Task}
 use Rattle.ui_machine.specs.Steps.{counted_left, left, most_steps}
-use Rattle.law_typing.specs.Good.Meanings.{KeepsMeanings}
 use Rattle.frames.specs.FrameView.{Taken, frame_view, taken_in}
 use Rattle.frames.specs.declared.frame.Frame as code
 use Rattle.bytecode.specs.View.{instruction_view, program_view}
 use Rattle.engine_world.specs.Counting.{Counts, PassesGot, nothing}
 use Rattle.engine_world.specs.EngineView.{config_of}
-use Rattle.engine_world.specs.Able.{Able, LeadsWithoutGone}
+use Rattle.engine_world.specs.Able.{LeadsWithoutGone}
 use Rattle.engine_world.specs.FirstPrograms.{IsProgram, IsRewritten, first_frame, rest_of, stack_frame}
 use Rattle.engine_world.specs.KnownHandlers.{AllTakeKnownHandlers}
 use Rattle.engine_world.specs.Room.{HasRoom}

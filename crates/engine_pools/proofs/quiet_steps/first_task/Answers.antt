@@ -1,4 +1,4 @@
-use Rattle.std.proofs.Common.{◌≡◌, ◌∙◌, ◌∷◌, List, refl, sym, subst, ap, vec_capacity, arith}
+use Rattle.std.proofs.Common.{List, refl, subst, ap, vec_capacity, arith}
 use Rattle.std.proofs.lemmas.Result.{err_from_is_err_and}
 use Rattle.ui_machine.specs.State.Config.{Config, World}
 use Rattle.ui_machine.specs.State.Tasks.{Running, Task}

@@ -1,4 +1,4 @@
-use Rattle.std.proofs.Common.{Result, Ok, refl, ap, arith}
+use Rattle.std.proofs.Common.{Result, Ok, refl, sym, ap, ◌∙◌, arith}
 use Rattle.ui_machine.specs.Rules.Build.{is_connecting, is_making, of_items}
 use Rattle.ui_machine.specs.State.References.{in_task}
 use Rattle.std.specs.declared.alloc.AllocError.{AllocError}
@@ -11,6 +11,7 @@ use Rattle.engine_world.proofs.Rooms.{task_counted}
 use Rattle.engine_instructions.proofs.Creating.{making_from}
 use Rattle.engine_instructions.proofs.Whole.{leads_whole}
 use Rattle.engine_world.proofs.Signals.{bind_count, build_count}
+use Rattle.engine_world.specs.FirstPrograms.{program_in}
 use Rattle.engine_pools.proofs.tasks.act.Goals as goal
 
 -- what was done
@@ -150,7 +151,10 @@ pub handle_event-requires-clause-counted : goal.handle_event-requires-clause-cou
 handle_event-requires-clause-counted c = task_counted c.args.definition.now c.args.engine.now c.args.task c.requires.counted
 
 pub unreachable-requires : goal.unreachable-requires
-unreachable-requires c = rw c.in-Answering.is at c.requires.able
+unreachable-requires c = let none = sym (ap (λ (t : code.Task). program_in t) c.in-Running.is) ∙ c.requires.other in cc none
+
+pub unreachable-requires-in-Answering : goal.unreachable-requires-in-Answering
+unreachable-requires-in-Answering c = rw c.in-Answering.is at c.requires.able
 
 -- ** what is counted, and what was done
 
