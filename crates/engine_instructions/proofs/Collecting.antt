@@ -1,5 +1,5 @@
 -- What an emission collects of its programs, and where else a program's result goes.
-use Rattle.std.proofs.Common.{◌≡◌, ◌≤◌, ◌∙◌, refl, sym, ap, subst, ℕ, ◌+◌, ◌++◌, Bool, true, false, cond, List, [], ◌∷◌, Option, None, Some, Ok, Err, arith}
+use Rattle.std.proofs.Common.{◌≡◌, ◌≤◌, ◌∙◌, refl, sym, ap, subst, ℕ, ◌+◌, ◌++◌, Bool, true, false, cond, List, [], ◌∷◌, map, Option, None, Some, Ok, Err, arith}
 use Rattle.ui_machine.specs.declared.arm.Arm.{Arm}
 use Rattle.ui_machine.specs.declared.arm.Arm.TheVariants as arms
 use Rattle.ui_machine.specs.Definition.{Definition}
@@ -15,15 +15,16 @@ use Rattle.ui_machine.specs.Seq.{total}
 use Rattle.ui_machine.specs.State.Config.{Left, World, leaves}
 use Rattle.ui_machine.specs.State.Handlers.{Handler}
 use Rattle.ui_machine.specs.State.Objects.{Object, asked, class_in, living}
-use Rattle.ui_machine.specs.State.References.{in_emission, in_object, in_register, in_task, in_value, same}
+use Rattle.ui_machine.specs.State.References.{in_object, in_register, in_task, in_value, same}
 use Rattle.ui_machine.specs.State.Tasks.{Answering, Emission, Emitting, PlanEntry, Task}
 use Rattle.g_values.specs.declared.value.Value as values
 use Rattle.instance_tables.specs.Store.{Store, count_of}
 use Rattle.signal_core.specs.Emission.{Due, Walk, is_over, stopped}
 use Rattle.engine_world.specs.Able.{Able}
+use Rattle.engine_world.specs.FirstEmissions.{EmitsKnown, Emitted, IsEmission, IsReemitted, emission_view, emitting, entries_left, first_emitted}
 use Rattle.engine_world.specs.KnownHandlers.{AllTakeKnownHandlers, EndsWithoutTransfers}
-use Rattle.engine_instructions.specs.CollectView.{collects, stops_at}
-use Rattle.engine_world.specs.Counting.{Counts, MayHold, OnlyCounts}
+use Rattle.engine_instructions.specs.CollectView.{collected_by, collects, stops_at}
+use Rattle.engine_world.specs.Counting.{Counts, KeepsCounts, MayHold, OnlyTasks}
 use Rattle.engine_world.specs.TaskView.{agenda_of, emission_of, entries_to_come, task_of, tasks_of}
 use Rattle.engine_world.specs.declared.engine.Engine.{Engine}
 use Rattle.engine_world.specs.declared.stacks.Stack.{Stack}
@@ -31,6 +32,9 @@ use Rattle.engine_world.specs.declared.task.Task as code
 use Rattle.engine_world.specs.declared.task.Task.TheVariants as tasks
 use Rattle.engine_world.proofs.Ableness.{able_as, first}
 use Rattle.engine_world.proofs.Counts.{restacked}
+use Rattle.engine_world.proofs.FirstEmissions.{begins, first_begun}
+use Rattle.engine_world.specs.View.{world_of}
+use Rattle.g_values.specs.View.{value_view}
 use Rattle.engine_instructions.proofs.Tested.{passes}
 use Rattle.engine_instructions.proofs.StoppedEmissions.{over_leaves, stop_leaves, stop_same, turns_alike}
 use Rattle.engine_world.specs.TransferView.{due_later, due_now, entries_due_of}
@@ -99,17 +103,18 @@ module _ (w : Walk) (hs : List Handler) (args : List values.Value) (by_event : B
       by false false = refl
 
 -- and it takes no handler that it did not take before
-pub still_begun : (last : ℕ) (w : Walk) (a : Option Accumulator) (given : Option Value) (new : Walk) → new ≡ collects a given w → w.greatest ≤ last → new.greatest ≤ last
-still_begun last w a given new is h = subst (λ (u : Walk). u.greatest ≤ last) (sym is) (rw (same_bound given) h)
+collects_bound : (w : Walk) (a : Option Accumulator) (given : Option Value) → (collects a given w).greatest ≡ w.greatest
+collects_bound w a None = refl
+collects_bound w a (Some v) = by (is_over w.stage) (is_last a v)
   where
-    by : (v : Value) (over last : Bool) → (cond over w (cond last (stopped (record w { value = Some v })) (record w { value = Some v }))).greatest ≡ w.greatest
-    by v true last = refl
-    by v false true = refl
-    by v false false = refl
+    by : (over last : Bool) → (cond over w (cond last (stopped (record w { value = Some v })) (record w { value = Some v }))).greatest ≡ w.greatest
+    by true last = refl
+    by false true = refl
+    by false false = refl
 
-    same_bound : (given : Option Value) → (collects a given w).greatest ≡ w.greatest
-    same_bound None = refl
-    same_bound (Some v) = by v (is_over w.stage) (is_last a v)
+pub still_known : (last : ℕ) (hs : List Handler) (own : Emitted) (a : Option Accumulator) (given : Option Value) → EmitsKnown last own → EmitsKnown last (collected_by a given own)
+still_known last hs own a given known =
+    (subst (λ n. n ≤ last) (sym (collects_bound own.walk a given)) known.0, still_ends own.walk hs own.args own.by_event own.transfers known.1 a given)
 
 -- ** by the signal
 
@@ -155,6 +160,16 @@ module _ (d : Definition) (w : World) (e : Emission) (entries : List PlanEntry) 
           let fits = first (only_if suited arms.Result take_all) (λ task. leaves w (task ∷ rest)) (able_as collect_by able) in
           collect_by ∙ ap leave (passes suited arms.Result take_all fits)
 
+-- what the emission in its place becomes
+pub accumulates : (d : Definition) (e : Engine) (class : ℕ) (own : Emitted) (rest : List Task) (given : Option Value) → EndsWithoutTransfers own.walk own.transfers
+    → asked (world_of e.world).objects own.walk.object (λ o. Ok o.class) ≡ Ok class → (s : Signal) → signal_of d class own.walk.signal ≡ Some s
+    → Able (down_to_emission d (world_of e.world) (emission_view own) (entries_left own e.world.handlers.handlers) rest given)
+    → down_to_emission d (world_of e.world) (emission_view own) (entries_left own e.world.handlers.handlers) rest given
+    ≡ leaves (world_of e.world) (emitting (collected_by s.accumulator given own) e.world.handlers.handlers ∷ rest)
+accumulates d e class own rest given ends of s declared able =
+    collect_suited d (world_of e.world) (emission_view own) (entries_left own e.world.handlers.handlers) rest given class of s declared able
+    ∙ ap (λ (t : Task). leaves (world_of e.world) (t ∷ rest)) (collected_as own.walk e.world.handlers.handlers own.args own.by_event own.transfers ends s given)
+
 -- ** to other tasks
 
 -- a program above a task that is no emission's and no source's gives none
@@ -168,7 +183,7 @@ gives_last d w (Some v) = refl
 
 -- a task that takes nothing of what a program gives
 abbrev pub TakesNone : code.Task → Type 0
-TakesNone (tasks.Emitting cursor args by_event transfers) = ⊥
+TakesNone (tasks.Emitting emission) = ⊥
 TakesNone (tasks.Answering source) = ⊥
 TakesNone _ = Unit {0}
 
@@ -178,7 +193,7 @@ module _ (d : Definition) (hs : List Handler) (w : World) (rest : List Task) whe
 
   -- a task that is no emission's and no source's is given nothing
   pub gives_other : (t : code.Task) (given : Option Value) → TakesNone t → GivesNone t given
-  gives_other (tasks.Emitting cursor args by_event transfers) given other = absurd other
+  gives_other (tasks.Emitting emission) given other = absurd other
   gives_other (tasks.Setting id slot x) None other = refl
   gives_other (tasks.Setting id slot x) (Some v) other = refl
   gives_other (tasks.Notifying id slot) None other = refl
@@ -235,37 +250,36 @@ collected_may t w a (Some v) may again = by (is_over w.stage) (is_last a v)
     by false true = may
     by false false = may
 
--- an emission that goes on with what it has collected
-pub collected_counts : (d : Definition) (e : Engine) (t : Store) (s : Stack) (taken : ℕ → ℕ) (old new : Emission) (entries : List PlanEntry) → OnlyCounts e.world.table t
-    → ((o : ℕ) → count_of t.counts o + in_register o old.value ≡ count_of e.world.table.counts o + in_register o new.value)
-    → new.object ≡ old.object → new.args ≡ old.args
-    → tasks_of d e.world.handlers.handlers s ≡ Emitting new entries ∷ agenda_of d e
-    → (AllTakeKnownHandlers e.world.handlers.last e.stack → AllTakeKnownHandlers e.world.handlers.last s) → Counts d (λ o. taken o + in_emission o old) e → Counts d taken (record e { world = record e.world { table = t }; stack = s })
-collected_counts d e t s taken old new entries only counts object args first begun h = record {
-  knows = h.knows;
-  links = h.links;
-  passes = h.passes;
-  connects = record { most = h.connects.most; to_come = h.connects.to_come; begun = begun h.connects.begun };
-  exact = λ o.
-      let objects : total (in_object d o) t.objects ≡ total (in_object d o) e.world.table.objects = ap (total (in_object d o)) only.objects in
-      let floats : total (same o) t.floating ≡ total (same o) e.world.table.floating = ap (total (same o)) only.floating in
-      omega (arith, objects, floats, counts o, ap (λ (ts : List Task). total (in_task o) ts) first, ap (same o) object, ap (total (in_value o)) args, h.exact o);
+-- an emission that goes on in its place with what it has collected
+pub collected_keeps : (d : Definition) (e new : Engine) → IsEmission e → OnlyTasks e new → IsReemitted e.stack new.stack → (x : Emitted) → first_emitted new ≡ x
+    → ((o : ℕ) → count_of new.world.table.counts o + in_register o (first_emitted e).walk.value ≡ count_of e.world.table.counts o + in_register o x.walk.value)
+    → x.walk.object ≡ (first_emitted e).walk.object → x.args ≡ (first_emitted e).args
+    → ((last : ℕ) → EmitsKnown last (first_emitted e) → EmitsKnown last x) → KeepsCounts d e new
+collected_keeps d e new first only emits x now counts object args known = record {
+  at = λ taken h.
+      let hs = e.world.handlers.handlers in
+      subst (λ (y : Engine). Counts d taken y) (sym only.beside) record {
+        knows = h.knows;
+        links = h.links;
+        passes = h.passes;
+        connects = record {
+          most = h.connects.most;
+          to_come = h.connects.to_come;
+          begun = (let last = e.world.handlers.last in emits.begun last (subst (λ (y : Emitted). EmitsKnown last y) (sym now) (known last (first_begun last e.stack first h.connects.begun))) h.connects.begun);
+        };
+        exact = λ o.
+            let objects : total (in_object d o) new.world.table.objects ≡ total (in_object d o) e.world.table.objects = ap (total (in_object d o)) only.table.objects in
+            let floats : total (same o) new.world.table.floating ≡ total (same o) e.world.table.floating = ap (total (same o)) only.table.floating in
+            let was = ap (λ (ts : List Task). total (in_task o) ts) (begins d e first) in
+            let is = ap (λ (ts : List Task). total (in_task o) ts) (emits.tasks d hs) in
+            let own = ap (λ (y : Emitted). in_task o (emitting y hs)) now in
+            omega (arith, objects, floats, counts o, was, is, own, ap (same o) object, ap (λ (vs : List values.Value). total (in_value o) (map value_view vs)) args, h.exact o);
+      };
 }
 
 -- the same world and the same tasks
 pub leaves_as : (w v : World) (ts us : List Task) → w ≡ v → ts ≡ us → leaves w ts ≡ leaves v us
 leaves_as w v ts us world agenda = rw (world, agenda) refl
-
--- what an emission that was taken off is counted for
-pub popped_emission : (d : Definition) (e : Engine) (s : Stack) (taken : ℕ → ℕ) (m : Emission) (entries : List PlanEntry) → agenda_of d e ≡ Emitting m entries ∷ tasks_of d e.world.handlers.handlers s
-    → ((last : ℕ) → AllTakeKnownHandlers last e.stack → AllTakeKnownHandlers last s) → Counts d taken e → Counts d (λ o. taken o + in_emission o m) (record e { stack = s })
-popped_emission d e s taken m entries first begun h = record {
-  knows = h.knows;
-  links = h.links;
-  passes = h.passes;
-  connects = restacked d e s begun h.connects;
-  exact = λ o. omega (arith, h.exact o, ap (λ (ts : List Task). total (in_task o) ts) first);
-}
 
 -- ** to a source
 

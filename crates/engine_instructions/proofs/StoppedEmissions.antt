@@ -1,7 +1,7 @@
 -- What a stop leaves of an emission, and of the tasks.
 use Rattle.engine_world.specs.KnownHandlers.{AllTakeKnownHandlers, EndsWithoutTransfers}
 use Rattle.engine_world.proofs.Counts.{restacked}
-use Rattle.std.proofs.Common.{◌≡◌, ◌∙◌, refl, sym, ap, subst, ℕ, ◌++◌, Bool, true, false, cond, map, nat_eq, List, [], ◌∷◌, Option, None, Some, arith}
+use Rattle.std.proofs.Common.{◌≡◌, ◌∙◌, refl, sym, ap, subst, ℕ, ◌++◌, Bool, true, false, cond, map, nat_eq, reverse, List, [], ◌∷◌, Option, None, Some, arith}
 use Rattle.std.specs.List.{filter}
 use Rattle.std.proofs.lemmas.List.Elements.{filter-append}
 use Rattle.ui_machine.specs.Definition.{Definition}
@@ -21,6 +21,8 @@ use Rattle.signal_core.specs.declared.stage.Stage.TheVariants as stages
 use Rattle.signal_core.specs.declared.turn.Turn.TheVariants as turns
 use Rattle.bindings.specs.declared.due.DueTransfer.{DueTransfer}
 use Rattle.engine_world.specs.Counting.{Counts}
+use Rattle.engine_world.specs.FirstEmissions.{emission_in, first_emission}
+use Rattle.engine_world.proofs.FirstEmissions.{starts_else}
 use Rattle.engine_world.specs.TaskView.{agenda_of, emission_of, entries_to_come, task_of, tasks_of}
 use Rattle.engine_world.specs.declared.engine.Engine.{Engine}
 use Rattle.engine_world.specs.declared.task.Task as code
@@ -183,15 +185,10 @@ module _ (w : Walk) (hs : List Handler) (args : List values.Value) (by_event : B
 
 -- ** tasks
 
--- a task that is no emission's
-abbrev pub IsOther : code.Task → Type 0
-IsOther (tasks.Emitting cursor args by_event transfers) = ⊥
-IsOther _ = Unit {0}
-
 module _ (d : Definition) (hs : List Handler) where
-  -- a stop leaves it
-  pub stops_none : (t : code.Task) (rest : List Task) → IsOther t → machine.stopped (task_of d hs t ∷ rest) ≡ task_of d hs t ∷ rest
-  stops_none (tasks.Emitting cursor args by_event transfers) rest other = absurd other
+  -- a stop leaves a task that is no emission's
+  stops_none : (t : code.Task) (rest : List Task) → emission_in t ≡ None → machine.stopped (task_of d hs t ∷ rest) ≡ task_of d hs t ∷ rest
+  stops_none (tasks.Emitting emission) rest other = absurd (cc other)
   stops_none (tasks.Setting id slot v) rest other = refl
   stops_none (tasks.Notifying id slot) rest other = refl
   stops_none (tasks.Beginning e) rest other = refl
@@ -208,6 +205,13 @@ module _ (d : Definition) (hs : List Handler) where
   stops_none (tasks.Calling call) rest other = refl
   stops_none (tasks.Due source) rest other = refl
   stops_none (tasks.Handling event) rest other = refl
+
+  -- and so all tasks where the first is none
+  pub stops_nothing : (items : List code.Task) → first_emission items ≡ None → machine.stopped (reverse (map (task_of d hs) items)) ≡ reverse (map (task_of d hs) items)
+  stops_nothing [] none = refl
+  stops_nothing (x ∷ xs) none =
+      let s = starts_else d hs x xs none in
+      ap (λ (ts : List Task). machine.stopped ts) s.first ∙ stops_none s.task s.behind s.other ∙ sym s.first
 
 -- a stop changes what no task holds
 pub stopped_holds : (d : Definition) (o : ℕ) (ts : List Task) → total (in_task o) (machine.stopped ts) ≡ total (in_task o) ts

@@ -1,6 +1,6 @@
 //! `stop`: a program stops the emission that runs it (GObject manual, Signals: `g_signal_stop_emission`).
 
-ghost use Rattle.std.specs.Prelude.{◌≡◌, ℕ, OnOk, OnErr};
+ghost use Rattle.std.specs.Prelude.{◌≡◌, ℕ, Ok};
 ghost use Rattle.ui_machine.specs.Definition as machine;
 ghost use Rattle.ui_machine.specs.Definition.Programs as words;
 ghost use Rattle.ui_machine.specs.Instructions.{instruction_step};
@@ -10,8 +10,7 @@ ghost use Rattle.engine_world.specs.FirstPrograms.{IsProgram, first_frame, rest_
 ghost use Rattle.engine_world.specs.KnownHandlers.{AllTakeKnownHandlers};
 ghost use Rattle.engine_world.specs.Counting.{Counts, nothing};
 ghost use Rattle.engine_world.specs.EngineView.{config_of};
-ghost use Rattle.engine_world.specs.Able.{Able, Leads};
-ghost use Rattle.engine_world.specs.Quiet.{IsQuiet};
+ghost use Rattle.engine_world.specs.Able.{Able};
 ghost use Rattle.engine_world.specs.TaskView.{agenda_of};
 ghost use Rattle.engine_world.specs.Room.{SameRoom, TakesRoom};
 ghost use Rattle.engine_world.specs.View.{world_of};
@@ -19,8 +18,6 @@ ghost use Rattle.engine_world.specs.View.{world_of};
 use definitions::Definition;
 use engine_world::engine::Engine;
 use engine_world::program_frames::{pop_frame, push_frame};
-use engine_world::task::Task;
-use std::alloc::AllocError;
 
 // Stops the emission that is the first task, if one is. Only its cleanup stage is left then, which makes no transfers.
 fn stop_emission(engine: &mut Engine)
@@ -30,27 +27,10 @@ fn stop_emission(engine: &mut Engine)
     ensures begun { (last : ℕ) → AllTakeKnownHandlers last engine.old.stack → AllTakeKnownHandlers last engine.new.stack }
     ensures room { TakesRoom 0 engine.old engine.new }
 {
-    let Some(task) = engine.stack.pop() else {
+    if engine.stack.first_emission().is_none() {
         return;
-    };
-    let Task::Emitting {
-        mut cursor,
-        args,
-        by_event,
-        transfers,
-    } = task
-    else {
-        engine.stack.push(task);
-        return;
-    };
-    cursor.stop();
-    let transfers = transfers.emptied();
-    engine.stack.push(Task::Emitting {
-        cursor,
-        args,
-        by_event,
-        transfers,
-    });
+    }
+    engine.stack.stop_emission(engine.alloc);
 }
 
 /// Stops the emission that runs the program, and lets the program go on.

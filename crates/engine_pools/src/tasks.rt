@@ -7,6 +7,7 @@ ghost use Rattle.ui_machine.specs.State.Objects.{most_identities};
 ghost use Rattle.ui_machine.specs.State.References.{in_task};
 ghost use Rattle.ui_machine.specs.Steps.{act};
 ghost use Rattle.law_typing.specs.Good.Meanings.{KeepsMeanings};
+ghost use Rattle.engine_world.specs.FirstEmissions.{emission_in};
 ghost use Rattle.engine_world.specs.FirstPrograms.{program_in};
 ghost use Rattle.engine_world.specs.KnownHandlers.{TakesKnownHandlers};
 ghost use Rattle.engine_world.specs.Quiet.{IsQuiet};
@@ -24,7 +25,7 @@ use engine_tasks::binds::bind_from_build;
 use engine_tasks::builds::{build, construct};
 use engine_tasks::calls::pass_over;
 use engine_tasks::children::adopt_from_build;
-use engine_tasks::emission::{begin_emission, emit};
+use engine_tasks::emission::begin_emission;
 use engine_tasks::events::handle_event;
 use engine_tasks::notifications::{notify, notify_thawed};
 use engine_tasks::sets::validate_and_set;
@@ -36,8 +37,8 @@ use engine_world::references::never_full;
 use engine_world::task::Task;
 use std::alloc::AllocError;
 
-/// Carries out a task that is no program, and returns whether that was a counted step. An emission passes over handlers that are blocked, and bindings that
-/// set or have ended. The machine must not be stuck there, and a call has to be of a peer that is closed.
+/// Carries out a task that is neither a program nor an emission that goes on, and returns whether that was a counted step. The machine must
+/// not be stuck there, and a call has to be of a peer that is closed.
 ///
 /// # Errors
 ///
@@ -60,6 +61,7 @@ pub(crate) fn act(
     requires counted { Counts definition.now (λ o. in_task o (task_in definition.now engine.now task)) engine.now }
     requires room { HasRoom 2 engine.now }
     requires other { program_in task ≡ None }
+    requires begins { emission_in task ≡ None }
     ensures step { LeadsWithoutGone result
         (act definition.now (world_of engine.old.world) None
         (past_turns (world_of engine.old.world) (task_in definition.now engine.old task) ∷ agenda_of definition.now engine.old) engine.old.counted)
@@ -90,15 +92,7 @@ pub(crate) fn act(
             begin_emission(engine, definition, emission)?;
             return Ok(StepKind::Counted);
         }
-        Task::Emitting {
-            cursor,
-            args,
-            by_event,
-            transfers,
-        } => {
-            emit(engine, definition, cursor, args, by_event, transfers)?;
-            return Ok(StepKind::Uncounted);
-        }
+        Task::Emitting(_) => unreachable!(),
         Task::Transferring { number, back } => {
             transfer(engine, definition, number, back)?;
             return Ok(StepKind::Counted);

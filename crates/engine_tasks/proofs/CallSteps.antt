@@ -56,7 +56,7 @@ module _ (d : Definition) (hs : List Handler) (w : World) (rest : List Task) whe
   asks_nothing (tasks.Setting id slot x) other = refl
   asks_nothing (tasks.Notifying id slot) other = refl
   asks_nothing (tasks.Beginning emission) other = refl
-  asks_nothing (tasks.Emitting cursor args by_event transfers) other = refl
+  asks_nothing (tasks.Emitting emission) other = refl
   asks_nothing (tasks.Running frame) other = refl
   asks_nothing (tasks.Thawing id slots) other = refl
   asks_nothing (tasks.Constructing id steps held) other = refl

@@ -1,6 +1,7 @@
 mod PlainSets
 mod EmissionTurns
 mod EmissionSteps
+mod EmissionPlaces
 mod TurnTaking
 mod ProgramStarts
 mod Emitted

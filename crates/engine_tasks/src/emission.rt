@@ -1,6 +1,6 @@
 //! Emissions: their beginning, their turns and their end (GObject manual, Signals: `g_signal_emit`).
 
-ghost use Rattle.std.specs.Prelude.{◌≡◌, ◌≤◌, ◌+◌, ◌∷◌, [], ℕ, None, map, option_map, string_bytes, true, IfSome, IfOk, MatchOption, OnOk, OnErr};
+ghost use Rattle.std.specs.Prelude.{◌≡◌, ◌≤◌, ◌+◌, ◌∷◌, [], ℕ, None, Some, map, option_map, string_bytes, true, IfSome, IfOk, OnOk, OnErr};
 ghost use Rattle.ui_machine.specs.Definition as machine;
 ghost use Rattle.ui_machine.specs.Seq.{total};
 ghost use Rattle.ui_machine.specs.Output.Lines as lines;
@@ -12,9 +12,10 @@ ghost use Rattle.ui_machine.specs.State.Bindings.{binding_of};
 ghost use Rattle.ui_machine.specs.State.References.{in_task, in_value, same};
 ghost use Rattle.ui_machine.specs.State.Tasks.{Beginning, Emitting};
 ghost use Rattle.ui_machine.specs.Steps.{act, counted, left, uncounted};
-ghost use Rattle.bindings.specs.Due.{entry_of, from_ready, is_free};
+ghost use Rattle.bindings.specs.Due.{entry_of, is_free};
 ghost use Rattle.signal_core.specs.Emission.{begun};
 ghost use Rattle.signal_core.specs.declared.stage.Stage.TheVariants as stages;
+ghost use Rattle.bytecode.specs.Computing.{registers_of};
 ghost use Rattle.g_values.specs.View.{kind_view, value_view};
 ghost use Rattle.definition_format.specs.Meaning.{IsKnownKind};
 ghost use Rattle.engine_world.specs.Able.{Able, Leads, LeadsToLiving};
@@ -23,19 +24,21 @@ ghost use Rattle.engine_world.specs.Room.{HasRoom, SameRoom, TakesRoom};
 ghost use Rattle.engine_world.specs.View.{world_of, with_line};
 ghost use Rattle.engine_world.specs.KnownHandlers.{EndsWithoutTransfers};
 ghost use Rattle.engine_world.specs.TaskView.{new_of, emission_of, entries_to_come, agenda_of};
-ghost use Rattle.engine_world.specs.TransferView.{due_later, due_now};
-ghost use Rattle.engine_world.specs.declared.task.Transfers.TheVariants as at;
-ghost use Rattle.engine_world.specs.Counting.{Counts, KeepsCounts, MayBeHeld, in_emitted};
+ghost use Rattle.engine_world.specs.TransferView.{due_later};
+ghost use Rattle.engine_world.specs.Counting.{Counts, KeepsCounts, MayBeHeld, in_emitted, nothing};
 ghost use Rattle.engine_world.specs.EngineView.{config_of};
-ghost use Rattle.engine_world.specs.Standing.{entries_due, past_turns};
-ghost use Rattle.engine_tasks.specs.TurnView.{RunsProgram, given_by, program_of_turn};
+ghost use Rattle.engine_world.specs.FirstEmissions.{IsEmission, emission_view, emitted_of, emitting, entries_left, first_emitted, first_emitting};
+ghost use Rattle.engine_world.specs.FirstPrograms.{rest_of};
+ghost use Rattle.engine_world.specs.Standing.{past_turns};
+ghost use Rattle.engine_tasks.specs.TurnView.{RunsProgram, given_around, given_by, program_of_turn};
 
 use crate::programs::begin_program;
 use crate::turns::Invocation;
-use bindings::{Bindings, DueTransfer};
+use bindings::DueTransfer;
 use definitions::Definition;
 use engine_world::arguments::shared_text;
 use engine_world::counted_steps::count;
+use engine_world::emission_frames::EmissionFrame;
 use engine_world::engine::Engine;
 use engine_world::lines::Line;
 use engine_world::program_frames::pass_down;
@@ -44,7 +47,7 @@ use engine_world::references::{
 };
 use engine_world::task::{NewEmission, Task, Transfers};
 use g_values::{Kind, Value, zero_of};
-use signal_core::{Cursor, Emission, Turn};
+use signal_core::{Emission, Turn};
 use std::alloc::{AllocError, Global};
 use type_tree::TypeTree;
 use ui_machine::ObjectId;
@@ -59,30 +62,6 @@ fn result_of(definition: &Definition, kind: Option<Kind>, value: Option<Value>) 
     match value {
         Some(value) => Some(value),
         None => Some(zero_of(definition.types(), kind)),
-    }
-}
-
-// Takes the next transfer that comes before all turns that are left. If it returns None, none is left that comes before them.
-fn next_transfer(bindings: &Bindings, transfers: &mut Transfers) -> Option<DueTransfer>
-    ensures next { MatchOption result
-        ((from_ready bindings.now.bindings (due_now transfers.old) ≡ []) × (due_now transfers.new ≡ []))
-        (λ due. from_ready bindings.now.bindings (due_now transfers.old) ≡ due ∷ due_now transfers.new) }
-    ensures later { due_later transfers.new ≡ due_later transfers.old }
-{
-    match transfers {
-        Transfers::Ahead(_) => None,
-        Transfers::Due(due) => due.take_next(bindings),
-    }
-}
-
-// Gives the bindings their turn: their transfers come before all other turns.
-fn begin_transfers(transfers: Transfers) -> Transfers
-    requires { due_now transfers ≡ [] }
-    ensures { result ≡ at.Due (due_later transfers) }
-{
-    match transfers {
-        Transfers::Ahead(due) => Transfers::Due(due),
-        Transfers::Due(due) => Transfers::Due(due),
     }
 }
 
@@ -108,35 +87,24 @@ fn emission_line(
 }
 
 // Puts the rest of an emission before the other tasks. What the emission was given stays held, and its object is held from then on.
-fn push_rest(
-    engine: &mut Engine,
-    cursor: Cursor,
-    args: Vec<Value>,
-    by_event: bool,
-    transfers: Transfers,
-)
-    requires may { MayBeHeld engine.now cursor.object }
-    requires begun { cursor.greatest ≤ engine.now.world.handlers.last }
-    requires ends { EndsWithoutTransfers cursor transfers }
+fn push_rest(engine: &mut Engine, rest: EmissionFrame)
+    requires may { MayBeHeld engine.now rest.cursor.object }
+    requires begun { rest.cursor.greatest ≤ engine.now.world.handlers.last }
+    requires ends { EndsWithoutTransfers rest.cursor rest.transfers }
     requires room { HasRoom 1 engine.now }
     ensures agenda { (d : machine.Definition) → agenda_of d engine.new
-        ≡ Emitting (emission_of cursor args.items by_event) (entries_to_come cursor engine.old.world.handlers.handlers transfers) ∷ agenda_of d engine.old }
+        ≡ emitting (emitted_of rest) engine.old.world.handlers.handlers ∷ agenda_of d engine.old }
     ensures world { world_of engine.new.world ≡ world_of engine.old.world }
     ensures same { engine.new.counted ≡ engine.old.counted }
     ensures handlers { engine.new.world.handlers ≡ engine.old.world.handlers }
     ensures counted { (d : machine.Definition) (taken : ℕ → ℕ)
-        → Counts d (λ o. taken o + in_emitted o (emission_of cursor args.items by_event)) engine.old → Counts d taken engine.new }
+        → Counts d (λ o. taken o + in_emitted o (emission_of rest.cursor rest.args.items rest.by_event)) engine.old → Counts d taken engine.new }
     ensures room { TakesRoom 1 engine.old engine.new }
 {
     // For the proof: what lives may be held once more.
     never_full(engine);
-    hold_any(&mut engine.world.table, Some(cursor.object()));
-    engine.stack.push(Task::Emitting {
-        cursor,
-        args,
-        by_event,
-        transfers,
-    });
+    hold_any(&mut engine.world.table, Some(rest.cursor.object()));
+    engine.stack.push(Task::Emitting(rest));
 }
 
 /// Begins an emission that is counted already, with the transfers that it is to make, and says its line. What is connected later has no
@@ -163,7 +131,13 @@ pub(crate) fn start_emission(
     ensures room { SameRoom engine.old engine.new }
 {
     let cursor = engine.world.handlers.begin_emission(emission);
-    push_rest(engine, cursor, args, by_event, transfers);
+    let rest = EmissionFrame {
+        cursor,
+        args,
+        by_event,
+        transfers,
+    };
+    push_rest(engine, rest);
     engine.world.say(line)?;
     Ok(())
 }
@@ -264,28 +238,32 @@ fn give_back_list(engine: &mut Engine, object: ObjectId, transfers: Transfers)
     engine.world.bindings.give_back(object, due);
 }
 
-// Ends an emission. A program that waits for its result takes it, what the emission was given is let go, and its lists are given back.
+// Ends an emission that was taken off. A program that waits for its result takes it, what the emission was given is let go, and its lists
+// are given back.
 #[tactic(auto, unfolding(ui_machine::specs::Rules::Accumulation::ending, ui_machine::specs::Rules::Accumulation::resulting, ui_machine::specs::Rules::EmissionPlan::signal_at, ui_machine::specs::Steps::left))]
 fn end_emission(
     engine: &mut Engine,
     definition: &Definition,
-    cursor: Cursor,
-    args: Vec<Value>,
-    by_event: bool,
-    transfers: Transfers,
+    rest: EmissionFrame,
 ) -> Result<(), AllocError>
-    requires able { Able (left engine.now.counted (ending definition.now (world_of engine.now.world) (emission_of cursor args.items by_event) (agenda_of definition.now engine.now))) }
-    requires counted { Counts definition.now (λ o. same o cursor.object + in_emitted o (emission_of cursor args.items by_event)) engine.now }
+    requires able { Able (left engine.now.counted (ending definition.now (world_of engine.now.world) (emission_of rest.cursor rest.args.items rest.by_event) (agenda_of definition.now engine.now))) }
+    requires counted { Counts definition.now (λ o. same o rest.cursor.object + in_emitted o (emission_of rest.cursor rest.args.items rest.by_event)) engine.now }
     ensures step { Leads result
-        (left engine.old.counted (ending definition.now (world_of engine.old.world) (emission_of cursor args.items by_event) (agenda_of definition.now engine.old)))
+        (left engine.old.counted (ending definition.now (world_of engine.old.world) (emission_of rest.cursor rest.args.items rest.by_event) (agenda_of definition.now engine.old)))
         (config_of definition.now engine.new) }
     ensures quiet { OnErr result (IsQuiet (world_of engine.old.world) (world_of engine.new.world)) }
-    ensures counted { OnOk result (Counts definition.now (λ o. same o cursor.object) engine.new) }
+    ensures counted { OnOk result (Counts definition.now nothing engine.new) }
     ensures room { SameRoom engine.old engine.new }
 {
     // For the proof: what is known of a definition's signals, and that what is held lives and may be held once more.
     let _types = definition.types();
     never_full(engine);
+    let EmissionFrame {
+        cursor,
+        args,
+        by_event,
+        transfers,
+    } = rest;
     let object = cursor.object();
     let number = cursor.signal();
     let class = engine.world.table.class_of(object);
@@ -298,9 +276,45 @@ fn end_emission(
     say_result_if(engine, definition, by_event, value)?;
     let_go_values(&mut engine.world.table, args.as_slice());
     let_go_any(&mut engine.world.table, held);
+    let_go_any(&mut engine.world.table, Some(object));
     engine.spare_args.give_back(args);
     give_back_list(engine, object, transfers);
     Ok(())
+}
+
+// Takes the emission off that is the first task, and ends it.
+fn end_first(engine: &mut Engine, definition: &Definition) -> Result<(), AllocError>
+    requires first { IsEmission engine.now }
+    requires able { Able (left engine.now.counted (ending definition.now (world_of engine.now.world) (emission_view (first_emitted engine.now)) (rest_of definition.now engine.now))) }
+    requires counted { Counts definition.now nothing engine.now }
+    ensures step { Leads result
+        (left engine.old.counted (ending definition.now (world_of engine.old.world) (emission_view (first_emitted engine.old)) (rest_of definition.now engine.old)))
+        (config_of definition.now engine.new) }
+    ensures quiet { OnErr result (IsQuiet (world_of engine.old.world) (world_of engine.new.world)) }
+    ensures counted { OnOk result (Counts definition.now nothing engine.new) }
+    ensures room { SameRoom engine.old engine.new }
+{
+    let Some(task) = engine.stack.pop() else {
+        unreachable!()
+    };
+    let Task::Emitting(rest) = task else {
+        unreachable!()
+    };
+    end_emission(engine, definition, rest)
+}
+
+// Returns the registers with which the program of a turn begins: the values that it is given.
+fn turn_registers(engine: &mut Engine, runs: Invocation) -> Result<Vec<Option<Value>>, AllocError>
+    requires first { IsEmission engine.now }
+    ensures given { IfOk result (λ registers. registers_of registers.items ≡ map (λ v. Some v) (given_around runs (map value_view (first_emitted engine.old).args))) }
+    ensures same { engine.new ≡ engine.old }
+{
+    let mut registers = engine.spare_registers.take(engine.alloc);
+    let Some(emission) = engine.stack.first_emission() else {
+        unreachable!()
+    };
+    runs.give(&mut registers, emission.args.as_slice())?;
+    Ok(registers)
 }
 
 // Begins the program of a turn, before the rest of the emission.
@@ -308,64 +322,47 @@ fn take_turn(
     engine: &mut Engine,
     definition: &Definition,
     turn: Turn,
-    cursor: Cursor,
-    args: Vec<Value>,
-    by_event: bool,
-    transfers: Transfers,
 ) -> Result<(), AllocError>
-    requires able { Able (uncounted (Emitting (emission_of cursor args.items by_event) (entries_to_come cursor engine.now.world.handlers.handlers transfers) ∷ agenda_of definition.now engine.now) engine.now.counted
-        (beginning_program definition.now (world_of engine.now.world) (program_of_turn turn) (given_by (emission_of cursor args.items by_event) turn))) }
-    requires names { LeadsToLiving (uncounted (Emitting (emission_of cursor args.items by_event) (entries_to_come cursor engine.now.world.handlers.handlers transfers) ∷ agenda_of definition.now engine.now) engine.now.counted
-        (beginning_program definition.now (world_of engine.now.world) (program_of_turn turn) (given_by (emission_of cursor args.items by_event) turn))) }
+    requires first { IsEmission engine.now }
+    requires able { Able (uncounted (agenda_of definition.now engine.now) engine.now.counted
+        (beginning_program definition.now (world_of engine.now.world) (program_of_turn turn) (given_by (emission_view (first_emitted engine.now)) turn))) }
+    requires names { LeadsToLiving (uncounted (agenda_of definition.now engine.now) engine.now.counted
+        (beginning_program definition.now (world_of engine.now.world) (program_of_turn turn) (given_by (emission_view (first_emitted engine.now)) turn))) }
     requires runs { RunsProgram turn }
-    requires begun { cursor.greatest ≤ engine.now.world.handlers.last }
-    requires ends { EndsWithoutTransfers cursor transfers }
-    requires counted { Counts definition.now (λ o. same o cursor.object + in_emitted o (emission_of cursor args.items by_event)) engine.now }
-    requires room { HasRoom 2 engine.now }
+    requires counted { Counts definition.now nothing engine.now }
+    requires room { HasRoom 1 engine.now }
     ensures step { Leads result
-        (uncounted (Emitting (emission_of cursor args.items by_event) (entries_to_come cursor engine.old.world.handlers.handlers transfers) ∷ agenda_of definition.now engine.old) engine.old.counted
-        (beginning_program definition.now (world_of engine.old.world) (program_of_turn turn) (given_by (emission_of cursor args.items by_event) turn)))
+        (uncounted (agenda_of definition.now engine.old) engine.old.counted
+        (beginning_program definition.now (world_of engine.old.world) (program_of_turn turn) (given_by (emission_view (first_emitted engine.old)) turn)))
         (config_of definition.now engine.new) }
     ensures quiet { OnErr result (IsQuiet (world_of engine.old.world) (world_of engine.new.world)) }
-    ensures counted { OnOk result (Counts definition.now (λ o. same o cursor.object) engine.new) }
+    ensures counted { OnOk result (Counts definition.now nothing engine.new) }
     ensures room { SameRoom engine.old engine.new }
 {
-    // For the proof: what is held lives.
-    never_full(engine);
-    let runs = Invocation::new(turn, cursor.object());
-    let mut registers = engine.spare_registers.take(engine.alloc);
-    runs.give(&mut registers, args.as_slice())?;
-    push_rest(engine, cursor, args, by_event, transfers);
+    let Some(emission) = engine.stack.first_emission() else {
+        unreachable!()
+    };
+    let runs = Invocation::new(turn, emission.cursor.object());
+    let registers = turn_registers(engine, runs)?;
     begin_program(engine, definition, runs.program, registers)
 }
 
 // Makes a transfer due before the rest of the emission. Its binding has not ended, and does not set.
-fn take_transfer(
-    engine: &mut Engine,
-    definition: &Definition,
-    due: DueTransfer,
-    cursor: Cursor,
-    args: Vec<Value>,
-    by_event: bool,
-    transfers: Transfers,
-)
+fn take_transfer(engine: &mut Engine, definition: &Definition, due: DueTransfer)
+    requires first { IsEmission engine.now }
     requires able { Able (act definition.now (world_of engine.now.world) None
-        (Emitting (emission_of cursor args.items by_event) (entry_of due ∷ entries_to_come cursor engine.now.world.handlers.handlers transfers) ∷ agenda_of definition.now engine.now) engine.now.counted) }
+        (Emitting (emission_view (first_emitted engine.now)) (entry_of due ∷ entries_left (first_emitted engine.now) engine.now.world.handlers.handlers) ∷ rest_of definition.now engine.now) engine.now.counted) }
     requires free { is_free (binding_of due.number engine.now.world.bindings.bindings) ≡ true }
-    requires begun { cursor.greatest ≤ engine.now.world.handlers.last }
-    requires ends { EndsWithoutTransfers cursor transfers }
-    requires counted { Counts definition.now (λ o. same o cursor.object + in_emitted o (emission_of cursor args.items by_event)) engine.now }
-    requires room { HasRoom 2 engine.now }
+    requires counted { Counts definition.now nothing engine.now }
+    requires room { HasRoom 1 engine.now }
     ensures step { act definition.now (world_of engine.old.world) None
-        (Emitting (emission_of cursor args.items by_event) (entry_of due ∷ entries_to_come cursor engine.old.world.handlers.handlers transfers) ∷ agenda_of definition.now engine.old) engine.old.counted
+        (Emitting (emission_view (first_emitted engine.old)) (entry_of due ∷ entries_left (first_emitted engine.old) engine.old.world.handlers.handlers) ∷ rest_of definition.now engine.old) engine.old.counted
         ≡ Ok (config_of definition.now engine.new) }
-    ensures counted { Counts definition.now (λ o. same o cursor.object) engine.new }
+    ensures counted { Counts definition.now nothing engine.new }
     ensures room { SameRoom engine.old engine.new }
 {
-    // For the proof: the clauses speak of the definition, and what is held lives.
+    // For the proof: the clauses speak of the definition.
     let _ = definition;
-    never_full(engine);
-    push_rest(engine, cursor, args, by_event, transfers);
     push_task(
         engine,
         Task::Transferring {
@@ -377,90 +374,72 @@ fn take_transfer(
 
 // Goes on with an emission whose bindings have their turn: makes the next of their transfers, or takes the next turn of a program if none
 // is left, or ends the emission if there is no turn either.
-fn emit_transfers(
-    engine: &mut Engine,
-    definition: &Definition,
-    mut cursor: Cursor,
-    args: Vec<Value>,
-    by_event: bool,
-    mut transfers: Transfers,
-) -> Result<(), AllocError>
+fn emit_transfers(engine: &mut Engine, definition: &Definition) -> Result<(), AllocError>
+    requires first { IsEmission engine.now }
     requires able { Able (act definition.now (world_of engine.now.world) None
-        (Emitting (emission_of cursor args.items by_event) (entries_due (world_of engine.now.world) (entries_to_come cursor engine.now.world.handlers.handlers transfers)) ∷ agenda_of definition.now engine.now) engine.now.counted) }
+        (past_turns (world_of engine.now.world) (first_emitting engine.now) ∷ rest_of definition.now engine.now) engine.now.counted) }
     requires names { LeadsToLiving (act definition.now (world_of engine.now.world) None
-        (Emitting (emission_of cursor args.items by_event) (entries_due (world_of engine.now.world) (entries_to_come cursor engine.now.world.handlers.handlers transfers)) ∷ agenda_of definition.now engine.now) engine.now.counted) }
-    requires behind { cursor.stage ≡ stages.Before 0 }
-    requires later { due_later transfers ≡ [] }
-    requires begun { cursor.greatest ≤ engine.now.world.handlers.last }
-    requires counted { Counts definition.now (λ o. same o cursor.object + in_emitted o (emission_of cursor args.items by_event)) engine.now }
-    requires room { HasRoom 2 engine.now }
+        (past_turns (world_of engine.now.world) (first_emitting engine.now) ∷ rest_of definition.now engine.now) engine.now.counted) }
+    requires behind { (first_emitted engine.now).walk.stage ≡ stages.Before 0 }
+    requires later { due_later (first_emitted engine.now).transfers ≡ [] }
+    requires counted { Counts definition.now nothing engine.now }
+    requires room { HasRoom 1 engine.now }
     ensures step { Leads result
         (act definition.now (world_of engine.old.world) None
-        (Emitting (emission_of cursor args.items by_event) (entries_due (world_of engine.old.world) (entries_to_come cursor engine.old.world.handlers.handlers transfers)) ∷ agenda_of definition.now engine.old) engine.old.counted)
+        (past_turns (world_of engine.old.world) (first_emitting engine.old) ∷ rest_of definition.now engine.old) engine.old.counted)
         (config_of definition.now engine.new) }
     ensures quiet { OnErr result (IsQuiet (world_of engine.old.world) (world_of engine.new.world)) }
-    ensures counted { OnOk result (Counts definition.now (λ o. same o cursor.object) engine.new) }
+    ensures counted { OnOk result (Counts definition.now nothing engine.new) }
     ensures room { SameRoom engine.old engine.new }
 {
     // For the proof: what is known of the numbers of handlers.
     let _last = engine.world.handlers.last();
-    if let Some(due) = next_transfer(&engine.world.bindings, &mut transfers) {
-        take_transfer(engine, definition, due, cursor, args, by_event, transfers);
+    if let Some(due) = engine.stack.next_transfer(&engine.world.bindings) {
+        take_transfer(engine, definition, due);
         return Ok(());
     }
-    let Some(turn) = engine.world.handlers.next(&mut cursor) else {
-        return end_emission(engine, definition, cursor, args, by_event, transfers);
+    let Some(turn) = engine.stack.next_turn(&engine.world.handlers) else {
+        return end_first(engine, definition);
     };
-    take_turn(engine, definition, turn, cursor, args, by_event, transfers)
+    take_turn(engine, definition, turn)
 }
 
-/// Takes the next turn of an emission, or ends the emission if none is left. Handlers that are blocked have no turn, and bindings that set
-/// or have ended have none either.
+/// Takes the next turn of the emission that is the first task, or ends the emission if none is left. Handlers that are blocked have no turn,
+/// and bindings that set or have ended have none either. The emission stays in its place until it ends.
 ///
 /// # Errors
 ///
 /// `AllocError` if memory is refused.
-pub fn emit(
-    engine: &mut Engine,
-    definition: &Definition,
-    mut cursor: Cursor,
-    args: Vec<Value>,
-    by_event: bool,
-    mut transfers: Transfers,
-) -> Result<(), AllocError>
+pub fn emit(engine: &mut Engine, definition: &Definition) -> Result<(), AllocError>
+    requires first { IsEmission engine.now }
     requires able { Able (act definition.now (world_of engine.now.world) None
-        (past_turns (world_of engine.now.world) (Emitting (emission_of cursor args.items by_event) (entries_to_come cursor engine.now.world.handlers.handlers transfers))
-        ∷ agenda_of definition.now engine.now) engine.now.counted) }
+        (past_turns (world_of engine.now.world) (first_emitting engine.now) ∷ rest_of definition.now engine.now) engine.now.counted) }
     requires names { LeadsToLiving (act definition.now (world_of engine.now.world) None
-        (past_turns (world_of engine.now.world) (Emitting (emission_of cursor args.items by_event) (entries_to_come cursor engine.now.world.handlers.handlers transfers))
-        ∷ agenda_of definition.now engine.now) engine.now.counted) }
-    requires begun { cursor.greatest ≤ engine.now.world.handlers.last }
-    requires ends { EndsWithoutTransfers cursor transfers }
-    requires counted { Counts definition.now (λ o. same o cursor.object + in_emitted o (emission_of cursor args.items by_event)) engine.now }
-    requires room { HasRoom 2 engine.now }
+        (past_turns (world_of engine.now.world) (first_emitting engine.now) ∷ rest_of definition.now engine.now) engine.now.counted) }
+    requires counted { Counts definition.now nothing engine.now }
+    requires room { HasRoom 1 engine.now }
     ensures step { Leads result
         (act definition.now (world_of engine.old.world) None
-        (past_turns (world_of engine.old.world) (Emitting (emission_of cursor args.items by_event) (entries_to_come cursor engine.old.world.handlers.handlers transfers))
-        ∷ agenda_of definition.now engine.old) engine.old.counted)
+        (past_turns (world_of engine.old.world) (first_emitting engine.old) ∷ rest_of definition.now engine.old) engine.old.counted)
         (config_of definition.now engine.new) }
     ensures quiet { OnErr result (IsQuiet (world_of engine.old.world) (world_of engine.new.world)) }
-    ensures counted { OnOk result (Counts definition.now (λ o. same o cursor.object) engine.new) }
+    ensures counted { OnOk result (Counts definition.now nothing engine.new) }
     ensures room { SameRoom engine.old engine.new }
 {
     // For the proof: what is known of the numbers of handlers.
     let _last = engine.world.handlers.last();
-    if let Some(due) = next_transfer(&engine.world.bindings, &mut transfers) {
-        take_transfer(engine, definition, due, cursor, args, by_event, transfers);
+    if let Some(due) = engine.stack.next_transfer(&engine.world.bindings) {
+        take_transfer(engine, definition, due);
         return Ok(());
     }
-    let Some(turn) = engine.world.handlers.next(&mut cursor) else {
-        return end_emission(engine, definition, cursor, args, by_event, transfers);
+    let Some(turn) = engine.stack.next_turn(&engine.world.handlers) else {
+        return end_first(engine, definition);
     };
     match turn {
         Turn::Transfers => {
-            let due = begin_transfers(transfers);
-            emit_transfers(engine, definition, cursor, args, by_event, due)
+            engine.stack.begin_transfers(engine.alloc);
+            emit_transfers(engine, definition)
         }
-        turn => take_turn(engine, definition, turn, cursor, args, by_event, transfers),
+        turn => take_turn(engine, definition, turn),
     }
 }

@@ -24,7 +24,7 @@ module _ (g : config.Item → ℕ) (d : machine.Definition) (hs : List Handler) 
   none_of (tasks.Setting id slot v) is = refl
   none_of (tasks.Notifying id slot) is = refl
   none_of (tasks.Beginning e) is = refl
-  none_of (tasks.Emitting cursor args by_event transfers) is = refl
+  none_of (tasks.Emitting emission) is = refl
   none_of (tasks.Transferring number back) is = refl
   none_of (tasks.Unsetting number) is = refl
   none_of (tasks.Running frame) is = refl

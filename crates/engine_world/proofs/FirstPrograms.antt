@@ -77,7 +77,7 @@ is_running (tasks.Running g) f is = let same : g ≡ f = cc is in ap (λ x. task
 is_running (tasks.Setting id slot v) f is = absurd (cc is)
 is_running (tasks.Notifying id slot) f is = absurd (cc is)
 is_running (tasks.Beginning e) f is = absurd (cc is)
-is_running (tasks.Emitting cursor args by_event transfers) f is = absurd (cc is)
+is_running (tasks.Emitting emission) f is = absurd (cc is)
 is_running (tasks.Transferring number back) f is = absurd (cc is)
 is_running (tasks.Unsetting number) f is = absurd (cc is)
 is_running (tasks.Thawing id slots) f is = absurd (cc is)
@@ -154,7 +154,7 @@ starts_else d hs x (y ∷ ys) is =
 
 -- ** a program that is rewritten in its place
 
-last_found : {A : Type 0} (xs : List A) (x : A) → slice_get (xs ++ x ∷ []) (length (xs ++ x ∷ []) - 1) ≡ Some x
+pub last_found : {A : Type 0} (xs : List A) (x : A) → slice_get (xs ++ x ∷ []) (length (xs ++ x ∷ []) - 1) ≡ Some x
 last_found [] x = refl
 last_found (y ∷ []) x = refl
 last_found (y ∷ z ∷ zs) x =

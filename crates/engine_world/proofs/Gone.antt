@@ -257,7 +257,7 @@ module _ (gone : Gone) (free : OnlyHandlers gone) (keeps : Handler → Bool) whe
     task_alike (tasks.Setting id slot v) = refl
     task_alike (tasks.Notifying id slot) = refl
     task_alike (tasks.Beginning e) = refl
-    task_alike (tasks.Emitting cursor args by_event transfers) = ap (Emitting (emission_of cursor args.items by_event)) (entries_alike cursor transfers hs left)
+    task_alike (tasks.Emitting f) = ap (Emitting (emission_of f.cursor f.args.items f.by_event)) (entries_alike f.cursor f.transfers hs left)
     task_alike (tasks.Running frame) = refl
     task_alike (tasks.Thawing id slots) = refl
     task_alike (tasks.Constructing id steps held) = refl

@@ -40,3 +40,4 @@ mod PlainKinds
 mod ClosedPeers
 pub mod Ableness
 pub mod FirstPrograms
+pub mod FirstEmissions

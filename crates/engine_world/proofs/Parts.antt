@@ -12,7 +12,7 @@ pub parts : (d : Definition) (hs : List Handler) (t : Task) (o : ℕ) → in_tas
 parts d hs (tasks.Setting id slot x) o = omega arith
 parts d hs (tasks.Notifying id slot) o = omega arith
 parts d hs (tasks.Beginning emission) o = refl
-parts d hs (tasks.Emitting cursor args by_event transfers) o = refl
+parts d hs (tasks.Emitting emission) o = refl
 parts d hs (tasks.Running frame) o = omega arith
 parts d hs (tasks.Thawing id slots) o = omega arith
 parts d hs (tasks.Constructing id steps held) o = omega arith
@@ -32,7 +32,7 @@ pub task_alike : (d e : Definition) (hs gs : List Handler) (t : Task) (o : ℕ) 
 task_alike d e hs gs (tasks.Setting id slot x) o = refl
 task_alike d e hs gs (tasks.Notifying id slot) o = refl
 task_alike d e hs gs (tasks.Beginning emission) o = refl
-task_alike d e hs gs (tasks.Emitting cursor args by_event transfers) o = refl
+task_alike d e hs gs (tasks.Emitting emission) o = refl
 task_alike d e hs gs (tasks.Running frame) o = refl
 task_alike d e hs gs (tasks.Thawing id slots) o = refl
 task_alike d e hs gs (tasks.Constructing id steps held) o = refl

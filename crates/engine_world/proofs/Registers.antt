@@ -67,7 +67,7 @@ passes_by d hs (tasks.Running frame) rest v other = absurd (other frame refl)
 passes_by d hs (tasks.Setting id slot x) rest v other = refl
 passes_by d hs (tasks.Notifying id slot) rest v other = refl
 passes_by d hs (tasks.Beginning emission) rest v other = refl
-passes_by d hs (tasks.Emitting cursor args by_event transfers) rest v other = refl
+passes_by d hs (tasks.Emitting emission) rest v other = refl
 passes_by d hs (tasks.Thawing id slots) rest v other = refl
 passes_by d hs (tasks.Constructing id steps held) rest v other = refl
 passes_by d hs (tasks.Building place forwards) rest v other = refl
@@ -88,7 +88,7 @@ not_received d hs (tasks.Running frame) rest to v other = absurd (other frame re
 not_received d hs (tasks.Setting id slot x) rest to v other = refl
 not_received d hs (tasks.Notifying id slot) rest to v other = refl
 not_received d hs (tasks.Beginning emission) rest to v other = refl
-not_received d hs (tasks.Emitting cursor args by_event transfers) rest to v other = refl
+not_received d hs (tasks.Emitting emission) rest to v other = refl
 not_received d hs (tasks.Thawing id slots) rest to v other = refl
 not_received d hs (tasks.Constructing id steps held) rest to v other = refl
 not_received d hs (tasks.Building place forwards) rest to v other = refl
@@ -102,17 +102,17 @@ not_received d hs (tasks.Calling call) rest to v other = refl
 not_received d hs (tasks.Due source) rest to v other = refl
 not_received d hs (tasks.Handling event) rest to v other = refl
 
--- whether a program was found
-module _ {X : Type 0} (g : X → frames.Frame) where
-  pub none_found : (o : Option X) (p : Option frames.Frame) (b : Bool) → option_map g o ≡ p → is_some o ≡ not b → b ≡ true → p ≡ None
+-- whether a program was found, or an emission
+module _ {X Y : Type 0} (g : X → Y) where
+  pub none_found : (o : Option X) (p : Option Y) (b : Bool) → option_map g o ≡ p → is_some o ≡ not b → b ≡ true → p ≡ None
   none_found None p b is none so = sym is
   none_found (Some x) p true is none so = absurd (cc none)
   none_found (Some x) p false is none so = absurd (cc so)
 
-  pub some_found : (o : Option X) (p : Option frames.Frame) (b : Bool) → option_map g o ≡ p → is_some o ≡ not b → b ≡ false → IsSome p
+  pub some_found : (o : Option X) (p : Option Y) (b : Bool) → option_map g o ≡ p → is_some o ≡ not b → b ≡ false → IsSome p
   some_found None p true is none so = absurd (cc so)
   some_found None p false is none so = absurd (cc none)
-  some_found (Some x) p b is none so = ap (λ (o : Option frames.Frame). is_some o) (sym is)
+  some_found (Some x) p b is none so = ap (λ (o : Option Y). is_some o) (sym is)
 
 -- where no program is the first of some tasks
 module _ (d : Definition) (hs : List Handler) (v : Option Value) where

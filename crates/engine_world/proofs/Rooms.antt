@@ -77,16 +77,16 @@ task_most d hs o (tasks.Beginning e) =
       e.args.ok.1,
       e.args.small,
     )
-task_most d hs o (tasks.Emitting cursor args by_event transfers) =
+task_most d hs o (tasks.Emitting f) =
     omega (
       arith,
-      same_most o cursor.object,
-      register_most o cursor.value,
-      total_ones (in_value o) (value_most o) (map value_view args.items),
-      length-map args.items value_view,
-      args.ok.0,
-      args.ok.1,
-      args.small,
+      same_most o f.cursor.object,
+      register_most o f.cursor.value,
+      total_ones (in_value o) (value_most o) (map value_view f.args.items),
+      length-map f.args.items value_view,
+      f.args.ok.0,
+      f.args.ok.1,
+      f.args.small,
     )
 task_most d hs o (tasks.Running frame) =
     omega (

@@ -78,7 +78,7 @@ entries_same w ts hs ks same = ap (λ l. entries_due_of (due_now ts) ++ l) (entr
 
 -- what holds of the emission of a task that goes on
 abbrev pub OfEmission : (Walk → Transfers → Type 0) → code.Task → Type 0
-OfEmission P (tasks.Emitting cursor args by_event transfers) = P cursor transfers
+OfEmission P (tasks.Emitting f) = P f.cursor f.transfers
 OfEmission P _ = Unit {0}
 
 abbrev pub OfEmissions : (Walk → Transfers → Type 0) → List code.Task → Type 0
@@ -93,7 +93,7 @@ module _ (d : Definition) (hs ks : List Handler) where
   task_same (tasks.Setting id slot v) is = refl
   task_same (tasks.Notifying id slot) is = refl
   task_same (tasks.Beginning e) is = refl
-  task_same (tasks.Emitting cursor args by_event transfers) is = ap (Emitting (emission_of cursor args.items by_event)) is
+  task_same (tasks.Emitting f) is = ap (Emitting (emission_of f.cursor f.args.items f.by_event)) is
   task_same (tasks.Running frame) is = refl
   task_same (tasks.Thawing id slots) is = refl
   task_same (tasks.Constructing id steps held) is = refl
@@ -155,7 +155,7 @@ module _ (d : Definition) (change : Handler → Handler) (only : OnlyBlocks chan
   all_turns (t ∷ ts) = (by t, all_turns ts)
     where
       by : (t : code.Task) → OfEmission (Same d (map change hs) hs) t
-      by (tasks.Emitting cursor args by_event transfers) = entries_same cursor transfers (map change hs) hs (λ given after stage. handlers_same (entries_due_of (due_later transfers)) change only cursor given after stage hs)
+      by (tasks.Emitting f) = entries_same f.cursor f.transfers (map change hs) hs (λ given after stage. handlers_same (entries_due_of (due_later f.transfers)) change only f.cursor given after stage hs)
       by (tasks.Setting id slot v) = tt
       by (tasks.Notifying id slot) = tt
       by (tasks.Beginning e) = tt
@@ -204,9 +204,9 @@ module _ (d : Definition) (h : Handler) (hs : List Handler) (last : ℕ) (later 
   begun_turns (t ∷ ts) begun = (by t (All-head (TakesKnownHandlers last) t ts begun), begun_turns ts (All-tail (TakesKnownHandlers last) t ts begun))
     where
       by : (t : code.Task) → TakesKnownHandlers last t → OfEmission (Same d (hs ++ h ∷ []) hs) t
-      by (tasks.Emitting cursor args by_event transfers) begun =
-          let b : cursor.greatest ≤ last = begun.0 in
-          entries_same cursor transfers (hs ++ h ∷ []) hs (λ given after stage. later_same (entries_due_of (due_later transfers)) cursor h (omega (arith, later, b)) given after stage hs)
+      by (tasks.Emitting f) begun =
+          let b : f.cursor.greatest ≤ last = begun.0 in
+          entries_same f.cursor f.transfers (hs ++ h ∷ []) hs (λ given after stage. later_same (entries_due_of (due_later f.transfers)) f.cursor h (omega (arith, later, b)) given after stage hs)
       by (tasks.Setting id slot v) begun = tt
       by (tasks.Notifying id slot) begun = tt
       by (tasks.Beginning e) begun = tt
@@ -232,7 +232,7 @@ pub begun_more : (last more : ℕ) → last ≤ more → (s : Stack) → AllTake
 begun_more last more few s begun = all_more s.tasks.items begun
   where
     one_more : (t : code.Task) → TakesKnownHandlers last t → TakesKnownHandlers more t
-    one_more (tasks.Emitting cursor args by_event transfers) begun = let b : cursor.greatest ≤ last = begun.0 in (omega (arith, few, b), begun.1)
+    one_more (tasks.Emitting f) begun = let b : f.cursor.greatest ≤ last = begun.0 in (omega (arith, few, b), begun.1)
     one_more (tasks.Setting id slot v) begun = tt
     one_more (tasks.Notifying id slot) begun = tt
     one_more (tasks.Beginning e) begun = tt

@@ -13,7 +13,7 @@ EndsWithoutTransfers w ts = is_over w.stage ≡ true → due_now ts ≡ []
 
 -- an emission takes no handler with a number above this one, and no transfer at its end; the other tasks take none
 abbrev pub TakesKnownHandlers : (last : ℕ) → Task → Type 0
-TakesKnownHandlers last (tasks.Emitting cursor args by_event transfers) = (cursor.greatest ≤ last) × EndsWithoutTransfers cursor transfers
+TakesKnownHandlers last (tasks.Emitting f) = (f.cursor.greatest ≤ last) × EndsWithoutTransfers f.cursor f.transfers
 TakesKnownHandlers last _ = Unit {0}
 
 -- the same of all tasks of a stack

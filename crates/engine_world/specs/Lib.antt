@@ -1,4 +1,5 @@
 pub mod FirstPrograms
+pub mod FirstEmissions
 pub mod GivenView
 pub mod KinView
 pub mod WeakView

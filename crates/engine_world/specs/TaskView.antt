@@ -108,7 +108,7 @@ abbrev pub task_of : machine.Definition → List Handler → Task → config.Tas
 task_of d hs (tasks.Setting id slot v) = config.Setting id.0 slot (value_view v)
 task_of d hs (tasks.Notifying id slot) = config.Notifying id.0 slot
 task_of d hs (tasks.Beginning e) = config.Beginning (new_of e)
-task_of d hs (tasks.Emitting cursor args by_event transfers) = config.Emitting (emission_of cursor args.items by_event) (entries_to_come cursor hs transfers)
+task_of d hs (tasks.Emitting f) = config.Emitting (emission_of f.cursor f.args.items f.by_event) (entries_to_come f.cursor hs f.transfers)
 task_of d hs (tasks.Transferring number back) = config.Transferring number back
 task_of d hs (tasks.Unsetting number) = config.Unsetting number
 task_of d hs (tasks.Running frame) = config.Running (frame_view frame)

@@ -103,7 +103,7 @@ impl Task {
             Task::Setting { object, .. } => Some(*object),
             Task::Notifying { object, .. } => Some(*object),
             Task::Beginning(emission) => Some(emission.object),
-            Task::Emitting { cursor, .. } => Some(cursor.object()),
+            Task::Emitting(emission) => Some(emission.cursor.object()),
             Task::Transferring { .. } => None,
             Task::Unsetting { .. } => None,
             Task::Running(_) => None,
@@ -162,7 +162,9 @@ fn hold_given(table: &mut Table, task: &Task)
 {
     match task {
         Task::Beginning(emission) => hold_values(table, emission.args.as_slice()),
-        Task::Emitting { cursor, args, .. } => hold_emitted(table, cursor, args.as_slice()),
+        Task::Emitting(emission) => {
+            hold_emitted(table, &emission.cursor, emission.args.as_slice())
+        }
         Task::Setting { .. } => {}
         Task::Notifying { .. } => {}
         Task::Transferring { .. } => {}

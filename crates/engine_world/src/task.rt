@@ -3,12 +3,12 @@
 ghost use Rattle.std.specs.Prelude.{◌≡◌, [], ◌∷◌, reverse, map, MatchOption};
 ghost use Rattle.engine_world.specs.TaskView.{making_of_code};
 
+use crate::emission_frames::EmissionFrame;
 use bindings::DueTransfers;
 use bytecode::Register;
 use definition_format::Request;
 use frames::Frame;
 use g_values::Value;
-use signal_core::Cursor;
 use std::alloc::Global;
 use std::marker::Model;
 use std::rc::RcStr;
@@ -149,6 +149,7 @@ pub enum Transfers {
 }
 
 impl Transfers {
+    ghost use Rattle.engine_world.specs.TransferView.{due_later, due_now};
     ghost use Rattle.engine_world.specs.declared.task.Transfers.TheVariants as at;
 
     /// Creates an empty list of transfers.
@@ -158,8 +159,16 @@ impl Transfers {
         Transfers::Due(DueTransfers::new(alloc))
     }
 
+    /// Makes the transfers come before all turns that are left. None of them is due yet.
+    pub(crate) fn begun(self) -> Self
+        requires { due_now self ≡ [] }
+        ensures { result ≡ at.Due (due_later self) }
+    {
+        Transfers::Due(self.into_due())
+    }
+
     /// Removes all transfers, and keeps the list for reuse.
-    pub fn emptied(self) -> Self
+    pub(crate) fn emptied(self) -> Self
         ensures { result ≡ at.Due [] }
     {
         let mut due = self.into_due();
@@ -168,7 +177,9 @@ impl Transfers {
     }
 
     /// Returns the transfers that are left, whenever their turn is.
-    pub fn into_due(self) -> DueTransfers {
+    pub fn into_due(self) -> DueTransfers
+        ensures { (due_now self ≡ [] → result ≡ due_later self) }
+    {
         match self {
             Transfers::Ahead(due) => due,
             Transfers::Due(due) => due,
@@ -204,12 +215,7 @@ pub enum Task {
     /// An emission is to begin.
     Beginning(NewEmission),
     /// The rest of an emission.
-    Emitting {
-        cursor: Cursor,
-        args: Vec<Value>,
-        by_event: bool,
-        transfers: Transfers,
-    },
+    Emitting(EmissionFrame),
     /// A binding, given by its number, is to set one of its ends: its target, or its source if `back`.
     Transferring {
         number: u64,

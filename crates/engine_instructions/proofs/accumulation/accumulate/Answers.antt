@@ -1,17 +1,24 @@
-use Rattle.std.proofs.Common.{[], ◌∷◌, Bool, cond, option_map, refl, sym, ap, ◌∙◌}
-use Rattle.ui_machine.specs.State.Tasks.{Emitting, Task}
+use Rattle.std.proofs.Common.{◌≡◌, ◌∷◌, refl, arith, List, None, Ok, Option, Some, IsSome, option_map, sym, subst, ap, ◌∙◌}
+use Rattle.ui_machine.specs.Definition.Values as machine
+use Rattle.ui_machine.specs.Rules.EmissionPlan.{signal_of}
+use Rattle.ui_machine.specs.State.Config.{leaves}
+use Rattle.ui_machine.specs.State.Objects.{asked, living}
+use Rattle.ui_machine.specs.State.References.{in_register}
+use Rattle.ui_machine.specs.State.Tasks.{Task}
 use Rattle.g_values.specs.View.{value_view}
-use Rattle.signal_core.specs.Emission.{Walk, accumulator_of}
+use Rattle.signal_core.specs.Emission.{accumulator_of}
 use Rattle.signal_core.specs.SignalView.{declared_view}
-use Rattle.engine_world.specs.TaskView.{agenda_of, emission_of, entries_to_come}
+use Rattle.engine_world.specs.FirstEmissions.{Emitted, emission_view, emitting, entries_left, first_emitted}
+use Rattle.engine_world.specs.FirstPrograms.{rest_of}
+use Rattle.engine_world.specs.TaskView.{agenda_of}
 use Rattle.engine_world.specs.View.{world_of}
-use Rattle.engine_world.specs.declared.task.Transfers.{Transfers}
-use Rattle.engine_world.specs.declared.task.Transfers.TheVariants as at
-use Rattle.engine_instructions.specs.CollectView.{collects}
-use Rattle.engine_instructions.proofs.Collecting.{collect_suited, collect_unheard, collect_unknown, collected_as, collected_counts, collected_may, still_begun, still_ends, collects_object, leaves_as}
+use Rattle.engine_world.specs.declared.engine.Engine.{Engine}
 use Rattle.engine_world.proofs.Ableness.{no_arm}
+use Rattle.engine_world.proofs.FirstEmissions.{begins, emission_found}
 use Rattle.engine_world.proofs.LivingObjects.{lives_where}
-use Rattle.engine_world.proofs.Registers.{table_world}
+use Rattle.engine_world.proofs.Registers.{tasks_world}
+use Rattle.engine_instructions.specs.CollectView.{collected_by}
+use Rattle.engine_instructions.proofs.Collecting.{accumulates, collect_unheard, collect_unknown, collected_keeps, collected_may, collects_object, leaves_as, still_known}
 use Rattle.engine_instructions.proofs.accumulation.accumulate.Goals as goal
 
 pub class_of-class-requires : goal.class_of-class-requires
@@ -19,60 +26,86 @@ class_of-class-requires c = record {
   live =
       let d = c.args.definition.now in
       let e = c.args.engine.now in
-      let w = c.args.cursor in
-      let hs = e.world.handlers.handlers in
-      rw c.object-object.ensures
-      (lives_where (world_of e.world).objects w.object _ (λ arm is. no_arm _ arm c.requires.able
-      (collect_unheard d (world_of e.world) (emission_of w c.args.args.items c.args.by_event) (entries_to_come w hs c.args.transfers) (agenda_of d e) (option_map value_view c.args.given) arm is)));
+      let w = world_of e.world in
+      let own = first_emitted e in
+      let found = emission_found e.stack c.in-Some.emission.now (sym c.in-Some.ensures) in
+      let object = c.object-object.ensures ∙ ap (λ (x : Emitted). x.walk.object) (sym found) in
+      subst (λ i. IsSome (living e.world.table.objects i)) (sym object)
+      (lives_where w.objects own.walk.object _ (λ arm is. no_arm _ arm c.requires.able
+      (collect_unheard d w (emission_view own) (entries_left own e.world.handlers.handlers) (rest_of d e) (option_map value_view c.args.given) arm is)));
 }
 
-pub unreachable-requires : goal.unreachable-requires
-unreachable-requires c =
+pub unreachable-requires-in_default-signal : goal.unreachable-requires-in_default-signal
+unreachable-requires-in_default-signal c =
     let d = c.args.definition.now in
     let e = c.args.engine.now in
-    let w = c.args.cursor in
-    let hs = e.world.handlers.handlers in
-    let none = sym c.signal.ensures ∙ ap (option_map declared_view) c.in_default.is in
+    let w = world_of e.world in
+    let own = first_emitted e in
+    let found = emission_found e.stack c.in-Some.emission.now (sym c.in-Some.ensures) in
+    let object = c.object-object.ensures ∙ ap (λ (x : Emitted). x.walk.object) (sym found) in
+    let number = c.signal-number.ensures ∙ ap (λ (x : Emitted). x.walk.signal) (sym found) in
+    let of = subst (λ i. asked w.objects i (λ o. Ok o.class) ≡ Ok c.class_of-class.result) object c.class_of-class.ensures in
+    let none = subst (λ n. signal_of d c.class_of-class.result n ≡ None) number (sym c.signal.ensures ∙ ap (option_map declared_view) c.in_default-signal.is) in
     no_arm _ _ c.requires.able
-    (collect_unknown d (world_of e.world) (emission_of w c.args.args.items c.args.by_event) (entries_to_come w hs c.args.transfers) (agenda_of d e) (option_map value_view c.args.given) _
-    (rw c.object-object.ensures at c.class_of-class.ensures) (rw c.signal-number.ensures at none))
+    (collect_unknown d w (emission_view own) (entries_left own e.world.handlers.handlers) (rest_of d e) (option_map value_view c.args.given) _ of none)
 
-pub collect-is_last-requires-clause-may : goal.collect-is_last-requires-clause-may
-collect-is_last-requires-clause-may c =
-    collected_may c.args.engine.now.world.table c.args.cursor (option_map accumulator_of c.in-Some.signal.accumulator) (option_map value_view c.args.given) c.requires.may c.requires.again
+pub collect-requires : goal.collect-requires
+collect-requires c = record {
+  first = c.requires.first;
+  held = c.requires.held;
+  may =
+      collected_may c.args.engine.now.world.table (first_emitted c.args.engine.now).walk (option_map accumulator_of c.in-Some-signal.signal.accumulator) (Some (value_view c.in-Some-given.value))
+      (rw c.in-Some-given.is at c.requires.may) c.requires.again;
+}
+
+pub returns-in_default-given-clause-step : goal.returns-in_default-given-clause-step
+returns-in_default-given-clause-step c =
+    let d = c.args.definition.now in
+    let e = c.args.engine.now in
+    let w = world_of e.world in
+    let own = first_emitted e in
+    let found = emission_found e.stack c.in-Some.emission.now (sym c.in-Some.ensures) in
+    let object = c.object-object.ensures ∙ ap (λ (x : Emitted). x.walk.object) (sym found) in
+    let number = c.signal-number.ensures ∙ ap (λ (x : Emitted). x.walk.signal) (sym found) in
+    let of = subst (λ i. asked w.objects i (λ o. Ok o.class) ≡ Ok c.class_of-class.result) object c.class_of-class.ensures in
+    let s = declared_view c.in-Some-signal.signal in
+    let declared = subst (λ n. signal_of d c.class_of-class.result n ≡ Some s) number (sym c.signal.ensures ∙ ap (option_map declared_view) c.in-Some-signal.is) in
+    let given = ap (λ (o : Option _). option_map value_view o) c.in_default-given.is in
+    accumulates d e c.class_of-class.result own (rest_of d e) (option_map value_view c.args.given) c.requires.known.1 of s declared c.requires.able
+    ∙ ap (λ (o : Option machine.Value). leaves w (emitting (collected_by s.accumulator o own) e.world.handlers.handlers ∷ rest_of d e)) given
+    ∙ ap (λ (ts : List Task). leaves w ts) (sym (begins d e c.requires.first))
 
 pub returns-clause-step : goal.returns-clause-step
 returns-clause-step c =
     let d = c.args.definition.now in
     let e = c.args.engine.now in
-    let w = c.args.cursor in
+    let w = world_of e.world in
+    let own = first_emitted e in
+    let found = emission_found e.stack c.in-Some.emission.now (sym c.in-Some.ensures) in
+    let object = c.object-object.ensures ∙ ap (λ (x : Emitted). x.walk.object) (sym found) in
+    let number = c.signal-number.ensures ∙ ap (λ (x : Emitted). x.walk.signal) (sym found) in
+    let of = subst (λ i. asked w.objects i (λ o. Ok o.class) ≡ Ok c.class_of-class.result) object c.class_of-class.ensures in
+    let s = declared_view c.in-Some-signal.signal in
+    let new = c.collect.new.engine in
+    let only = c.collect.ensures.only in
     let hs = e.world.handlers.handlers in
-    let args = c.args.args.items in
-    let s = declared_view c.in-Some.signal in
-    let given = option_map value_view c.args.given in
-    let declared = sym c.signal.ensures ∙ ap (option_map declared_view) c.in-Some.is in
-    collect_suited d (world_of e.world) (emission_of w args c.args.by_event) (entries_to_come w hs c.args.transfers) (agenda_of d e) given _
-    (rw c.object-object.ensures at c.class_of-class.ensures) s (rw c.signal-number.ensures at declared) c.requires.able
-    ∙ leaves_as _ _ _ _ (sym (table_world e c.collect-is_last.new.table c.collect-is_last.ensures.only))
-    (ap (λ (t : Task). t ∷ agenda_of d e) (collected_as w hs args c.args.by_event c.args.transfers c.requires.ends s given)
-    ∙ ap (λ (b : Bool). Emitting (emission_of (collects s.accumulator given w) args c.args.by_event) (entries_to_come (collects s.accumulator given w) hs (cond b (at.Due []) c.args.transfers)) ∷ agenda_of d e) (sym c.collect-is_last.ensures.last)
-    ∙ ap (λ (u : Walk). Emitting (emission_of u args c.args.by_event) (entries_to_come u hs (cond c.collect-is_last.result (at.Due []) c.args.transfers)) ∷ agenda_of d e) (sym c.collect-is_last.ensures.taken)
-    ∙ ap (λ (ts : Transfers). Emitting (emission_of c.collect-is_last.new.cursor args c.args.by_event) (entries_to_come c.collect-is_last.new.cursor hs ts) ∷ agenda_of d e) (sym c.unless_stopped-left.ensures)
-    ∙ sym (c.push.ensures.tasks d hs))
+    let declared = subst (λ n. signal_of d c.class_of-class.result n ≡ Some s) number (sym c.signal.ensures ∙ ap (option_map declared_view) c.in-Some-signal.is) in
+    let given = ap (λ (o : Option _). option_map value_view o) c.in-Some-given.is in
+    let x = collected_by s.accumulator (Some (value_view c.in-Some-given.value)) own in
+    accumulates d e c.class_of-class.result own (rest_of d e) (option_map value_view c.args.given) c.requires.known.1 of s declared c.requires.able
+    ∙ ap (λ (o : Option machine.Value). leaves w (emitting (collected_by s.accumulator o own) hs ∷ rest_of d e)) given
+    ∙ leaves_as w (world_of new.world) (emitting x hs ∷ rest_of d e) (agenda_of d new) (sym (tasks_world e new only))
+    (sym (ap (λ (y : Engine). agenda_of d y) only.beside ∙ c.collect.ensures.emits.tasks d hs ∙ ap (λ (y : Emitted). emitting y hs ∷ rest_of d e) c.collect.ensures.emission))
 
 pub returns-clause-counted : goal.returns-clause-counted
-returns-clause-counted c taken h =
+returns-clause-counted c =
     let d = c.args.definition.now in
     let e = c.args.engine.now in
-    let w = c.args.cursor in
     let hs = e.world.handlers.handlers in
-    let args = c.args.args.items in
-    let s = declared_view c.in-Some.signal in
-    let given = option_map value_view c.args.given in
-    let object = ap (λ (u : Walk). u.object) c.collect-is_last.ensures.taken ∙ collects_object w hs args c.args.by_event s.accumulator given in
-    collected_counts d e c.collect-is_last.new.table c.push.new.self taken (emission_of w args c.args.by_event) (emission_of c.collect-is_last.new.cursor args c.args.by_event) _ c.collect-is_last.ensures.only
-    c.collect-is_last.ensures.counts object refl (c.push.ensures.tasks d hs)
-    (c.push.ensures.begun e.world.handlers.last (
-      still_begun e.world.handlers.last w (option_map accumulator_of c.in-Some.signal.accumulator) given c.collect-is_last.new.cursor c.collect-is_last.ensures.taken c.requires.begun,
-      rw (c.unless_stopped-left.ensures, c.collect-is_last.ensures.taken, c.collect-is_last.ensures.last) (still_ends w hs args c.args.by_event c.args.transfers c.requires.ends s.accumulator given),
-    )) h
+    let own = first_emitted e in
+    let a = option_map accumulator_of c.in-Some-signal.signal.accumulator in
+    let given = Some (value_view c.in-Some-given.value) in
+    let is = c.collect.ensures.emission in
+    collected_keeps d e c.collect.new.engine c.requires.first c.collect.ensures.only c.collect.ensures.emits (collected_by a given own) is
+    (λ o. omega (arith, c.collect.ensures.counts o, ap (λ (y : Emitted). in_register o y.walk.value) is))
+    (collects_object own.walk hs own.args own.by_event a given) refl (λ last known. still_known last hs own a given known)

@@ -1,141 +1,51 @@
-use Rattle.std.proofs.Common.{◌≡◌, ℕ, List, [], ◌∷◌, option_map, refl, sym, subst, ap, ◌∙◌, arith}
+use Rattle.std.proofs.Common.{ℕ, ◌∷◌, List, option_map, sym, subst, ap, ◌∙◌, arith}
 use Rattle.ui_machine.specs.Rules.Accumulation.{given_down}
 use Rattle.ui_machine.specs.Seq.{total}
 use Rattle.ui_machine.specs.State.References.{in_task}
 use Rattle.ui_machine.specs.State.Tasks.{Task}
 use Rattle.g_values.specs.View.{value_view}
 use Rattle.engine_world.specs.Able.{Able}
-use Rattle.engine_world.specs.KnownHandlers.{TakesKnownHandlers}
-use Rattle.engine_world.specs.TaskView.{agenda_of, emission_of, entries_to_come, task_of, tasks_of}
+use Rattle.engine_world.specs.FirstEmissions.{first_emission, first_emitted}
 use Rattle.engine_world.specs.View.{world_of}
-use Rattle.engine_world.specs.declared.task.Task as code
-use Rattle.engine_world.specs.declared.task.Task.TheVariants as tasks
-use Rattle.engine_instructions.proofs.Collecting.{TakesNone, gives_last, gives_nothing, gives_other, gives_source, popped_emission, popped_source, source_able}
+use Rattle.engine_world.proofs.FirstEmissions.{begins, first_begun}
+use Rattle.engine_world.proofs.Quiets.{quiet_same}
+use Rattle.engine_world.proofs.Registers.{none_found, some_found, tasks_world}
 use Rattle.engine_instructions.proofs.Holding.{counted_may}
-use Rattle.engine_world.proofs.Left.{same_agenda}
-use Rattle.engine_world.proofs.Registers.{stack_same}
 use Rattle.engine_instructions.proofs.accumulation.give_down.Goals as goal
 
-pub returns-in_default-clause-step : goal.returns-in_default-clause-step
-returns-in_default-clause-step c =
-    let d = c.args.definition.now in
-    let e = c.args.engine.now in
-    let given = option_map value_view c.args.given in
-    let none = c.in_default.ensures.tasks d e.world.handlers.handlers in
-    gives_nothing d (world_of e.world) given (agenda_of d e) _ [] none.0 none.1 (gives_last d (world_of e.world) given) c.requires.able
-
-pub returns-in_default-clause-counted : goal.returns-in_default-clause-counted
-returns-in_default-clause-counted c =
-    let d = c.args.definition.now in
-    let none = c.in_default.ensures.tasks d c.args.engine.now.world.handlers.handlers in
-    stack_same d c.args.engine.now c.pop.new.self (none.1 ∙ sym none.0) c.in_default.ensures.begun
-
-pub returns-in_default-task-clause-step : goal.returns-in_default-task-clause-step
-returns-in_default-task-clause-step c =
-    let d = c.args.definition.now in
-    let e = c.args.engine.now in
-    let hs = e.world.handlers.handlers in
-    let t = c.in-Some.task in
-    let rest = tasks_of d hs c.pop.new.self in
-    let given = option_map value_view c.args.given in
-    gives_nothing d (world_of e.world) given (agenda_of d e) _ (task_of d hs t ∷ rest)
-    (c.in-Some.ensures.tasks d hs) (c.push.ensures.tasks d hs) (gives_other d hs (world_of e.world) rest t given (other t refl)) c.requires.able
-  where
-    other : (t : code.Task) → c.in-Some.task ≡ t → TakesNone t
-    other (tasks.Emitting cursor args by_event transfers) is = absurd (c.in_default-task.not-Emitting cursor args by_event transfers is)
-    other (tasks.Setting id slot v) is = tt
-    other (tasks.Notifying id slot) is = tt
-    other (tasks.Beginning e) is = tt
-    other (tasks.Running frame) is = tt
-    other (tasks.Thawing id slots) is = tt
-    other (tasks.Constructing id steps held) is = tt
-    other (tasks.Building place forwards) is = tt
-    other (tasks.Adopting place forwards) is = tt
-    other (tasks.Transferring number back) is = tt
-    other (tasks.Unsetting number) is = tt
-    other (tasks.Binding number) is = tt
-    other (tasks.Connecting place number) is = tt
-    other (tasks.Answering source) is = absurd (c.in_default-task.not-Answering source is)
-    other (tasks.Calling call) is = tt
-    other (tasks.Due source) is = tt
-    other (tasks.Handling event) is = tt
-
-pub returns-in_default-task-clause-counted : goal.returns-in_default-task-clause-counted
-returns-in_default-task-clause-counted c =
-    let d = c.args.definition.now in
-    let e = c.args.engine.now in
-    let hs = e.world.handlers.handlers in
-    stack_same d e c.push.new.self (c.push.ensures.tasks d hs ∙ sym (c.in-Some.ensures.tasks d hs))
-    (λ last h. c.push.ensures.begun last (c.in-Some.ensures.first last h) (c.in-Some.ensures.begun last h))
+pub give_other-requires-clause-none : goal.give_other-requires-clause-none
+give_other-requires-clause-none c =
+    none_found _ c.first_emission.result (first_emission c.args.engine.now.stack.tasks.items) c.is_none.result c.first_emission.ensures c.is_none.ensures c.if-is_none.true
 
 pub accumulate-requires : goal.accumulate-requires
 accumulate-requires c =
-    let last = c.args.engine.now.world.handlers.last in
-    let known = subst (λ (t : code.Task). TakesKnownHandlers last t) c.in-Emitting.is (c.in-Some.ensures.first last c.requires.begun) in
     let d = c.args.definition.now in
-    let hs = c.args.engine.now.world.handlers.handlers in
     let e = c.args.engine.now in
-    let first = λ (o : ℕ). ap (λ (ts : List Task). total (in_task o) ts) (c.in-Some.ensures.tasks d hs) in
-    let emission = λ (o : ℕ). ap (λ (t : code.Task). in_task o (task_of d hs t)) c.in-Emitting.is in
-    let tasks = c.in-Some.ensures.tasks d hs ∙ ap (λ (t : code.Task). task_of d hs t ∷ tasks_of d hs c.pop.new.self) c.in-Emitting.is in
+    let first = some_found _ c.first_emission.result (first_emission e.stack.tasks.items) c.is_none.result c.first_emission.ensures c.is_none.ensures c.if-is_none.false in
+    let is = begins d e first in
+    let holds = λ (o : ℕ). ap (λ (ts : List Task). total (in_task o) ts) is in
     record {
-      able = subst (λ (ts : List Task). Able (given_down d (world_of c.args.engine.now.world) ts (option_map value_view c.args.given))) tasks c.requires.able;
-      held = λ o. omega (arith, c.requires.held.at o, first o, emission o);
+      first = first;
+      able = subst (λ (ts : List Task). Able (given_down d (world_of e.world) ts (option_map value_view c.args.given))) is c.requires.able;
+      held = λ o. omega (arith, c.requires.held.at o, holds o);
       may = c.requires.may;
       again =
-          counted_may d e c.in-Emitting.cursor.value c.never_full.ensures.room c.never_full.ensures.dead c.requires.counted (λ o. omega (arith, c.requires.held.at o, first o, emission o));
-      begun = known.0;
-      ends = known.1;
-      room = let free = c.in-Some.ensures.free in omega (arith, free);
+          counted_may d e (first_emitted e).walk.value c.never_full.ensures.room c.never_full.ensures.dead c.requires.counted (λ o. omega (arith, c.requires.held.at o, holds o));
+      known = first_begun e.world.handlers.last e.stack first c.requires.begun;
     }
 
-pub returns-in-Emitting-clause-step : goal.returns-in-Emitting-clause-step
-returns-in-Emitting-clause-step c =
+pub returns-clause-step : goal.returns-clause-step
+returns-clause-step c =
     let d = c.args.definition.now in
     let e = c.args.engine.now in
-    let hs = e.world.handlers.handlers in
-    let rest = tasks_of d hs c.pop.new.self in
-    let given = option_map value_view c.args.given in
-    let first = c.in-Some.ensures.tasks d hs ∙ ap (λ (t : code.Task). task_of d hs t ∷ rest) c.in-Emitting.is in
-    ap (λ (ts : List Task). given_down d (world_of e.world) ts given) first ∙ c.accumulate.ensures.step
+    let first = some_found _ c.first_emission.result (first_emission e.stack.tasks.items) c.is_none.result c.first_emission.ensures c.is_none.ensures c.if-is_none.false in
+    ap (λ (ts : List Task). given_down d (world_of e.world) ts (option_map value_view c.args.given)) (begins d e first) ∙ c.accumulate.ensures.step
 
-pub returns-in-Emitting-clause-counted : goal.returns-in-Emitting-clause-counted
-returns-in-Emitting-clause-counted c =
-    let d = c.args.definition.now in
+pub returns-clause-quiet : goal.returns-clause-quiet
+returns-clause-quiet c =
     let e = c.args.engine.now in
-    let hs = e.world.handlers.handlers in
-    let rest = tasks_of d hs c.pop.new.self in
-    let first = c.in-Some.ensures.tasks d hs ∙ ap (λ (t : code.Task). task_of d hs t ∷ rest) c.in-Emitting.is in
-    let m = emission_of c.in-Emitting.cursor c.in-Emitting.args.items c.in-Emitting.by_event in
-    record { at = λ taken h. c.accumulate.ensures.counted taken (popped_emission d e c.pop.new.self taken m (entries_to_come c.in-Emitting.cursor hs c.in-Emitting.transfers) first c.in-Some.ensures.begun h) }
+    let new = c.accumulate.new.engine in
+    quiet_same (world_of e.world) (world_of new.world) (tasks_world e new c.accumulate.ensures.only)
 
-pub answer-requires-clause-able : goal.answer-requires-clause-able
-answer-requires-clause-able c =
-    let d = c.args.definition.now in
-    let e = c.args.engine.now in
-    let hs = e.world.handlers.handlers in
-    let rest = tasks_of d hs c.pop.new.self in
-    let given = option_map value_view c.args.given in
-    let first = c.in-Some.ensures.tasks d hs ∙ ap (λ (t : code.Task). task_of d hs t ∷ rest) c.in-Answering.is in
-    source_able d (world_of e.world) c.in-Answering.source rest given (subst (λ (ts : List Task). Able (given_down d (world_of e.world) ts given)) first c.requires.able)
-
-pub returns-in-Answering-clause-step : goal.returns-in-Answering-clause-step
-returns-in-Answering-clause-step c =
-    let d = c.args.definition.now in
-    let e = c.args.engine.now in
-    let hs = e.world.handlers.handlers in
-    let rest = tasks_of d hs c.pop.new.self in
-    let given = option_map value_view c.args.given in
-    let first = c.in-Some.ensures.tasks d hs ∙ ap (λ (t : code.Task). task_of d hs t ∷ rest) c.in-Answering.is in
-    let back = same_agenda d (record e { stack = c.pop.new.self }) c.answer.new.engine c.answer.ensures.same.0 c.answer.ensures.handlers in
-    ap (λ (ts : List Task). given_down d (world_of e.world) ts given) first
-    ∙ gives_source d (world_of e.world) c.in-Answering.source rest given (world_of c.answer.new.engine.world) (agenda_of d c.answer.new.engine) back c.answer.ensures.kept
-
-pub returns-in-Answering-clause-counted : goal.returns-in-Answering-clause-counted
-returns-in-Answering-clause-counted c =
-    let d = c.args.definition.now in
-    let e = c.args.engine.now in
-    let hs = e.world.handlers.handlers in
-    let rest = tasks_of d hs c.pop.new.self in
-    let first = c.in-Some.ensures.tasks d hs ∙ ap (λ (t : code.Task). task_of d hs t ∷ rest) c.in-Answering.is in
-    record { at = λ taken h. (c.answer.ensures.counted d).at taken (popped_source d e c.pop.new.self taken c.in-Answering.source first c.in-Some.ensures.begun h) }
+pub returns-clause-same : goal.returns-clause-same
+returns-clause-same c = ap (λ x. x.counted) c.accumulate.ensures.only.beside

@@ -36,8 +36,8 @@ run_program-requires c =
           omega (arith, few, tasks_counted d e.world.handlers.handlers e.stack);
     }
 
-pub take_first_task-requires-clause-other : goal.take_first_task-requires-clause-other
-take_first_task-requires-clause-other c =
+pub emit_or_take-requires-clause-other : goal.emit_or_take-requires-clause-other
+emit_or_take-requires-clause-other c =
     let e = c.args.engine.now in
     none_found _ c.first_program.result (first_program e.stack.tasks.items) c.is_none.result c.first_program.ensures c.is_none.ensures c.if-is_none.true
 

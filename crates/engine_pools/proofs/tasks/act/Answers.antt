@@ -11,6 +11,7 @@ use Rattle.engine_world.proofs.Rooms.{task_counted}
 use Rattle.engine_instructions.proofs.Creating.{making_from}
 use Rattle.engine_instructions.proofs.Whole.{leads_whole}
 use Rattle.engine_world.proofs.Signals.{bind_count, build_count}
+use Rattle.engine_world.specs.FirstEmissions.{emission_in}
 use Rattle.engine_world.specs.FirstPrograms.{program_in}
 use Rattle.engine_pools.proofs.tasks.act.Goals as goal
 
@@ -36,12 +37,6 @@ notify-requires c = record {
 
 pub begin_emission-requires-clause-able : goal.begin_emission-requires-clause-able
 begin_emission-requires-clause-able c = rw c.in-Beginning.is at c.requires.able
-
-pub emit-requires-clause-able : goal.emit-requires-clause-able
-emit-requires-clause-able c = rw c.in-Emitting.is at c.requires.able
-
-pub emit-requires-clause-names : goal.emit-requires-clause-names
-emit-requires-clause-names c = rw c.in-Emitting.is at c.requires.names
 
 pub transfer-requires : goal.transfer-requires
 transfer-requires c = record {
@@ -151,7 +146,10 @@ pub handle_event-requires-clause-counted : goal.handle_event-requires-clause-cou
 handle_event-requires-clause-counted c = task_counted c.args.definition.now c.args.engine.now c.args.task c.requires.counted
 
 pub unreachable-requires : goal.unreachable-requires
-unreachable-requires c = let none = sym (ap (λ (t : code.Task). program_in t) c.in-Running.is) ∙ c.requires.other in cc none
+unreachable-requires c = let none = sym (ap (λ (t : code.Task). emission_in t) c.in-Emitting.is) ∙ c.requires.begins in cc none
+
+pub unreachable-requires-in-Running : goal.unreachable-requires-in-Running
+unreachable-requires-in-Running c = let none = sym (ap (λ (t : code.Task). program_in t) c.in-Running.is) ∙ c.requires.other in cc none
 
 pub unreachable-requires-in-Answering : goal.unreachable-requires-in-Answering
 unreachable-requires-in-Answering c = rw c.in-Answering.is at c.requires.able
@@ -194,9 +192,6 @@ returns-in-Notifying-clause-step c = rw c.in-Notifying.is (leads_whole c.args.de
 
 pub returns-in-Beginning-clause-step : goal.returns-in-Beginning-clause-step
 returns-in-Beginning-clause-step c = rw c.in-Beginning.is (leads_whole c.args.definition.now c.begin_emission.new.engine done _ c.in_ok-begin_emission-in-Beginning.ensures.step)
-
-pub returns-in-Emitting-clause-step : goal.returns-in-Emitting-clause-step
-returns-in-Emitting-clause-step c = rw c.in-Emitting.is (leads_whole c.args.definition.now c.emit.new.engine done _ c.in_ok-emit-in-Emitting.ensures.step)
 
 pub returns-in-Thawing-clause-step : goal.returns-in-Thawing-clause-step
 returns-in-Thawing-clause-step c = rw c.in-Thawing.is (leads_whole c.args.definition.now c.notify_thawed.new.engine done _ c.notify_thawed.ensures.step)

@@ -1,105 +1,116 @@
-use Rattle.std.proofs.Common.{◌∙◌, None, List, ◌∷◌, subst, sym, ap}
+use Rattle.std.proofs.Common.{◌≡◌, ◌∙◌, None, false, true, option_map, sym, ap, subst, refl}
 use Rattle.ui_machine.specs.Outcome.{Answer}
-use Rattle.ui_machine.specs.State.Tasks.{Emitting, PlanEntry}
-use Rattle.ui_machine.specs.Steps.{act}
+use Rattle.ui_machine.specs.State.Config.{Config}
+use Rattle.signal_core.specs.Emission.{Walk, is_transfers, next_step}
 use Rattle.signal_core.specs.declared.turn.Turn.{Turn}
-use Rattle.engine_world.specs.View.{world_of}
-use Rattle.engine_world.specs.TaskView.{agenda_of, emission_of}
-use Rattle.engine_world.specs.TransferView.{due_now}
+use Rattle.engine_world.specs.Able.{Leads}
 use Rattle.engine_world.specs.EngineView.{config_of}
+use Rattle.engine_world.specs.FirstEmissions.{first_emitted, stack_emission}
+use Rattle.engine_world.specs.TransferView.{due_now}
+use Rattle.engine_world.specs.View.{world_of}
+use Rattle.engine_world.proofs.Ableness.{able_as}
+use Rattle.engine_world.proofs.Named.{names_as}
+use Rattle.std.proofs.Common.{arith}
 use Rattle.engine_tasks.specs.TurnView.{RunsProgram}
 use Rattle.engine_tasks.proofs.EmissionTurns.{ready_free}
-use Rattle.engine_tasks.proofs.EmissionSteps.{behind_plain, due_of, ends_with, no_due, runs_one, transfer_first, turns_with}
-use Rattle.ui_machine.specs.State.Config.{Config}
-use Rattle.engine_world.proofs.Ableness.{able_as}
-use Rattle.engine_world.specs.Able.{Leads}
-use Rattle.engine_world.proofs.Named.{names_as}
+use Rattle.engine_tasks.proofs.EmissionSteps.{behind_plain, due_of, no_due, runs_one}
+use Rattle.engine_tasks.proofs.EmissionPlaces.{counts_due, counts_on, ends_on, transfer_due, turns_on, walk_past}
 use Rattle.engine_tasks.proofs.emission.emit_transfers.Goals as goal
 
-pub take_transfer-requires-clause-free : goal.take_transfer-requires-clause-free
-take_transfer-requires-clause-free c = ready_free c.args.engine.now.world.bindings.bindings (due_now c.args.transfers) c.in-Some.due _ c.in-Some.ensures.next
+-- a transfer is due
 
-pub take_transfer-requires-clause-able : goal.take_transfer-requires-clause-able
-take_transfer-requires-clause-able c =
+pub take_transfer-requires : goal.take_transfer-requires
+take_transfer-requires c =
     let d = c.args.definition.now in
     let e = c.args.engine.now in
-    let m = emission_of c.args.cursor c.args.args.items c.args.by_event in
-    able_as (ap (λ (es : List PlanEntry). act d (world_of e.world) None (Emitting m es ∷ agenda_of d e) e.counted)
-    (transfer_first (world_of e.world) c.args.cursor c.args.transfers c.next_transfer.new.transfers c.next_transfer.ensures.later c.in-Some.due c.in-Some.ensures.next)) c.requires.able
+    let s = c.next_transfer.new.self in
+    let n = c.next_transfer.ensures in
+    let t = c.in-Some.due in
+    record {
+      first = n.emits.first;
+      able = able_as (transfer_due d e c.requires.first s n.emits n.emission n.later t c.in-Some.ensures.next) c.requires.able;
+      free = ready_free e.world.bindings.bindings (due_now (first_emitted e).transfers) t _ c.in-Some.ensures.next;
+      counted = counts_due d e c.requires.first s n.emits n.emission n.later t c.in-Some.ensures.next c.requires.counted;
+      room = let has = c.requires.room in let same = n.room in omega (arith, has, same.0, same.1);
+    }
 
 pub returns-in-Some-clause-step : goal.returns-in-Some-clause-step
 returns-in-Some-clause-step c =
-    let d = c.args.definition.now in
-    let e = c.args.engine.now in
-    let m = emission_of c.args.cursor c.args.args.items c.args.by_event in
-    ap (λ (es : List PlanEntry). act d (world_of e.world) None (Emitting m es ∷ agenda_of d e) e.counted)
-    (transfer_first (world_of e.world) c.args.cursor c.args.transfers c.next_transfer.new.transfers c.next_transfer.ensures.later c.in-Some.due c.in-Some.ensures.next)
+    let n = c.next_transfer.ensures in
+    transfer_due c.args.definition.now c.args.engine.now c.requires.first c.next_transfer.new.self n.emits n.emission n.later c.in-Some.due c.in-Some.ensures.next
     ∙ c.take_transfer.ensures.step
 
-pub end_emission-requires-clause-able : goal.end_emission-requires-clause-able
-end_emission-requires-clause-able c =
+-- nothing is left
+
+pub end_first-requires : goal.end_first-requires
+end_first-requires c =
     let d = c.args.definition.now in
     let e = c.args.engine.now in
-    let none = no_due c.args.cursor e.world.handlers.handlers (sym c.next.ensures.turn ∙ c.in_default-next.is) in
-    let ends = ends_with (world_of e.world) c.args.cursor c.args.transfers c.next_transfer.new.transfers c.next_transfer.ensures.later c.in_default.ensures.next.0 c.in_default.ensures.next.1 d (agenda_of d e) e.counted
-    e.world.handlers.last c.last-last.ensures.rises c.args.args.items c.args.by_event c.next.new.cursor c.next.ensures.stage none in
-    able_as ends c.requires.able
+    let s = c.next_transfer.new.self in
+    let n = c.next_transfer.ensures in
+    let u = c.next_turn.new.self in
+    let m = c.next_turn.ensures in
+    let hs = e.world.handlers.handlers in
+    let none = no_due (first_emitted e).walk hs (ap (λ (x : Walk). option_map (λ step. step.turn) (next_step x hs)) (sym (walk_past d e c.requires.first s n.emits n.emission n.later)) ∙ sym m.turn ∙ c.in_default-next_turn.is) in
+    record {
+      first = m.emits.first;
+      able = able_as (ends_on d e c.requires.first s n.emits n.emission n.later c.in_default.ensures.next.0 c.in_default.ensures.next.1 u m.emits m.emission e.world.handlers.last c.last-last.ensures.rises none) c.requires.able;
+      counted = counts_on d e c.requires.first s n.emits n.emission n.later c.in_default.ensures.next.0 c.in_default.ensures.next.1 u m.emits m.emission c.requires.counted;
+    }
 
-pub returns-in_default-next-clause-step : goal.returns-in_default-next-clause-step
-returns-in_default-next-clause-step c =
+pub returns-in_default-next_turn-clause-step : goal.returns-in_default-next_turn-clause-step
+returns-in_default-next_turn-clause-step c =
     let d = c.args.definition.now in
     let e = c.args.engine.now in
-    let none = no_due c.args.cursor e.world.handlers.handlers (sym c.next.ensures.turn ∙ c.in_default-next.is) in
-    let ends = ends_with (world_of e.world) c.args.cursor c.args.transfers c.next_transfer.new.transfers c.next_transfer.ensures.later c.in_default.ensures.next.0 c.in_default.ensures.next.1 d (agenda_of d e) e.counted
-    e.world.handlers.last c.last-last.ensures.rises c.args.args.items c.args.by_event c.next.new.cursor c.next.ensures.stage none in
-    subst (λ (a : Answer Config). Leads c.end_emission.result a (config_of d c.end_emission.new.engine)) (sym ends) c.end_emission.ensures.step
+    let s = c.next_transfer.new.self in
+    let n = c.next_transfer.ensures in
+    let u = c.next_turn.new.self in
+    let m = c.next_turn.ensures in
+    let hs = e.world.handlers.handlers in
+    let none = no_due (first_emitted e).walk hs (ap (λ (x : Walk). option_map (λ step. step.turn) (next_step x hs)) (sym (walk_past d e c.requires.first s n.emits n.emission n.later)) ∙ sym m.turn ∙ c.in_default-next_turn.is) in
+    subst (λ (a : Answer Config). Leads c.end_first.result a (config_of d c.end_first.new.engine))
+    (sym (ends_on d e c.requires.first s n.emits n.emission n.later c.in_default.ensures.next.0 c.in_default.ensures.next.1 u m.emits m.emission e.world.handlers.last c.last-last.ensures.rises none))
+    c.end_first.ensures.step
 
-pub take_turn-requires-clause-runs : goal.take_turn-requires-clause-runs
-take_turn-requires-clause-runs c =
-    let d = c.args.definition.now in
-    let v = world_of c.args.engine.now.world in
-    let w = c.args.cursor in
-    let last = c.args.engine.now.world.handlers.last in
-    let next = due_of w v.handlers c.in-Some-next.turn (sym c.next.ensures.turn ∙ c.in-Some-next.is) in
-    subst (λ (t : Turn). RunsProgram t) next.2
-    (runs_one v w c.args.transfers c.next_transfer.new.transfers c.next_transfer.ensures.later c.in_default.ensures.next.0 c.in_default.ensures.next.1 last c.last-last.ensures.rises d next.0 next.1
-    (behind_plain v last c.last-last.ensures.rises w c.requires.behind next.0 next.1))
+-- a program's turn
 
-pub take_turn-requires-clause-able : goal.take_turn-requires-clause-able
-take_turn-requires-clause-able c =
+pub take_turn-requires : goal.take_turn-requires
+take_turn-requires c =
     let d = c.args.definition.now in
     let e = c.args.engine.now in
-    let v = world_of e.world in
-    let w = c.args.cursor in
+    let s = c.next_transfer.new.self in
+    let n = c.next_transfer.ensures in
+    let u = c.next_turn.new.self in
+    let m = c.next_turn.ensures in
+    let w = world_of e.world in
+    let hs = e.world.handlers.handlers in
     let last = e.world.handlers.last in
-    let next = due_of w v.handlers c.in-Some-next.turn (sym c.next.ensures.turn ∙ c.in-Some-next.is) in
-    let plain = behind_plain v last c.last-last.ensures.rises w c.requires.behind next.0 next.1 in
-    let turns = turns_with v w c.args.transfers c.next_transfer.new.transfers c.next_transfer.ensures.later c.in_default.ensures.next.0 c.in_default.ensures.next.1 d (agenda_of d e) e.counted last c.last-last.ensures.rises
-    c.args.args.items c.args.by_event c.next.new.cursor c.next.ensures.stage next.0 next.1 plain c.in-Some-next.turn next.2 in
-    able_as turns c.requires.able
-
-pub take_turn-requires-clause-names : goal.take_turn-requires-clause-names
-take_turn-requires-clause-names c =
-    let d = c.args.definition.now in
-    let e = c.args.engine.now in
-    let v = world_of e.world in
-    let w = c.args.cursor in
-    let last = e.world.handlers.last in
-    let next = due_of w v.handlers c.in-Some-next.turn (sym c.next.ensures.turn ∙ c.in-Some-next.is) in
-    let plain = behind_plain v last c.last-last.ensures.rises w c.requires.behind next.0 next.1 in
-    let turns = turns_with v w c.args.transfers c.next_transfer.new.transfers c.next_transfer.ensures.later c.in_default.ensures.next.0 c.in_default.ensures.next.1 d (agenda_of d e) e.counted last c.last-last.ensures.rises
-    c.args.args.items c.args.by_event c.next.new.cursor c.next.ensures.stage next.0 next.1 plain c.in-Some-next.turn next.2 in
-    names_as turns c.requires.names
+    let rises = c.last-last.ensures.rises in
+    let next = due_of (first_emitted e).walk hs c.in-Some-next_turn.turn (ap (λ (x : Walk). option_map (λ step. step.turn) (next_step x hs)) (sym (walk_past d e c.requires.first s n.emits n.emission n.later)) ∙ sym m.turn ∙ c.in-Some-next_turn.is) in
+    let plain = behind_plain w last rises (first_emitted e).walk c.requires.behind next.0 next.1 in
+    let turns = turns_on d e c.requires.first s n.emits n.emission n.later c.in_default.ensures.next.0 c.in_default.ensures.next.1 u m.emits m.emission last rises next.0 next.1 plain c.in-Some-next_turn.turn next.2 in
+    record {
+      first = m.emits.first;
+      able = able_as turns c.requires.able;
+      names = names_as turns c.requires.names;
+      runs = subst (λ (t : Turn). RunsProgram t) next.2 (runs_one w (first_emitted e).walk (first_emitted e).transfers (stack_emission s).transfers n.later c.in_default.ensures.next.0 c.in_default.ensures.next.1 last rises d next.0 next.1 plain);
+      counted = counts_on d e c.requires.first s n.emits n.emission n.later c.in_default.ensures.next.0 c.in_default.ensures.next.1 u m.emits m.emission c.requires.counted;
+      room = let has = c.requires.room in let same = n.room in let again = m.room in omega (arith, has, same.0, same.1, again.0, again.1);
+    }
 
 pub returns-clause-step : goal.returns-clause-step
 returns-clause-step c =
     let d = c.args.definition.now in
     let e = c.args.engine.now in
-    let v = world_of e.world in
-    let w = c.args.cursor in
+    let s = c.next_transfer.new.self in
+    let n = c.next_transfer.ensures in
+    let u = c.next_turn.new.self in
+    let m = c.next_turn.ensures in
+    let w = world_of e.world in
+    let hs = e.world.handlers.handlers in
     let last = e.world.handlers.last in
-    let next = due_of w v.handlers c.in-Some-next.turn (sym c.next.ensures.turn ∙ c.in-Some-next.is) in
-    let plain = behind_plain v last c.last-last.ensures.rises w c.requires.behind next.0 next.1 in
-    let turns = turns_with v w c.args.transfers c.next_transfer.new.transfers c.next_transfer.ensures.later c.in_default.ensures.next.0 c.in_default.ensures.next.1 d (agenda_of d e) e.counted last c.last-last.ensures.rises
-    c.args.args.items c.args.by_event c.next.new.cursor c.next.ensures.stage next.0 next.1 plain c.in-Some-next.turn next.2 in
+    let rises = c.last-last.ensures.rises in
+    let next = due_of (first_emitted e).walk hs c.in-Some-next_turn.turn (ap (λ (x : Walk). option_map (λ step. step.turn) (next_step x hs)) (sym (walk_past d e c.requires.first s n.emits n.emission n.later)) ∙ sym m.turn ∙ c.in-Some-next_turn.is) in
+    let plain = behind_plain w last rises (first_emitted e).walk c.requires.behind next.0 next.1 in
+    let turns = turns_on d e c.requires.first s n.emits n.emission n.later c.in_default.ensures.next.0 c.in_default.ensures.next.1 u m.emits m.emission last rises next.0 next.1 plain c.in-Some-next_turn.turn next.2 in
     subst (λ (a : Answer Config). Leads c.take_turn.result a (config_of d c.take_turn.new.engine)) (sym turns) c.take_turn.ensures.step

@@ -18,10 +18,9 @@ use Rattle.ui_machine.specs.State.Config.{World}
 use Rattle.engine_world.specs.declared.engine.Engine.{Engine}
 use Rattle.engine_world.proofs.Ableness.{in_left, no_arm}
 use Rattle.engine_world.proofs.LivingObjects.{lives_where}
-use Rattle.engine_world.specs.Counting.{Counts, in_emitted}
+use Rattle.engine_world.specs.Counting.{Counts, in_emitted, nothing}
 use Rattle.engine_world.specs.EngineView.{config_of}
 use Rattle.engine_world.specs.declared.task.Task.TheVariants as tasks
-use Rattle.engine_world.specs.declared.task.Transfers.TheVariants as at
 use Rattle.engine_world.proofs.Held.{counted_lives, may_counted}
 use Rattle.engine_world.proofs.Rooms.{register_most, task_most}
 use Rattle.engine_tasks.proofs.Holding.{result_held}
@@ -36,7 +35,7 @@ class_of-class-requires c = record {
   live =
       let d = c.args.definition.now in
       let e = c.args.engine.now in
-      let m = emission_of c.args.cursor c.args.args.items c.args.by_event in
+      let m = emission_of c.args.rest.cursor c.args.rest.args.items c.args.rest.by_event in
       rw c.object-object.ensures
       (lives_where (world_of e.world).objects m.object _
       (λ arm is. no_arm (ending d (world_of e.world) m (agenda_of d e)) arm (in_left e.counted _ c.requires.able) (end_unheard d (world_of e.world) m (agenda_of d e) arm is)));
@@ -46,7 +45,7 @@ pub unreachable-requires : goal.unreachable-requires
 unreachable-requires c =
     let d = c.args.definition.now in
     let e = c.args.engine.now in
-    let m = emission_of c.args.cursor c.args.args.items c.args.by_event in
+    let m = emission_of c.args.rest.cursor c.args.rest.args.items c.args.rest.by_event in
     let none = sym c.signal.ensures ∙ ap (option_map declared_view) c.in_default.is in
     no_arm (ending d (world_of e.world) m (agenda_of d e)) _ (in_left e.counted _ c.requires.able)
     (end_unknown d (world_of e.world) m (agenda_of d e) _ (rw c.object-object.ensures at c.class_of-class.ensures) (rw c.signal-number.ensures at none))
@@ -63,7 +62,7 @@ pub pass_down-requires : goal.pass_down-requires
 pass_down-requires c =
     let d = c.args.definition.now in
     let e = c.args.engine.now in
-    let m = emission_of c.args.cursor c.args.args.items c.args.by_event in
+    let m = emission_of c.args.rest.cursor c.args.rest.args.items c.args.rest.by_event in
     let declared = sym c.signal.ensures ∙ ap (option_map declared_view) c.in-Some.is in
     let v = option_map value_view c.result_of-value.result in
     let is = c.result_of-value.ensures ∙ ap (λ (x : Option values.Value). result_of d (option_map kind_view c.in-Some.signal.result) x) c.value.ensures in
@@ -73,13 +72,13 @@ pass_down-requires c =
       held = record { at = λ o. omega (arith, c.requires.counted.exact o) };
       may =
           may_counted d e _ c.never_full.ensures.room (record {
-            taken = λ o. same o c.args.cursor.object + in_emitted o (emission_of c.args.cursor c.args.args.items c.args.by_event);
+            taken = λ o. same o c.args.rest.cursor.object + in_emitted o (emission_of c.args.rest.cursor c.args.rest.args.items c.args.rest.by_event);
             counts = c.requires.counted;
-            little = λ o. (let most = task_most c.args.definition.now c.args.engine.now.world.handlers.handlers o (tasks.Emitting c.args.cursor c.args.args c.args.by_event (at.Due [])) in omega (arith, most));
+            little = λ o. (let most = task_most c.args.definition.now c.args.engine.now.world.handlers.handlers o (tasks.Emitting c.args.rest) in omega (arith, most));
           })
           (λ o. let one = register_most o v in omega (arith, one))
           (λ o held. counted_lives d _ e c.never_full.ensures.dead c.requires.counted o
-          (let less = result_held d o (option_map kind_view c.in-Some.signal.result) c.args.cursor.value in let same_held = ap (in_register o) is in omega (arith, held, less, same_held)));
+          (let less = result_held d o (option_map kind_view c.in-Some.signal.result) c.args.rest.cursor.value in let same_held = ap (in_register o) is in omega (arith, held, less, same_held)));
     }
 
 pub returns-in_err-pass_down-clause-quiet : goal.returns-in_err-pass_down-clause-quiet
@@ -102,7 +101,7 @@ let_go_values-requires c = record {
       let d = c.args.definition.now in
       let passed = c.in_ok-pass_down.ensures.counted in
       let kept = c.in_ok-say_result_if.ensures.counted.at _ (passed.at _ c.requires.counted) in
-      omega (arith, kept.exact o, slice c.args.args.items c.as_slice.result.now c.as_slice.ensures.value o);
+      omega (arith, kept.exact o, slice c.args.rest.args.items c.as_slice.result.now c.as_slice.ensures.value o);
 }
 
 pub let_go_any-requires : goal.let_go_any-requires
@@ -111,7 +110,16 @@ let_go_any-requires c = record {
       let d = c.args.definition.now in
       let passed = c.in_ok-pass_down.ensures.counted in
       let kept = c.in_ok-say_result_if.ensures.counted.at _ (passed.at _ c.requires.counted) in
-      omega (arith, kept.exact o, c.let_go_values.ensures.counts o, c.accumulated-held.ensures o, slice c.args.args.items c.as_slice.result.now c.as_slice.ensures.value o);
+      omega (arith, kept.exact o, c.let_go_values.ensures.counts o, c.accumulated-held.ensures o, slice c.args.rest.args.items c.as_slice.result.now c.as_slice.ensures.value o);
+}
+
+pub let_go_any-requires-2 : goal.let_go_any-requires-2
+let_go_any-requires-2 c = record {
+  held = λ o.
+      let d = c.args.definition.now in
+      let passed = c.in_ok-pass_down.ensures.counted in
+      let kept = c.in_ok-say_result_if.ensures.counted.at _ (passed.at _ c.requires.counted) in
+      omega (arith, kept.exact o, c.let_go_values.ensures.counts o, c.let_go_any.ensures.counts o, c.accumulated-held.ensures o, ap (same o) c.object-object.ensures, slice c.args.rest.args.items c.as_slice.result.now c.as_slice.ensures.value o);
 }
 
 pub returns-clause-step : goal.returns-clause-step
@@ -121,17 +129,17 @@ returns-clause-step c =
     let b = c.pass_down.new.engine in
     let only_tasks = c.pass_down.ensures.only in
     let g = c.say_result_if.new.engine in
-    let m = emission_of c.args.cursor c.args.args.items c.args.by_event in
+    let m = emission_of c.args.rest.cursor c.args.rest.args.items c.args.rest.by_event in
     let declared = sym c.signal.ensures ∙ ap (option_map declared_view) c.in-Some.is in
     let v = option_map value_view c.result_of-value.result in
     let is = c.result_of-value.ensures ∙ ap (λ (x : Option values.Value). result_of d (option_map kind_view c.in-Some.signal.result) x) c.value.ensures in
     let ends = end_known d (world_of e.world) m (agenda_of d e) _ (rw c.object-object.ensures at c.class_of-class.ensures) (declared_view c.in-Some.signal) (rw c.signal-number.ensures at declared) v is
     (agenda_of d b) c.in_ok-pass_down.ensures.agenda in
-    let only = both_only g.world.table c.let_go_values.new.table c.let_go_any.new.table c.let_go_values.ensures.only c.let_go_any.ensures.only in
+    let only = both_only g.world.table c.let_go_any.new.table c.let_go_any-2.new.table (both_only g.world.table c.let_go_values.new.table c.let_go_any.new.table c.let_go_values.ensures.only c.let_go_any.ensures.only) c.let_go_any-2.ensures.only in
     left_kept e.counted _ _ (agenda_of d b) (world_of g.world) (agenda_of d g) g.counted ends
-    (c.in_ok-say_result_if.ensures.world ∙ ap (λ (w : World). told d w c.args.by_event v) (tasks_world e b only_tasks))
+    (c.in_ok-say_result_if.ensures.world ∙ ap (λ (w : World). told d w c.args.rest.by_event v) (tasks_world e b only_tasks))
     (same_agenda d b g c.say_result_if.ensures.same.0 c.say_result_if.ensures.handlers) (c.say_result_if.ensures.same.1 ∙ ap (λ (x : Engine). x.counted) only_tasks.beside)
-    ∙ ap (λ x. Ok x) (sym (config_same d g c.let_go_any.new.table only))
+    ∙ ap (λ x. Ok x) (sym (config_same d g c.let_go_any-2.new.table only))
     ∙ ap (λ (x : Engine). Ok (config_of d x)) (sym c.give_back_list.ensures)
 
 pub returns-clause-counted : goal.returns-clause-counted
@@ -139,8 +147,8 @@ returns-clause-counted c =
     let d = c.args.definition.now in
     let passed = c.in_ok-pass_down.ensures.counted in
     let g = c.say_result_if.new.engine in
-    let only = both_only g.world.table c.let_go_values.new.table c.let_go_any.new.table c.let_go_values.ensures.only c.let_go_any.ensures.only in
-    subst (λ (x : Engine). Counts d (λ o. same o c.args.cursor.object) x) (sym c.give_back_list.ensures)
-    (less_held d g c.let_go_any.new.table _ (λ o. same o c.args.cursor.object) (λ o. total (in_value o) (map value_view c.args.args.items) + in_register o c.args.cursor.value) only
-    (λ o. omega (arith, c.let_go_any.ensures.counts o, c.let_go_values.ensures.counts o, c.accumulated-held.ensures o, slice c.args.args.items c.as_slice.result.now c.as_slice.ensures.value o)) (λ o. refl)
+    let only = both_only g.world.table c.let_go_any.new.table c.let_go_any-2.new.table (both_only g.world.table c.let_go_values.new.table c.let_go_any.new.table c.let_go_values.ensures.only c.let_go_any.ensures.only) c.let_go_any-2.ensures.only in
+    subst (λ (x : Engine). Counts d nothing x) (sym c.give_back_list.ensures)
+    (less_held d g c.let_go_any-2.new.table _ nothing (λ o. same o c.args.rest.cursor.object + in_emitted o (emission_of c.args.rest.cursor c.args.rest.args.items c.args.rest.by_event)) only
+    (λ o. omega (arith, c.let_go_any-2.ensures.counts o, c.let_go_any.ensures.counts o, c.let_go_values.ensures.counts o, c.accumulated-held.ensures o, ap (same o) c.object-object.ensures, slice c.args.rest.args.items c.as_slice.result.now c.as_slice.ensures.value o)) (λ o. omega arith)
     (c.in_ok-say_result_if.ensures.counted.at _ (passed.at _ c.requires.counted)))

@@ -9,8 +9,8 @@ pub hold_any-requires : goal.hold_any-requires
 hold_any-requires c = record {
   may =
       let e = c.args.engine.now in
-      may_less e.world.table (λ o. same o c.args.cursor.object) _ (λ o. let one = ap (same o) c.object.ensures in omega (arith, one))
-      (may_one e c.args.cursor.object c.never_full.ensures.room c.requires.may);
+      may_less e.world.table (λ o. same o c.args.rest.cursor.object) _ (λ o. let one = ap (same o) c.object.ensures in omega (arith, one))
+      (may_one e c.args.rest.cursor.object c.never_full.ensures.room c.requires.may);
 }
 
 pub returns-clause-agenda : goal.returns-clause-agenda
@@ -19,5 +19,5 @@ returns-clause-agenda c d = c.push.ensures.tasks d c.args.engine.now.world.handl
 pub returns-clause-counted : goal.returns-clause-counted
 returns-clause-counted c d taken h =
     let e = c.args.engine.now in
-    pushed_rest d e c.hold_any.new.table c.push.new.self taken (emission_of c.args.cursor c.args.args.items c.args.by_event) _ c.hold_any.ensures.only
+    pushed_rest d e c.hold_any.new.table c.push.new.self taken (emission_of c.args.rest.cursor c.args.rest.args.items c.args.rest.by_event) _ c.hold_any.ensures.only
     (λ o. omega (arith, c.hold_any.ensures.counts o, ap (same o) c.object.ensures)) (c.push.ensures.tasks d e.world.handlers.handlers) (c.push.ensures.begun e.world.handlers.last (c.requires.begun, c.requires.ends)) h

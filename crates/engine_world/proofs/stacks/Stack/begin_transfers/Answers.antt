@@ -1,0 +1,43 @@
+use Rattle.std.proofs.Common.{◌≡◌, ◌∙◌, [], vec_len, ap, refl, sym}
+use Rattle.engine_world.specs.FirstEmissions.{Emitted, emitted_of, stack_emission}
+use Rattle.engine_world.specs.declared.task.Task.TheVariants as tasks
+use Rattle.engine_world.proofs.FirstPrograms.{ending}
+use Rattle.engine_world.proofs.FirstEmissions.{emitted_last, emitted_now, kept_so, reemitted}
+use Rattle.engine_world.specs.TransferView.{due_later, due_now}
+use Rattle.engine_world.specs.declared.task.Transfers.TheVariants as at
+use Rattle.engine_world.proofs.stacks.Stack.begin_transfers.Goals as goal
+
+pub invariant_of-self : goal.invariant_of-self
+invariant_of-self c =
+    let s = c.args.self.now in
+    let was = c.in-Emitting.emission in
+    let now = c.begin_transfers.new.self in
+    let e = ending (vec_len s.tasks) s.tasks.items (tasks.Emitting was) (tasks.Emitting was) s.tasks.ok.0 c.in-Some.ensures.item.3.0 (sym c.in-Emitting.is ∙ c.in-Some.ensures.item.3.1 (tasks.Emitting was)) in
+    let k = kept_so s was now e in
+    record { within = k.within; above = k.above }
+
+pub returns-clause-emits : goal.returns-clause-emits
+returns-clause-emits c =
+    let s = c.args.self.now in
+    let was = c.in-Emitting.emission in
+    let now = c.begin_transfers.new.self in
+    let e = ending (vec_len s.tasks) s.tasks.items (tasks.Emitting was) (tasks.Emitting was) s.tasks.ok.0 c.in-Some.ensures.item.3.0 (sym c.in-Emitting.is ∙ c.in-Some.ensures.item.3.1 (tasks.Emitting was)) in
+    reemitted s _ was now e refl
+
+pub begin_transfers-requires : goal.begin_transfers-requires
+begin_transfers-requires c =
+    let s = c.args.self.now in
+    let was = c.in-Emitting.emission in
+    let e = ending (vec_len s.tasks) s.tasks.items (tasks.Emitting was) (tasks.Emitting was) s.tasks.ok.0 c.in-Some.ensures.item.3.0 (sym c.in-Emitting.is ∙ c.in-Some.ensures.item.3.1 (tasks.Emitting was)) in
+    ap (λ (x : Emitted). due_now x.transfers) (sym (emitted_last s was e)) ∙ c.requires.none
+
+pub returns-clause-emission : goal.returns-clause-emission
+returns-clause-emission c =
+    let s = c.args.self.now in
+    let was = c.in-Emitting.emission in
+    let now = c.begin_transfers.new.self in
+    let e = ending (vec_len s.tasks) s.tasks.items (tasks.Emitting was) (tasks.Emitting was) s.tasks.ok.0 c.in-Some.ensures.item.3.0 (sym c.in-Emitting.is ∙ c.in-Some.ensures.item.3.1 (tasks.Emitting was)) in
+    let a = emitted_now s _ was now e refl in
+    let b = emitted_last s was e in
+    a ∙ ap (λ f. emitted_of f) c.begin_transfers.ensures
+    ∙ ap (λ (x : Emitted). record x { transfers = at.Due (due_later x.transfers) }) (sym b)

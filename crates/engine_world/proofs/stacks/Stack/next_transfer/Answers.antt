@@ -1,0 +1,69 @@
+use Rattle.std.proofs.Common.{◌≡◌, ◌∙◌, ◌-◌, List, [], ◌∷◌, Option, MatchOption, slice_set, vec_len, ap, refl, subst, sym}
+use Rattle.engine_world.specs.FirstEmissions.{Emitted, emitted_of, stack_emission}
+use Rattle.engine_world.specs.declared.task.Task.TheVariants as tasks
+use Rattle.engine_world.proofs.FirstPrograms.{Ending, ending}
+use Rattle.engine_world.proofs.FirstEmissions.{emitted_last, emitted_now, kept_so, reemitted}
+use Rattle.engine_world.specs.TransferView.{due_later, due_now}
+use Rattle.ui_machine.specs.State.Bindings.{Binding}
+use Rattle.bindings.specs.Due.{from_ready}
+use Rattle.bindings.specs.declared.due.DueTransfer.{DueTransfer}
+use Rattle.engine_world.specs.declared.emission_frames.EmissionFrame.{EmissionFrame}
+use Rattle.engine_world.specs.declared.stacks.Stack.{Stack}
+use Rattle.engine_world.proofs.stacks.Stack.next_transfer.Goals as goal
+
+pub invariant_of-self : goal.invariant_of-self
+invariant_of-self c =
+    let s = c.args.self.now in
+    let was = c.in-Emitting.emission in
+    let now = c.next_transfer.new.self in
+    let e = ending (vec_len s.tasks) s.tasks.items (tasks.Emitting was) (tasks.Emitting was) s.tasks.ok.0 c.in-Some.ensures.item.3.0 (sym c.in-Emitting.is ∙ c.in-Some.ensures.item.3.1 (tasks.Emitting was)) in
+    let k = kept_so s was now e in
+    record { within = k.within; above = k.above }
+
+pub returns-clause-emits : goal.returns-clause-emits
+returns-clause-emits c =
+    let s = c.args.self.now in
+    let was = c.in-Emitting.emission in
+    let now = c.next_transfer.new.self in
+    let e = ending (vec_len s.tasks) s.tasks.items (tasks.Emitting was) (tasks.Emitting was) s.tasks.ok.0 c.in-Some.ensures.item.3.0 (sym c.in-Emitting.is ∙ c.in-Some.ensures.item.3.1 (tasks.Emitting was)) in
+    reemitted s _ was now e refl
+
+pub returns-clause-emission : goal.returns-clause-emission
+returns-clause-emission c =
+    let s = c.args.self.now in
+    let was = c.in-Emitting.emission in
+    let now = c.next_transfer.new.self in
+    let e = ending (vec_len s.tasks) s.tasks.items (tasks.Emitting was) (tasks.Emitting was) s.tasks.ok.0 c.in-Some.ensures.item.3.0 (sym c.in-Emitting.is ∙ c.in-Some.ensures.item.3.1 (tasks.Emitting was)) in
+    let a = emitted_now s _ was now e refl in
+    let b = emitted_last s was e in
+    a ∙ ap (λ f. emitted_of f) c.next_transfer.ensures.beside
+    ∙ ap (λ (x : Emitted). record x { transfers = now.transfers }) (sym b)
+    ∙ ap (λ (x : Emitted). record (stack_emission s) { transfers = x.transfers }) (sym a)
+
+pub returns-clause-later : goal.returns-clause-later
+returns-clause-later c =
+    let s = c.args.self.now in
+    let was = c.in-Emitting.emission in
+    let now = c.next_transfer.new.self in
+    let e = ending (vec_len s.tasks) s.tasks.items (tasks.Emitting was) (tasks.Emitting was) s.tasks.ok.0 c.in-Some.ensures.item.3.0 (sym c.in-Emitting.is ∙ c.in-Some.ensures.item.3.1 (tasks.Emitting was)) in
+    let a = emitted_now s _ was now e refl in
+    let b = emitted_last s was e in
+    ap (λ (x : Emitted). due_later x.transfers) a ∙ c.next_transfer.ensures.later ∙ ap (λ (x : Emitted). due_later x.transfers) (sym b)
+
+-- the same of the stack's emissions
+next_of_stack : (s new : Stack) (was now : EmissionFrame) (e : Ending (vec_len s.tasks) s.tasks.items (tasks.Emitting was))
+    → new.tasks.items ≡ slice_set s.tasks.items (vec_len s.tasks - 1) (tasks.Emitting now) → (bs : List Binding) (r : Option DueTransfer)
+    → MatchOption r ((from_ready bs (due_now was.transfers) ≡ []) × (due_now now.transfers ≡ [])) (λ due. from_ready bs (due_now was.transfers) ≡ due ∷ due_now now.transfers)
+    → MatchOption r ((from_ready bs (due_now (stack_emission s).transfers) ≡ []) × (due_now (stack_emission new).transfers ≡ []))
+      (λ due. from_ready bs (due_now (stack_emission s).transfers) ≡ due ∷ due_now (stack_emission new).transfers)
+next_of_stack s new was now e is bs r next =
+    subst (λ (x : Emitted). MatchOption r ((from_ready bs (due_now x.transfers) ≡ []) × (due_now (stack_emission new).transfers ≡ [])) (λ due. from_ready bs (due_now x.transfers) ≡ due ∷ due_now (stack_emission new).transfers)) (sym (emitted_last s was e))
+    (subst (λ (x : Emitted). MatchOption r ((from_ready bs (due_now was.transfers) ≡ []) × (due_now x.transfers ≡ [])) (λ due. from_ready bs (due_now was.transfers) ≡ due ∷ due_now x.transfers)) (sym (emitted_now s new was now e is)) next)
+
+pub returns-clause-next : goal.returns-clause-next
+returns-clause-next c =
+    let s = c.args.self.now in
+    let was = c.in-Emitting.emission in
+    let now = c.next_transfer.new.self in
+    let e = ending (vec_len s.tasks) s.tasks.items (tasks.Emitting was) (tasks.Emitting was) s.tasks.ok.0 c.in-Some.ensures.item.3.0 (sym c.in-Emitting.is ∙ c.in-Some.ensures.item.3.1 (tasks.Emitting was)) in
+    next_of_stack s _ was now e refl c.args.bindings.now.bindings c.next_transfer.result c.next_transfer.ensures.next
