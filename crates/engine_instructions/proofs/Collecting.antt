@@ -204,8 +204,8 @@ module _ (d : Definition) (hs : List Handler) (w : World) (rest : List Task) whe
   gives_other (tasks.Running frame) (Some v) other = refl
   gives_other (tasks.Thawing id slots) None other = refl
   gives_other (tasks.Thawing id slots) (Some v) other = refl
-  gives_other (tasks.Constructing id steps held) None other = refl
-  gives_other (tasks.Constructing id steps held) (Some v) other = refl
+  gives_other (tasks.Constructing construction) None other = refl
+  gives_other (tasks.Constructing construction) (Some v) other = refl
   gives_other (tasks.Building place forwards) None other = refl
   gives_other (tasks.Building place forwards) (Some v) other = refl
   gives_other (tasks.Adopting place forwards) None other = refl

@@ -194,7 +194,7 @@ module _ (d : Definition) (hs : List Handler) where
   stops_none (tasks.Beginning e) rest other = refl
   stops_none (tasks.Running frame) rest other = refl
   stops_none (tasks.Thawing id slots) rest other = refl
-  stops_none (tasks.Constructing id steps held) rest other = refl
+  stops_none (tasks.Constructing construction) rest other = refl
   stops_none (tasks.Building place forwards) rest other = refl
   stops_none (tasks.Adopting place forwards) rest other = refl
   stops_none (tasks.Transferring number back) rest other = refl

@@ -5,6 +5,7 @@ ghost use Rattle.ui_machine.specs.Prefix.{IsPrefix};
 ghost use Rattle.ui_machine.specs.Steps.{asked_first, question};
 ghost use Rattle.engine_world.specs.Counting.{Counts, nothing};
 ghost use Rattle.engine_world.specs.EngineView.{config_of};
+ghost use Rattle.engine_world.specs.FirstConstructions.{first_construction};
 ghost use Rattle.engine_world.specs.FirstEmissions.{first_emission};
 ghost use Rattle.engine_world.specs.FirstPrograms.{first_program};
 ghost use Rattle.engine_world.specs.Quiet.{IsQuiet};
@@ -17,6 +18,7 @@ ghost use Rattle.engine_pools.specs.Safety.{NoneUnheld};
 use crate::program_steps::run_program;
 use crate::tasks::act;
 use definitions::Definition;
+use engine_tasks::builds::construct;
 use engine_tasks::emission::emit;
 use engine_tasks::finalisation::finalise;
 use engine_world::engine::{Engine, StepKind};
@@ -43,8 +45,8 @@ fn sink_first_floating(engine: &mut Engine, definition: &Definition) -> StepKind
     StepKind::Uncounted
 }
 
-// Takes the first task off, which is neither a program nor an emission that goes on, and makes its step, or sinks what floats if there is no
-// task. The task asks no peer, and nothing is to be finalised.
+// Takes the first task off and makes its step, or sinks what floats if there is no task. The task is no program, and neither an emission nor
+// a construction that goes on. It asks no peer, and nothing is to be finalised.
 fn take_first_task(engine: &mut Engine, definition: &Definition) -> Result<StepKind, AllocError>
     requires safe { IsSafeView definition.now (vec_capacity engine.now.stack.tasks) (config_of definition.now engine.now) }
     requires none { NoneUnheld definition.now (config_of definition.now engine.now) }
@@ -52,6 +54,7 @@ fn take_first_task(engine: &mut Engine, definition: &Definition) -> Result<StepK
     requires counted { Counts definition.now nothing engine.now }
     requires other { first_program engine.now.stack.tasks.items ≡ None }
     requires begins { first_emission engine.now.stack.tasks.items ≡ None }
+    requires builds { first_construction engine.now.stack.tasks.items ≡ None }
     ensures counted { OnOk result (Counts definition.now nothing engine.new) }
     ensures stepped { QuietlyStepped result definition.now (config_of definition.now engine.old) (config_of definition.now engine.new) }
     ensures known { OnOk result (LeavesKnown (world_of engine.old.world) (world_of engine.new.world) engine.new.closing) }
@@ -69,6 +72,28 @@ fn take_first_task(engine: &mut Engine, definition: &Definition) -> Result<StepK
     Ok(made)
 }
 
+// Takes the next step of the first task, if it is a construction that goes on, or makes the step of the first task, which is neither a program
+// nor an emission that goes on.
+fn construct_or_take(engine: &mut Engine, definition: &Definition) -> Result<StepKind, AllocError>
+    requires safe { IsSafeView definition.now (vec_capacity engine.now.stack.tasks) (config_of definition.now engine.now) }
+    requires none { NoneUnheld definition.now (config_of definition.now engine.now) }
+    requires quiet { asked_first (world_of engine.now.world) (agenda_of definition.now engine.now) ≡ None }
+    requires counted { Counts definition.now nothing engine.now }
+    requires other { first_program engine.now.stack.tasks.items ≡ None }
+    requires begins { first_emission engine.now.stack.tasks.items ≡ None }
+    ensures counted { OnOk result (Counts definition.now nothing engine.new) }
+    ensures stepped { QuietlyStepped result definition.now (config_of definition.now engine.old) (config_of definition.now engine.new) }
+    ensures known { OnOk result (LeavesKnown (world_of engine.old.world) (world_of engine.new.world) engine.new.closing) }
+    ensures grows { IsPrefix (world_of engine.old.world).transcript (world_of engine.new.world).transcript }
+    ensures room { SameRoom engine.old engine.new }
+{
+    if engine.stack.first_construction().is_none() {
+        return take_first_task(engine, definition);
+    }
+    construct(engine, definition)?;
+    Ok(StepKind::Uncounted)
+}
+
 // Takes the next turn of the first task, if it is an emission that goes on, or makes the step of the first task, which is no program.
 fn emit_or_take(engine: &mut Engine, definition: &Definition) -> Result<StepKind, AllocError>
     requires safe { IsSafeView definition.now (vec_capacity engine.now.stack.tasks) (config_of definition.now engine.now) }
@@ -83,14 +108,14 @@ fn emit_or_take(engine: &mut Engine, definition: &Definition) -> Result<StepKind
     ensures room { SameRoom engine.old engine.new }
 {
     if engine.stack.first_emission().is_none() {
-        return take_first_task(engine, definition);
+        return construct_or_take(engine, definition);
     }
     emit(engine, definition)?;
     Ok(StepKind::Uncounted)
 }
 
 // Makes the step of the first task, or sinks what floats if there is no task. The task asks no peer, and nothing is to be finalised. A
-// program takes its next instruction in its place, and an emission its next turn.
+// program takes its next instruction in its place, an emission its next turn, and a construction its next step.
 fn first_task(engine: &mut Engine, definition: &Definition) -> Result<StepKind, AllocError>
     requires safe { IsSafeView definition.now (vec_capacity engine.now.stack.tasks) (config_of definition.now engine.now) }
     requires none { NoneUnheld definition.now (config_of definition.now engine.now) }

@@ -7,6 +7,7 @@ ghost use Rattle.ui_machine.specs.State.Objects.{most_identities};
 ghost use Rattle.ui_machine.specs.State.References.{in_task};
 ghost use Rattle.ui_machine.specs.Steps.{act};
 ghost use Rattle.law_typing.specs.Good.Meanings.{KeepsMeanings};
+ghost use Rattle.engine_world.specs.FirstConstructions.{construction_in};
 ghost use Rattle.engine_world.specs.FirstEmissions.{emission_in};
 ghost use Rattle.engine_world.specs.FirstPrograms.{program_in};
 ghost use Rattle.engine_world.specs.KnownHandlers.{TakesKnownHandlers};
@@ -22,7 +23,7 @@ ghost use Rattle.engine_pools.specs.TaskClosings.{TaskLeaves};
 
 use definitions::Definition;
 use engine_tasks::binds::bind_from_build;
-use engine_tasks::builds::{build, construct};
+use engine_tasks::builds::build;
 use engine_tasks::calls::pass_over;
 use engine_tasks::children::adopt_from_build;
 use engine_tasks::emission::begin_emission;
@@ -37,8 +38,8 @@ use engine_world::references::never_full;
 use engine_world::task::Task;
 use std::alloc::AllocError;
 
-/// Carries out a task that is neither a program nor an emission that goes on, and returns whether that was a counted step. The machine must
-/// not be stuck there, and a call has to be of a peer that is closed.
+/// Carries out a task, and returns whether that was a counted step. The task is no program, and neither an emission nor a construction that
+/// goes on. The machine must not be stuck there, and a call has to be of a peer that is closed.
 ///
 /// # Errors
 ///
@@ -62,6 +63,7 @@ pub(crate) fn act(
     requires room { HasRoom 2 engine.now }
     requires other { program_in task ≡ None }
     requires begins { emission_in task ≡ None }
+    requires builds { construction_in task ≡ None }
     ensures step { LeadsWithoutGone result
         (act definition.now (world_of engine.old.world) None
         (past_turns (world_of engine.old.world) (task_in definition.now engine.old task) ∷ agenda_of definition.now engine.old) engine.old.counted)
@@ -106,14 +108,7 @@ pub(crate) fn act(
             notify_thawed(engine, definition, object, slots);
             return Ok(StepKind::Uncounted);
         }
-        Task::Constructing {
-            object,
-            steps,
-            held,
-        } => {
-            construct(engine, definition, object, steps, held)?;
-            return Ok(StepKind::Uncounted);
-        }
+        Task::Constructing(_) => unreachable!(),
         Task::Building { place, forwards } => {
             build(engine, definition, place, forwards)?;
             return Ok(StepKind::Uncounted);

@@ -59,7 +59,7 @@ module _ (d : Definition) (hs : List Handler) (w : World) (rest : List Task) whe
   asks_nothing (tasks.Emitting emission) other = refl
   asks_nothing (tasks.Running frame) other = refl
   asks_nothing (tasks.Thawing id slots) other = refl
-  asks_nothing (tasks.Constructing id steps held) other = refl
+  asks_nothing (tasks.Constructing construction) other = refl
   asks_nothing (tasks.Building place forwards) other = refl
   asks_nothing (tasks.Adopting place forwards) other = refl
   asks_nothing (tasks.Transferring number back) other = refl

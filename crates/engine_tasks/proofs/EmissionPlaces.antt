@@ -1,5 +1,5 @@
 -- How the emission that is the first task goes on in its place.
-use Rattle.std.proofs.Common.{◌≡◌, ◌∙◌, refl, sym, ap, subst, ℕ, ◌≤◌, Bool, true, false, List, [], ◌∷◌, drop, Option, None, option_map, IsSome, MatchOption, arith}
+use Rattle.std.proofs.Common.{◌≡◌, ◌∙◌, refl, sym, ap, subst, ℕ, true, false, List, [], ◌∷◌, drop, None, arith}
 use Rattle.ui_machine.specs.Definition.{Definition}
 use Rattle.ui_machine.specs.Outcome.{Answer}
 use Rattle.ui_machine.specs.Rules.Accumulation.{ending}
@@ -13,7 +13,7 @@ use Rattle.ui_machine.specs.Steps.{act, left, uncounted}
 use Rattle.bindings.specs.Due.{entry_of, from_ready}
 use Rattle.bindings.specs.declared.due.DueTransfer.{DueTransfer}
 use Rattle.signal_core.specs.Connected.{Numbered}
-use Rattle.signal_core.specs.Emission.{Due, Walk, is_over, is_transfers, next_step, stage_after, to_come}
+use Rattle.signal_core.specs.Emission.{Due, is_over, is_transfers, next_step, stage_after, to_come}
 use Rattle.signal_core.specs.declared.stage.Stage.{Stage}
 use Rattle.signal_core.specs.declared.stage.Stage.TheVariants as stages
 use Rattle.signal_core.specs.declared.turn.Turn.{Turn}
@@ -22,7 +22,7 @@ use Rattle.engine_world.specs.FirstEmissions.{EmitsKnown, Emitted, IsEmission, I
 use Rattle.engine_world.specs.FirstPrograms.{rest_of}
 use Rattle.engine_world.specs.KnownHandlers.{EndsWithoutTransfers}
 use Rattle.engine_world.specs.Standing.{past_turns}
-use Rattle.engine_world.specs.TaskView.{agenda_of, tasks_of}
+use Rattle.engine_world.specs.TaskView.{agenda_of}
 use Rattle.engine_world.specs.TransferView.{due_later, due_now}
 use Rattle.engine_world.specs.View.{world_of}
 use Rattle.engine_world.specs.declared.engine.Engine.{Engine}

@@ -2,6 +2,7 @@ mod PlainSets
 mod EmissionTurns
 mod EmissionSteps
 mod EmissionPlaces
+mod ConstructionPlaces
 mod TurnTaking
 mod ProgramStarts
 mod Emitted

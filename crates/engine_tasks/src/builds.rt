@@ -7,7 +7,8 @@ ghost use Rattle.ui_machine.specs.Definition as definition;
 ghost use Rattle.engine_world.specs.KnownHandlers.{TakesKnownHandlers};
 ghost use Rattle.ui_machine.specs.Rules.Construction.{constructed, thawing_made, making, apply_construct_property, constructing};
 ghost use Rattle.ui_machine.specs.State.Handlers.{Handler};
-ghost use Rattle.ui_machine.specs.State.Tasks.{Building, Constructing};
+ghost use Rattle.ui_machine.specs.State.References.{same};
+ghost use Rattle.ui_machine.specs.State.Tasks.{Building};
 ghost use Rattle.ui_machine.specs.Steps.{uncounted};
 ghost use Rattle.ui_machine.specs.Rules.Build.{building, is_connecting};
 ghost use Rattle.ui_machine.specs.Rules.Connections.{greatest_handler};
@@ -20,20 +21,23 @@ ghost use Rattle.engine_world.specs.Quiet.{IsQuiet};
 ghost use Rattle.engine_world.specs.Room.{HasRoom, SameRoom};
 ghost use Rattle.engine_world.specs.View.{world_of};
 ghost use Rattle.engine_world.specs.TaskView.{task_of, agenda_of, build_from, build_behind, connects_from};
-ghost use Rattle.engine_world.specs.Counting.{Connects, IsCounted, KeepsCounts};
+ghost use Rattle.engine_world.specs.Counting.{Connects, Counts, IsCounted, KeepsCounts, nothing};
 ghost use Rattle.engine_world.specs.EngineView.{config_of};
+ghost use Rattle.engine_world.specs.FirstConstructions.{IsConstruction, constructing_task, first_constructed};
+ghost use Rattle.engine_world.specs.FirstPrograms.{rest_of};
 
 use crate::forward_references::set_forward_reference;
 use crate::programs::begin_program;
 use definitions::Definition;
 use engine_world::builder::{BuilderEntry, set_builder_entry};
+use engine_world::construction_frames::ConstructionFrame;
 use engine_world::engine::Engine;
 use engine_world::given::object_value;
 use engine_world::object_peers::own_peer;
 use engine_world::objects::{begin_construction, make};
 use engine_world::places::{entry_at, is_object, next_place};
-use engine_world::references::{hold_any, never_full, push_task};
-use engine_world::task::{ConstructStep, ConstructSteps, ForwardReferences, Slots, Task};
+use engine_world::references::{hold_any, let_go_any, never_full, push_task};
+use engine_world::task::{ConstructStep, ForwardReferences, Slots, Task};
 use g_values::Value;
 use std::alloc::AllocError;
 use ui_machine::{ObjectId, Place, ProgramId, Slot};
@@ -68,9 +72,9 @@ fn hold_made(
     Ok(())
 }
 
-// Ends a construction. If `held`, the builder holds the object from then on.
+// Makes the builder hold an object that it has made, if `held`.
 #[tactic(auto, unfolding(ui_machine::specs::Rules::Construction::constructed))]
-fn end_construction(
+fn hold_made_if(
     engine: &mut Engine,
     definition: &Definition,
     object: ObjectId,
@@ -91,34 +95,86 @@ fn end_construction(
     Ok(())
 }
 
-// Thaws an object at the end of its construction. The notifications that waited come before the rest of the construction.
-#[tactic(auto, unfolding(ui_machine::specs::Rules::Construction::thawing_made))]
-fn thaw_constructed(
+// Ends a construction that was taken off. If `held`, the builder holds the object from then on. The construction lets its object go, and its
+// list is given back.
+fn end_construction(
     engine: &mut Engine,
     definition: &Definition,
-    object: ObjectId,
-    steps: ConstructSteps,
-    held: bool,
-)
-    requires able { Able (uncounted (agenda_of definition.now engine.now) engine.now.counted (thawing_made (world_of engine.now.world) object.0 steps held)) }
-    requires counted { IsCounted definition.now engine.now }
-    requires room { HasRoom 2 engine.now }
-    ensures step { uncounted (agenda_of definition.now engine.old) engine.old.counted (thawing_made (world_of engine.old.world) object.0 steps held)
+    rest: ConstructionFrame,
+) -> Result<(), AllocError>
+    requires able { Able (uncounted (agenda_of definition.now engine.now) engine.now.counted (constructed (world_of engine.now.world) rest.object.0 rest.held)) }
+    requires counted { Counts definition.now (λ o. same o rest.object.0) engine.now }
+    ensures step { Leads result
+        (uncounted (agenda_of definition.now engine.old) engine.old.counted (constructed (world_of engine.old.world) rest.object.0 rest.held))
+        (config_of definition.now engine.new) }
+    ensures quiet { OnErr result (IsQuiet (world_of engine.old.world) (world_of engine.new.world)) }
+    ensures counted { OnOk result (Counts definition.now nothing engine.new) }
+    ensures room { SameRoom engine.old engine.new }
+{
+    let ConstructionFrame {
+        object,
+        steps,
+        held,
+    } = rest;
+    hold_made_if(engine, definition, object, held)?;
+    let_go_any(&mut engine.world.table, Some(object));
+    engine.spare_steps.give_back(steps.steps);
+    Ok(())
+}
+
+// Takes the construction off that is the first task, and ends it.
+fn end_first(engine: &mut Engine, definition: &Definition) -> Result<(), AllocError>
+    requires first { IsConstruction engine.now }
+    requires able { Able (uncounted (rest_of definition.now engine.now) engine.now.counted
+        (constructed (world_of engine.now.world) (first_constructed engine.now).object (first_constructed engine.now).held)) }
+    requires counted { Counts definition.now nothing engine.now }
+    ensures step { Leads result
+        (uncounted (rest_of definition.now engine.old) engine.old.counted
+        (constructed (world_of engine.old.world) (first_constructed engine.old).object (first_constructed engine.old).held))
+        (config_of definition.now engine.new) }
+    ensures quiet { OnErr result (IsQuiet (world_of engine.old.world) (world_of engine.new.world)) }
+    ensures counted { OnOk result (Counts definition.now nothing engine.new) }
+    ensures room { SameRoom engine.old engine.new }
+{
+    let Some(task) = engine.stack.pop() else {
+        unreachable!()
+    };
+    let Task::Constructing(rest) = task else {
+        unreachable!()
+    };
+    end_construction(engine, definition, rest)
+}
+
+// Returns the object of the construction that is the first task.
+fn first_object(engine: &Engine) -> ObjectId
+    requires first { IsConstruction engine.now }
+    ensures { result.0 ≡ (first_constructed engine.now).object }
+{
+    let Some(construction) = engine.stack.first_construction() else {
+        unreachable!()
+    };
+    construction.object
+}
+
+// Thaws the object of the construction that is the first task, at its end. The notifications that waited come before the rest of the
+// construction.
+#[tactic(auto, unfolding(ui_machine::specs::Rules::Construction::thawing_made))]
+fn thaw_constructed(engine: &mut Engine, definition: &Definition)
+    requires first { IsConstruction engine.now }
+    requires able { Able (uncounted (rest_of definition.now engine.now) engine.now.counted
+        (thawing_made (world_of engine.now.world) (first_constructed engine.now).object (first_constructed engine.now).steps (first_constructed engine.now).held)) }
+    requires counted { Counts definition.now nothing engine.now }
+    requires room { HasRoom 1 engine.now }
+    ensures step { uncounted (rest_of definition.now engine.old) engine.old.counted
+        (thawing_made (world_of engine.old.world) (first_constructed engine.old).object (first_constructed engine.old).steps (first_constructed engine.old).held)
         ≡ Ok (config_of definition.now engine.new) }
-    ensures counted { KeepsCounts definition.now engine.old engine.new }
+    ensures counted { Counts definition.now nothing engine.new }
     ensures room { SameRoom engine.old engine.new }
 {
     // For the proof: the clauses speak of the definition.
     let _ = definition;
+    let object = first_object(engine);
     let slots = engine.world.table.thaw(object);
-    push_task(
-        engine,
-        Task::Constructing {
-            object,
-            steps,
-            held,
-        },
-    );
     push_task(
         engine,
         Task::Thawing {
@@ -128,36 +184,24 @@ fn thaw_constructed(
     );
 }
 
-// Sets a property as a step of a construction, before the rest of the construction.
+// Sets a property as a step of the construction that is the first task, before the rest of the construction.
 #[tactic(auto, unfolding(ui_machine::specs::Rules::Construction::apply_construct_property))]
-fn apply_construct_property(
-    engine: &mut Engine,
-    definition: &Definition,
-    object: ObjectId,
-    slot: Slot,
-    value: Value,
-    steps: ConstructSteps,
-    held: bool,
-)
-    requires able { Able (uncounted (agenda_of definition.now engine.now) engine.now.counted (apply_construct_property definition.now (world_of engine.now.world) object.0 slot (value_view value) (Constructing object.0 steps held ∷ []))) }
-    requires live { IsSome (living engine.now.world.table.objects object.0) }
-    requires counted { IsCounted definition.now engine.now }
-    requires room { HasRoom 2 engine.now }
-    ensures step { uncounted (agenda_of definition.now engine.old) engine.old.counted (apply_construct_property definition.now (world_of engine.old.world) object.0 slot (value_view value) (Constructing object.0 steps held ∷ []))
+fn apply_construct_property(engine: &mut Engine, definition: &Definition, slot: Slot, value: Value)
+    requires first { IsConstruction engine.now }
+    requires able { Able (uncounted (rest_of definition.now engine.now) engine.now.counted
+        (apply_construct_property definition.now (world_of engine.now.world) (first_constructed engine.now).object slot (value_view value) (constructing_task (first_constructed engine.now) ∷ []))) }
+    requires live { IsSome (living engine.now.world.table.objects (first_constructed engine.now).object) }
+    requires counted { Counts definition.now nothing engine.now }
+    requires room { HasRoom 1 engine.now }
+    ensures step { uncounted (rest_of definition.now engine.old) engine.old.counted
+        (apply_construct_property definition.now (world_of engine.old.world) (first_constructed engine.old).object slot (value_view value) (constructing_task (first_constructed engine.old) ∷ []))
         ≡ Ok (config_of definition.now engine.new) }
-    ensures counted { KeepsCounts definition.now engine.old engine.new }
+    ensures counted { Counts definition.now nothing engine.new }
     ensures room { SameRoom engine.old engine.new }
 {
     // For the proof: the clauses speak of the definition.
     let _ = definition;
-    push_task(
-        engine,
-        Task::Constructing {
-            object,
-            steps,
-            held,
-        },
-    );
+    let object = first_object(engine);
     push_task(
         engine,
         Task::Setting {
@@ -168,79 +212,66 @@ fn apply_construct_property(
     );
 }
 
-// Begins a program as a step of a construction. The program is given the object alone.
+// Begins a program as a step of the construction that is the first task. The program is given the object alone.
 fn run_constructed(
     engine: &mut Engine,
     definition: &Definition,
-    object: ObjectId,
     program: ProgramId,
-    steps: ConstructSteps,
-    held: bool,
 ) -> Result<(), AllocError>
-    requires able { Able (uncounted (agenda_of definition.now engine.now) engine.now.counted (program_before definition.now (world_of engine.now.world) program (machine_values.object (Some object.0) ∷ []) (Constructing object.0 steps held ∷ []))) }
-    requires live { IsSome (living engine.now.world.table.objects object.0) }
-    requires counted { IsCounted definition.now engine.now }
-    requires room { HasRoom 2 engine.now }
+    requires first { IsConstruction engine.now }
+    requires able { Able (uncounted (rest_of definition.now engine.now) engine.now.counted
+        (program_before definition.now (world_of engine.now.world) program (machine_values.object (Some (first_constructed engine.now).object) ∷ []) (constructing_task (first_constructed engine.now) ∷ []))) }
+    requires live { IsSome (living engine.now.world.table.objects (first_constructed engine.now).object) }
+    requires counted { Counts definition.now nothing engine.now }
+    requires room { HasRoom 1 engine.now }
     ensures step { Leads result
-        (uncounted (agenda_of definition.now engine.old) engine.old.counted (program_before definition.now (world_of engine.old.world) program (machine_values.object (Some object.0) ∷ []) (Constructing object.0 steps held ∷ [])))
+        (uncounted (rest_of definition.now engine.old) engine.old.counted
+        (program_before definition.now (world_of engine.old.world) program (machine_values.object (Some (first_constructed engine.old).object) ∷ []) (constructing_task (first_constructed engine.old) ∷ [])))
         (config_of definition.now engine.new) }
     ensures quiet { OnErr result (IsQuiet (world_of engine.old.world) (world_of engine.new.world)) }
-    ensures counted { OnOk result (KeepsCounts definition.now engine.old engine.new) }
+    ensures counted { OnOk result (Counts definition.now nothing engine.new) }
     ensures room { SameRoom engine.old engine.new }
 {
+    let object = first_object(engine);
     let mut registers = engine.spare_registers.take(engine.alloc);
     registers.push(Some(object_value(object)))?;
-    push_task(
-        engine,
-        Task::Constructing {
-            object,
-            steps,
-            held,
-        },
-    );
     begin_program(engine, definition, program, registers)
 }
 
-/// Takes the next step of a construction, or ends the construction if no step is left.
+/// Takes the next step of the construction that is the first task, or ends the construction if no step is left. The construction stays in
+/// its place until it ends.
 ///
 /// # Errors
 ///
 /// `AllocError` if memory is refused.
-pub fn construct(
-    engine: &mut Engine,
-    definition: &Definition,
-    object: ObjectId,
-    mut steps: ConstructSteps,
-    held: bool,
-) -> Result<(), AllocError>
-    requires able { Able (uncounted (agenda_of definition.now engine.now) engine.now.counted (constructing definition.now (world_of engine.now.world) object.0 steps held)) }
-    requires live { IsSome (living engine.now.world.table.objects object.0) }
-    requires counted { IsCounted definition.now engine.now }
-    requires room { HasRoom 2 engine.now }
+pub fn construct(engine: &mut Engine, definition: &Definition) -> Result<(), AllocError>
+    requires first { IsConstruction engine.now }
+    requires able { Able (uncounted (rest_of definition.now engine.now) engine.now.counted
+        (constructing definition.now (world_of engine.now.world) (first_constructed engine.now).object (first_constructed engine.now).steps (first_constructed engine.now).held)) }
+    requires counted { Counts definition.now nothing engine.now }
+    requires room { HasRoom 1 engine.now }
     ensures step { Leads result
-        (uncounted (agenda_of definition.now engine.old) engine.old.counted (constructing definition.now (world_of engine.old.world) object.0 steps held))
+        (uncounted (rest_of definition.now engine.old) engine.old.counted
+        (constructing definition.now (world_of engine.old.world) (first_constructed engine.old).object (first_constructed engine.old).steps (first_constructed engine.old).held))
         (config_of definition.now engine.new) }
     ensures quiet { OnErr result (IsQuiet (world_of engine.old.world) (world_of engine.new.world)) }
-    ensures counted { OnOk result (KeepsCounts definition.now engine.old engine.new) }
+    ensures counted { OnOk result (Counts definition.now nothing engine.new) }
     ensures room { SameRoom engine.old engine.new }
 {
-    let Some(step) = steps.take() else {
-        end_construction(engine, definition, object, held)?;
-        engine.spare_steps.give_back(steps.steps);
-        return Ok(());
+    // For the proof: what a task holds lives.
+    never_full(engine);
+    let Some(step) = engine.stack.next_construct_step() else {
+        return end_first(engine, definition);
     };
     match step {
         ConstructStep::Set { slot, value } => {
-            apply_construct_property(engine, definition, object, slot, value, steps, held);
-            return Ok(());
+            apply_construct_property(engine, definition, slot, value);
+            Ok(())
         }
-        ConstructStep::Run { program } => {
-            run_constructed(engine, definition, object, program, steps, held)?;
-            return Ok(());
-        }
+        ConstructStep::Run { program } => run_constructed(engine, definition, program),
         ConstructStep::Thaw => {
-            thaw_constructed(engine, definition, object, steps, held);
-            return Ok(());
+            thaw_constructed(engine, definition);
+            Ok(())
         }
     }
 }

@@ -318,11 +318,7 @@ fn turn_registers(engine: &mut Engine, runs: Invocation) -> Result<Vec<Option<Va
 }
 
 // Begins the program of a turn, before the rest of the emission.
-fn take_turn(
-    engine: &mut Engine,
-    definition: &Definition,
-    turn: Turn,
-) -> Result<(), AllocError>
+fn take_turn(engine: &mut Engine, definition: &Definition, turn: Turn) -> Result<(), AllocError>
     requires first { IsEmission engine.now }
     requires able { Able (uncounted (agenda_of definition.now engine.now) engine.now.counted
         (beginning_program definition.now (world_of engine.now.world) (program_of_turn turn) (given_by (emission_view (first_emitted engine.now)) turn))) }

@@ -29,7 +29,7 @@ module _ (g : config.Item → ℕ) (d : machine.Definition) (hs : List Handler) 
   none_of (tasks.Unsetting number) is = refl
   none_of (tasks.Running frame) is = refl
   none_of (tasks.Thawing id slots) is = refl
-  none_of (tasks.Constructing id steps held) is = refl
+  none_of (tasks.Constructing construction) is = refl
   none_of (tasks.Building place forwards) is = absurd (cc is)
   none_of (tasks.Adopting place forwards) is = absurd (cc is)
   none_of (tasks.Binding number) is = absurd (cc is)

@@ -1,14 +1,12 @@
 -- An emission that is the first task goes on in its place.
-use Rattle.std.proofs.Common.{◌≡◌, ℕ, suc, ◌-◌, ◌<◌, ◌≤◌, Bool, true, false, IsSome, is_some, not, vec_len, List, [], ◌∷◌, ◌++◌, length, map, drop, reverse, slice_get, slice_set, Option, None, Some, option_and_then, option_map, refl, ap, sym, subst, ◌∙◌, arith}
-use Rattle.std.specs.List.{list_any}
+use Rattle.std.proofs.Common.{◌≡◌, ℕ, suc, ◌-◌, IsSome, is_some, vec_len, List, [], ◌∷◌, ◌++◌, length, map, drop, reverse, slice_get, slice_set, Option, None, Some, option_and_then, refl, ap, sym, subst, ◌∙◌, arith}
 use Rattle.std.specs.Option.{option_to_list}
 use Rattle.std.specs.Prelude.{All}
-use Rattle.std.proofs.lemmas.List.{length-set, reverse-append}
-use Rattle.std.proofs.lemmas.List.Elements.{All-cons, All-head, All-nil, All-tail}
+use Rattle.std.proofs.lemmas.List.{reverse-append}
+use Rattle.std.proofs.lemmas.List.Elements.{All-head, All-tail}
 use Rattle.ui_machine.specs.Definition as machine
 use Rattle.ui_machine.specs.State.Handlers.{Handler}
 use Rattle.ui_machine.specs.State.Tasks as config
-use Rattle.engine_world.specs.BuildTasks.{is_of_build}
 use Rattle.engine_world.specs.FirstEmissions.{EmitsKnown, Emitted, IsEmission, IsReemitted, emission_in, emitted_in, emitted_of, emitting, first_emission, first_emitted, stack_emission}
 use Rattle.engine_world.specs.FirstPrograms.{rest_of}
 use Rattle.engine_world.specs.KnownHandlers.{AllTakeKnownHandlers, TakesKnownHandlers}
@@ -18,7 +16,7 @@ use Rattle.engine_world.specs.declared.engine.Engine.{Engine}
 use Rattle.engine_world.specs.declared.stacks.Stack.{Stack}
 use Rattle.engine_world.specs.declared.task.Task.{Task}
 use Rattle.engine_world.specs.declared.task.Task.TheVariants as tasks
-use Rattle.engine_world.proofs.FirstPrograms.{Ending, IsKeptSo, ends_with, first_of_last, last_found, none_behind}
+use Rattle.engine_world.proofs.FirstPrograms.{Ending, IsKeptSo, begun_written, found, found_written, kept_last, last_found, last_gives, last_has, starts_by, tasks_written}
 
 -- ** the first emission
 
@@ -31,7 +29,7 @@ is_emitting (tasks.Running frame) f is = absurd (cc is)
 is_emitting (tasks.Transferring number back) f is = absurd (cc is)
 is_emitting (tasks.Unsetting number) f is = absurd (cc is)
 is_emitting (tasks.Thawing id slots) f is = absurd (cc is)
-is_emitting (tasks.Constructing id steps held) f is = absurd (cc is)
+is_emitting (tasks.Constructing construction) f is = absurd (cc is)
 is_emitting (tasks.Building place forwards) f is = absurd (cc is)
 is_emitting (tasks.Adopting place forwards) f is = absurd (cc is)
 is_emitting (tasks.Binding number) f is = absurd (cc is)
@@ -47,12 +45,9 @@ pub record Emits (items : List Task) (f : EmissionFrame) : Type 0 where
   pub whole : items ≡ front ++ tasks.Emitting f ∷ []
 
 pub emits : (items : List Task) (f : EmissionFrame) → first_emission items ≡ Some f → Emits items f
-emits [] f is = absurd (cc is)
-emits (x ∷ []) f is = record { front = []; whole = ap (λ (t : Task). t ∷ []) (is_emitting x f is) }
-emits (x ∷ y ∷ ys) f is =
-    let shorter : suc (suc (length ys)) - 1 ≡ suc (suc (length ys) - 1) = omega arith in
-    let rest = emits (y ∷ ys) f (subst (λ n. option_and_then emission_in (slice_get (x ∷ y ∷ ys) n) ≡ Some f) shorter is) in
-    record { front = x ∷ rest.front; whole = ap (λ (l : List Task). x ∷ l) rest.whole }
+emits items f is =
+    let last = last_has emission_in items f is in
+    record { front = last.front; whole = last.whole ∙ ap (λ (t : Task). last.front ++ t ∷ []) (is_emitting last.task f last.has) }
 
 -- the emission of a frame that was found
 pub emission_found : (s : Stack) (f : EmissionFrame) → first_emission s.tasks.items ≡ Some f → stack_emission s ≡ emitted_of f
@@ -63,8 +58,7 @@ module _ (s : Stack) (f : EmissionFrame) (is : first_emission s.tasks.items ≡ 
   tasks_so : (d : machine.Definition) (hs : List Handler) → tasks_of d hs s ≡ emitting (emitted_of f) hs ∷ drop 1 (tasks_of d hs s)
   tasks_so d hs =
       let w = emits s.tasks.items f is in
-      let first : tasks_of d hs s ≡ emitting (emitted_of f) hs ∷ reverse (map (task_of d hs) w.front) = ap (λ (l : List Task). reverse (map (task_of d hs) l)) w.whole ∙ first_of_last d hs w.front (tasks.Emitting f) in
-      first ∙ ap (λ (l : List config.Task). emitting (emitted_of f) hs ∷ l) (sym (ap (λ (l : List config.Task). drop 1 l) first))
+      starts_by d hs s w.front (tasks.Emitting f) w.whole
 
   begun_so : (last : ℕ) → AllTakeKnownHandlers last s → EmitsKnown last (emitted_of f)
   begun_so last begun =
@@ -74,10 +68,6 @@ module _ (s : Stack) (f : EmissionFrame) (is : first_emission s.tasks.items ≡ 
       last_of : (front : List Task) → All (TakesKnownHandlers last) (front ++ tasks.Emitting f ∷ []) → EmitsKnown last (emitted_of f)
       last_of [] all = All-head (TakesKnownHandlers last) (tasks.Emitting f) [] all
       last_of (t ∷ ts) all = last_of ts (All-tail (TakesKnownHandlers last) t (ts ++ tasks.Emitting f ∷ []) all)
-
-found : (o : Option EmissionFrame) → IsSome o → (f : EmissionFrame) × (o ≡ Some f)
-found None none = cc none
-found (Some f) some = (f, refl)
 
 -- a stack whose first task is an emission
 pub starts : (d : machine.Definition) (hs : List Handler) (s : Stack) → IsSome (first_emission s.tasks.items)
@@ -125,52 +115,25 @@ popped_emission items rest (Some x) is empty =
 
 -- ** an emission that goes on in its place
 
-found_at : (front items : List Task) (f : EmissionFrame) → items ≡ front ++ tasks.Emitting f ∷ [] → first_emission items ≡ Some f
-found_at front items f at =
-    ap (λ (l : List Task). first_emission l) at
-    ∙ ap (λ (o : Option Task). option_and_then emission_in o) (last_found front (tasks.Emitting f))
-
 pub emitted_last : (s : Stack) (was : EmissionFrame) → Ending (vec_len s.tasks) s.tasks.items (tasks.Emitting was) → stack_emission s ≡ emitted_of was
-emitted_last s was e = emission_found s was (found_at e.front s.tasks.items was e.whole)
-
--- all of a list is so where another last one is so too
-all_last : (last : ℕ) (front : List Task) (x y : Task) → TakesKnownHandlers last y → All (TakesKnownHandlers last) (front ++ x ∷ []) → All (TakesKnownHandlers last) (front ++ y ∷ [])
-all_last last [] x y so all = All-cons (TakesKnownHandlers last) y [] so (All-nil (TakesKnownHandlers last))
-all_last last (t ∷ ts) x y so all =
-    All-cons (TakesKnownHandlers last) t (ts ++ y ∷ []) (All-head (TakesKnownHandlers last) t (ts ++ x ∷ []) all)
-    (all_last last ts x y so (All-tail (TakesKnownHandlers last) t (ts ++ x ∷ []) all))
+emitted_last s was e = emission_found s was (last_gives emission_in e.front s.tasks.items (tasks.Emitting was) e.whole)
 
 module _ (s new : Stack) (was now : EmissionFrame) (e : Ending (vec_len s.tasks) s.tasks.items (tasks.Emitting was))
     (is : new.tasks.items ≡ slice_set s.tasks.items (vec_len s.tasks - 1) (tasks.Emitting now)) where
-  written_items : new.tasks.items ≡ e.front ++ tasks.Emitting now ∷ []
-  written_items = is ∙ ends_with (vec_len s.tasks) s.tasks.items (tasks.Emitting was) (tasks.Emitting now) e
+  emission_now : first_emission new.tasks.items ≡ Some now
+  emission_now = found_written s (tasks.Emitting was) (tasks.Emitting now) e new is emission_in
 
   pub emitted_now : stack_emission new ≡ emitted_of now
-  emitted_now = emission_found new now (found_at e.front new.tasks.items now written_items)
+  emitted_now = emission_found new now emission_now
 
   pub reemitted : IsReemitted s new
   reemitted = record {
-    first = ap (λ (o : Option EmissionFrame). is_some o) (found_at e.front new.tasks.items now written_items);
-    tasks = λ d hs.
-        let behind = reverse (map (task_of d hs) e.front) in
-        let before : tasks_of d hs s ≡ emitting (emitted_of was) hs ∷ behind =
-        ap (λ (l : List Task). reverse (map (task_of d hs) l)) e.whole ∙ first_of_last d hs e.front (tasks.Emitting was) in
-        ap (λ (l : List Task). reverse (map (task_of d hs) l)) written_items
-        ∙ first_of_last d hs e.front (tasks.Emitting now)
-        ∙ ap (λ (g : Emitted). emitting g hs ∷ behind) (sym emitted_now)
-        ∙ ap (λ (l : List config.Task). emitting (stack_emission new) hs ∷ l) (sym (ap (λ (l : List config.Task). drop 1 l) before));
-    begun = λ last known begun.
-        subst (λ (l : List Task). All (TakesKnownHandlers last) l) (sym written_items)
-        (all_last last e.front (tasks.Emitting was) (tasks.Emitting now) (subst (λ (g : Emitted). EmitsKnown last g) emitted_now known)
-        (subst (λ (l : List Task). All (TakesKnownHandlers last) l) e.whole begun));
+    first = ap (λ (o : Option EmissionFrame). is_some o) emission_now;
+    tasks = λ d hs. tasks_written s (tasks.Emitting was) (tasks.Emitting now) e new is d hs ∙ ap (λ (g : Emitted). emitting g hs ∷ drop 1 (tasks_of d hs s)) (sym emitted_now);
+    begun = λ last known begun. begun_written s (tasks.Emitting was) (tasks.Emitting now) e new is last (subst (λ (g : Emitted). EmitsKnown last g) emitted_now known) begun;
   }
 
 -- what lies in the stack of the build lies there still
 pub kept_so : (s : Stack) (was now : EmissionFrame) → Ending (vec_len s.tasks) s.tasks.items (tasks.Emitting was)
     → IsKeptSo s (slice_set s.tasks.items (vec_len s.tasks - 1) (tasks.Emitting now))
-kept_so s was now e = record {
-  within = subst (λ n. s.lowest ≤ n) (sym (length-set s.tasks.items (vec_len s.tasks - 1) (tasks.Emitting now))) s.within;
-  above =
-      subst (λ (ts : List Task). list_any is_of_build (drop s.lowest ts) ≡ false) (sym (ends_with (vec_len s.tasks) s.tasks.items (tasks.Emitting was) (tasks.Emitting now) e))
-      (none_behind s.lowest e.front (tasks.Emitting was) (tasks.Emitting now) refl (subst (λ (ts : List Task). list_any is_of_build (drop s.lowest ts) ≡ false) e.whole s.above));
-}
+kept_so s was now e = kept_last s (tasks.Emitting was) (tasks.Emitting now) e refl

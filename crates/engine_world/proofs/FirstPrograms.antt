@@ -2,8 +2,10 @@
 use Rattle.std.proofs.Common.{◌≡◌, ℕ, zero, suc, cond, ◌+◌, ◌-◌, ◌<◌, ◌≤◌, Bool, true, false, IsSome, is_some, vec_len, ◌||◌, List, [], ◌∷◌, ◌++◌, length, map, drop, reverse, get_or, slice_get, slice_set, Option, None, Some, option_and_then, option_map, refl, ap, sym, subst, ◌∙◌, arith}
 use Rattle.std.specs.List.{list_any}
 use Rattle.std.specs.Option.{option_to_list}
+use Rattle.std.specs.Prelude.{All}
 use Rattle.std.proofs.Math.Seq.{set-append_seam}
 use Rattle.std.proofs.lemmas.List.{length-set, map-append, reverse-append}
+use Rattle.std.proofs.lemmas.List.Elements.{All-cons, All-head, All-nil, All-tail}
 use Rattle.ui_machine.specs.Definition as machine
 use Rattle.ui_machine.specs.State.Handlers.{Handler}
 use Rattle.ui_machine.specs.State.Tasks as config
@@ -12,7 +14,7 @@ use Rattle.engine_world.specs.TaskView.{agenda_of, task_of, tasks_of}
 use Rattle.engine_world.specs.declared.engine.Engine.{Engine}
 use Rattle.engine_world.specs.declared.stacks.Stack.{Stack}
 use Rattle.engine_world.specs.Counting.{Counts, OnlyCounts, in_frame}
-use Rattle.engine_world.specs.KnownHandlers.{AllTakeKnownHandlers}
+use Rattle.engine_world.specs.KnownHandlers.{AllTakeKnownHandlers, TakesKnownHandlers}
 use Rattle.instance_tables.specs.Store.{Store, count_of}
 use Rattle.ui_machine.specs.Seq.{total}
 use Rattle.ui_machine.specs.State.References.{in_object, in_task, same}
@@ -65,6 +67,91 @@ none_behind (suc n) (z ∷ zs) x y other none = none_behind n zs x y other none
 pub first_of_last : (d : machine.Definition) (hs : List Handler) (xs : List Task) (x : Task) → reverse (map (task_of d hs) (xs ++ x ∷ [])) ≡ task_of d hs x ∷ reverse (map (task_of d hs) xs)
 first_of_last d hs xs x = ap (λ l. reverse l) (map-append (task_of d hs) xs (x ∷ [])) ∙ reverse-append (map (task_of d hs) xs) (task_of d hs x ∷ [])
 
+-- ** the last task of a list, which is the first that is done
+
+pub last_found : {A : Type 0} (xs : List A) (x : A) → slice_get (xs ++ x ∷ []) (length (xs ++ x ∷ []) - 1) ≡ Some x
+last_found [] x = refl
+last_found (y ∷ []) x = refl
+last_found (y ∷ z ∷ zs) x =
+    let n = length (zs ++ x ∷ []) in
+    let shorter : suc (suc n) - 1 ≡ suc (suc n - 1) = omega arith in
+    ap (λ k. slice_get (y ∷ z ∷ (zs ++ x ∷ [])) k) shorter ∙ last_found (z ∷ zs) x
+
+-- what is found in it
+pub last_gives : {A : Type 0} (of : Task → Option A) (front items : List Task) (x : Task) → items ≡ front ++ x ∷ []
+    → option_and_then of (slice_get items (length items - 1)) ≡ of x
+last_gives of front items x at =
+    ap (λ (l : List Task). option_and_then of (slice_get l (length l - 1))) at ∙ ap (λ (o : Option Task). option_and_then of o) (last_found front x)
+
+-- a list in whose last task something is found
+pub record LastHas {A : Type 0} (of : Task → Option A) (items : List Task) (a : A) : Type 0 where
+  pub front : List Task
+  pub task : Task
+  pub whole : items ≡ front ++ task ∷ []
+  pub has : of task ≡ Some a
+
+pub last_has : {A : Type 0} (of : Task → Option A) (items : List Task) (a : A) → option_and_then of (slice_get items (length items - 1)) ≡ Some a → LastHas of items a
+last_has of [] a is = absurd (cc is)
+last_has of (x ∷ []) a is = record { front = []; task = x; whole = refl; has = is }
+last_has of (x ∷ y ∷ ys) a is =
+    let shorter : suc (suc (length ys)) - 1 ≡ suc (suc (length ys) - 1) = omega arith in
+    let rest = last_has of (y ∷ ys) a (subst (λ n. option_and_then of (slice_get (x ∷ y ∷ ys) n) ≡ Some a) shorter is) in
+    record { front = x ∷ rest.front; task = rest.task; whole = ap (λ (l : List Task). x ∷ l) rest.whole; has = rest.has }
+
+-- what is there
+pub found : {A : Type 0} (o : Option A) → IsSome o → (a : A) × (o ≡ Some a)
+found None none = cc none
+found (Some a) some = (a, refl)
+
+-- the tasks of a stack whose last one is known
+pub starts_by : (d : machine.Definition) (hs : List Handler) (s : Stack) (front : List Task) (x : Task) → s.tasks.items ≡ front ++ x ∷ []
+    → tasks_of d hs s ≡ task_of d hs x ∷ drop 1 (tasks_of d hs s)
+starts_by d hs s front x whole =
+    let first : tasks_of d hs s ≡ task_of d hs x ∷ reverse (map (task_of d hs) front) = ap (λ (l : List Task). reverse (map (task_of d hs) l)) whole ∙ first_of_last d hs front x in
+    first ∙ ap (λ (l : List config.Task). task_of d hs x ∷ l) (sym (ap (λ (l : List config.Task). drop 1 l) first))
+
+-- all of a list is so where another last one is so too
+pub all_last : (last : ℕ) (front : List Task) (x y : Task) → TakesKnownHandlers last y → All (TakesKnownHandlers last) (front ++ x ∷ []) → All (TakesKnownHandlers last) (front ++ y ∷ [])
+all_last last [] x y so all = All-cons (TakesKnownHandlers last) y [] so (All-nil (TakesKnownHandlers last))
+all_last last (t ∷ ts) x y so all =
+    All-cons (TakesKnownHandlers last) t (ts ++ y ∷ []) (All-head (TakesKnownHandlers last) t (ts ++ x ∷ []) all)
+    (all_last last ts x y so (All-tail (TakesKnownHandlers last) t (ts ++ x ∷ []) all))
+
+-- what lies in the stack of the build lies there still
+pub record IsKeptSo (s : Stack) (items : List Task) : Type 0 where
+  pub within : s.lowest ≤ length items
+  pub above : list_any is_of_build (drop s.lowest items) ≡ false
+
+-- the last task is written in its place
+module _ (s : Stack) (was now : Task) (e : Ending (vec_len s.tasks) s.tasks.items was) where
+  pub kept_last : is_of_build now ≡ false → IsKeptSo s (slice_set s.tasks.items (vec_len s.tasks - 1) now)
+  kept_last other = record {
+    within = subst (λ n. s.lowest ≤ n) (sym (length-set s.tasks.items (vec_len s.tasks - 1) now)) s.within;
+    above =
+        subst (λ (ts : List Task). list_any is_of_build (drop s.lowest ts) ≡ false) (sym (ends_with (vec_len s.tasks) s.tasks.items was now e))
+        (none_behind s.lowest e.front was now other (subst (λ (ts : List Task). list_any is_of_build (drop s.lowest ts) ≡ false) e.whole s.above));
+  }
+
+  module _ (new : Stack) (is : new.tasks.items ≡ slice_set s.tasks.items (vec_len s.tasks - 1) now) where
+    pub items_written : new.tasks.items ≡ e.front ++ now ∷ []
+    items_written = is ∙ ends_with (vec_len s.tasks) s.tasks.items was now e
+
+    -- what is found in it
+    pub found_written : {A : Type 0} (of : Task → Option A) → option_and_then of (slice_get new.tasks.items (length new.tasks.items - 1)) ≡ of now
+    found_written of = last_gives of e.front new.tasks.items now items_written
+
+    pub tasks_written : (d : machine.Definition) (hs : List Handler) → tasks_of d hs new ≡ task_of d hs now ∷ drop 1 (tasks_of d hs s)
+    tasks_written d hs =
+        let before : tasks_of d hs s ≡ task_of d hs was ∷ reverse (map (task_of d hs) e.front) = ap (λ (l : List Task). reverse (map (task_of d hs) l)) e.whole ∙ first_of_last d hs e.front was in
+        ap (λ (l : List Task). reverse (map (task_of d hs) l)) items_written
+        ∙ first_of_last d hs e.front now
+        ∙ ap (λ (l : List config.Task). task_of d hs now ∷ l) (sym (ap (λ (l : List config.Task). drop 1 l) before))
+
+    pub begun_written : (last : ℕ) → TakesKnownHandlers last now → AllTakeKnownHandlers last s → AllTakeKnownHandlers last new
+    begun_written last known begun =
+        subst (λ (l : List Task). All (TakesKnownHandlers last) l) (sym items_written)
+        (all_last last e.front was now known (subst (λ (l : List Task). All (TakesKnownHandlers last) l) e.whole begun))
+
 -- ** the first program
 
 -- a stack whose first task is a program
@@ -81,7 +168,7 @@ is_running (tasks.Emitting emission) f is = absurd (cc is)
 is_running (tasks.Transferring number back) f is = absurd (cc is)
 is_running (tasks.Unsetting number) f is = absurd (cc is)
 is_running (tasks.Thawing id slots) f is = absurd (cc is)
-is_running (tasks.Constructing id steps held) f is = absurd (cc is)
+is_running (tasks.Constructing construction) f is = absurd (cc is)
 is_running (tasks.Building place forwards) f is = absurd (cc is)
 is_running (tasks.Adopting place forwards) f is = absurd (cc is)
 is_running (tasks.Binding number) f is = absurd (cc is)
@@ -154,14 +241,6 @@ starts_else d hs x (y ∷ ys) is =
 
 -- ** a program that is rewritten in its place
 
-pub last_found : {A : Type 0} (xs : List A) (x : A) → slice_get (xs ++ x ∷ []) (length (xs ++ x ∷ []) - 1) ≡ Some x
-last_found [] x = refl
-last_found (y ∷ []) x = refl
-last_found (y ∷ z ∷ zs) x =
-    let n = length (zs ++ x ∷ []) in
-    let shorter : suc (suc n) - 1 ≡ suc (suc n - 1) = omega arith in
-    ap (λ k. slice_get (y ∷ z ∷ (zs ++ x ∷ [])) k) shorter ∙ last_found (z ∷ zs) x
-
 -- what is taken off is a program where the first task is one
 pub popped_program : (items rest : List Task) (o : Option Task) → items ≡ rest ++ option_to_list o → (o ≡ None → length items ≡ 0)
     → option_and_then program_in o ≡ first_program items
@@ -170,49 +249,26 @@ popped_program (x ∷ xs) rest None is empty = absurd (omega (arith, empty refl)
 popped_program items rest (Some x) is empty =
     sym (ap (λ (l : List Task). first_program l) is ∙ ap (λ (o : Option Task). option_and_then program_in o) (last_found rest x))
 
--- the frame of a program that is the last task of a list
-found_at : (front items : List Task) (f : Frame) → items ≡ front ++ tasks.Running f ∷ [] → first_program items ≡ Some f
-found_at front items f at =
-    ap (λ (l : List Task). first_program l) at
-    ∙ ap (λ (o : Option Task). option_and_then program_in o) (last_found front (tasks.Running f))
-
 pub frame_last : (s : Stack) (was : Frame) → Ending (vec_len s.tasks) s.tasks.items (tasks.Running was) → stack_frame s ≡ frame_view was
-frame_last s was e = frame_found s was (found_at e.front s.tasks.items was e.whole)
+frame_last s was e = frame_found s was (last_gives program_in e.front s.tasks.items (tasks.Running was) e.whole)
 
 module _ (s new : Stack) (was now : Frame) (e : Ending (vec_len s.tasks) s.tasks.items (tasks.Running was))
     (is : new.tasks.items ≡ slice_set s.tasks.items (vec_len s.tasks - 1) (tasks.Running now)) where
-  written_items : new.tasks.items ≡ e.front ++ tasks.Running now ∷ []
-  written_items = is ∙ ends_with (vec_len s.tasks) s.tasks.items (tasks.Running was) (tasks.Running now) e
+  program_now : first_program new.tasks.items ≡ Some now
+  program_now = found_written s (tasks.Running was) (tasks.Running now) e new is program_in
 
   pub frame_now : stack_frame new ≡ frame_view now
-  frame_now = frame_found new now (found_at e.front new.tasks.items now written_items)
+  frame_now = frame_found new now program_now
 
   pub rewritten : IsRewritten s new
   rewritten = record {
-    first = ap (λ (o : Option Frame). is_some o) (found_at e.front new.tasks.items now written_items);
-    tasks = λ d hs.
-        let behind = reverse (map (task_of d hs) e.front) in
-        let before : tasks_of d hs s ≡ config.Running (frame_view was) ∷ behind =
-        ap (λ (l : List Task). reverse (map (task_of d hs) l)) e.whole ∙ first_of_last d hs e.front (tasks.Running was) in
-        ap (λ (l : List Task). reverse (map (task_of d hs) l)) written_items
-        ∙ first_of_last d hs e.front (tasks.Running now)
-        ∙ ap (λ (g : config.Frame). config.Running g ∷ behind) (sym frame_now)
-        ∙ ap (λ (l : List config.Task). config.Running (stack_frame new) ∷ l) (sym (ap (λ (l : List config.Task). drop 1 l) before));
+    first = ap (λ (o : Option Frame). is_some o) program_now;
+    tasks = λ d hs. tasks_written s (tasks.Running was) (tasks.Running now) e new is d hs ∙ ap (λ (g : config.Frame). config.Running g ∷ drop 1 (tasks_of d hs s)) (sym frame_now);
   }
-
--- what lies in the stack of the build lies there still
-pub record IsKeptSo (s : Stack) (items : List Task) : Type 0 where
-  pub within : s.lowest ≤ length items
-  pub above : list_any is_of_build (drop s.lowest items) ≡ false
 
 pub kept_so : (s : Stack) (was now : Frame) → Ending (vec_len s.tasks) s.tasks.items (tasks.Running was)
     → IsKeptSo s (slice_set s.tasks.items (vec_len s.tasks - 1) (tasks.Running now))
-kept_so s was now e = record {
-  within = subst (λ n. s.lowest ≤ n) (sym (length-set s.tasks.items (vec_len s.tasks - 1) (tasks.Running now))) s.within;
-  above =
-      subst (λ (ts : List Task). list_any is_of_build (drop s.lowest ts) ≡ false) (sym (ends_with (vec_len s.tasks) s.tasks.items (tasks.Running was) (tasks.Running now) e))
-      (none_behind s.lowest e.front (tasks.Running was) (tasks.Running now) refl (subst (λ (ts : List Task). list_any is_of_build (drop s.lowest ts) ≡ false) e.whole s.above));
-}
+kept_so s was now e = kept_last s (tasks.Running was) (tasks.Running now) e refl
 
 -- what is taken changes no register, and the program goes on
 pub taken_keeps : (p : Program) (f : config.Frame) (t : Taken) → taken_in p f ≡ Some t → (t.frame.registers ≡ f.registers) × (t.frame.program ≡ f.program)

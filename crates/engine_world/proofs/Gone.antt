@@ -260,7 +260,7 @@ module _ (gone : Gone) (free : OnlyHandlers gone) (keeps : Handler → Bool) whe
     task_alike (tasks.Emitting f) = ap (Emitting (emission_of f.cursor f.args.items f.by_event)) (entries_alike f.cursor f.transfers hs left)
     task_alike (tasks.Running frame) = refl
     task_alike (tasks.Thawing id slots) = refl
-    task_alike (tasks.Constructing id steps held) = refl
+    task_alike (tasks.Constructing construction) = refl
     task_alike (tasks.Building place forwards) = refl
     task_alike (tasks.Adopting place forwards) = refl
     task_alike (tasks.Transferring number back) = refl

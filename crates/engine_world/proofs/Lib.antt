@@ -41,3 +41,4 @@ mod ClosedPeers
 pub mod Ableness
 pub mod FirstPrograms
 pub mod FirstEmissions
+pub mod FirstConstructions

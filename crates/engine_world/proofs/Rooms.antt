@@ -98,7 +98,7 @@ task_most d hs o (tasks.Running frame) =
       frame.registers.small,
     )
 task_most d hs o (tasks.Thawing id slots) = omega (arith, same_most o id.0)
-task_most d hs o (tasks.Constructing id steps held) = omega (arith, same_most o id.0)
+task_most d hs o (tasks.Constructing f) = omega (arith, same_most o f.object.0)
 task_most d hs o (tasks.Building place forwards) = omega arith
 task_most d hs o (tasks.Adopting place forwards) = omega arith
 task_most d hs o (tasks.Transferring number back) = omega arith

@@ -96,7 +96,7 @@ module _ (d : Definition) (hs ks : List Handler) where
   task_same (tasks.Emitting f) is = ap (Emitting (emission_of f.cursor f.args.items f.by_event)) is
   task_same (tasks.Running frame) is = refl
   task_same (tasks.Thawing id slots) is = refl
-  task_same (tasks.Constructing id steps held) is = refl
+  task_same (tasks.Constructing construction) is = refl
   task_same (tasks.Building place forwards) is = refl
   task_same (tasks.Adopting place forwards) is = refl
   task_same (tasks.Transferring number back) is = refl
@@ -161,7 +161,7 @@ module _ (d : Definition) (change : Handler → Handler) (only : OnlyBlocks chan
       by (tasks.Beginning e) = tt
       by (tasks.Running frame) = tt
       by (tasks.Thawing id slots) = tt
-      by (tasks.Constructing id steps held) = tt
+      by (tasks.Constructing construction) = tt
       by (tasks.Building place forwards) = tt
       by (tasks.Adopting place forwards) = tt
       by (tasks.Transferring number back) = tt
@@ -212,7 +212,7 @@ module _ (d : Definition) (h : Handler) (hs : List Handler) (last : ℕ) (later 
       by (tasks.Beginning e) begun = tt
       by (tasks.Running frame) begun = tt
       by (tasks.Thawing id slots) begun = tt
-      by (tasks.Constructing id steps held) begun = tt
+      by (tasks.Constructing construction) begun = tt
       by (tasks.Building place forwards) begun = tt
       by (tasks.Adopting place forwards) begun = tt
       by (tasks.Transferring number back) begun = tt
@@ -238,7 +238,7 @@ begun_more last more few s begun = all_more s.tasks.items begun
     one_more (tasks.Beginning e) begun = tt
     one_more (tasks.Running frame) begun = tt
     one_more (tasks.Thawing id slots) begun = tt
-    one_more (tasks.Constructing id steps held) begun = tt
+    one_more (tasks.Constructing construction) begun = tt
     one_more (tasks.Building place forwards) begun = tt
     one_more (tasks.Adopting place forwards) begun = tt
     one_more (tasks.Transferring number back) begun = tt

@@ -1,5 +1,6 @@
 pub mod FirstPrograms
 pub mod FirstEmissions
+pub mod FirstConstructions
 pub mod GivenView
 pub mod KinView
 pub mod WeakView

@@ -20,6 +20,7 @@ ghost use Rattle.engine_world.specs.TaskView.{agenda_of};
 ghost use Rattle.engine_world.specs.Counting.{KeepsCounts, MayBeHeld};
 
 use crate::construct_steps::{GivenAt, construction};
+use crate::construction_frames::ConstructionFrame;
 use crate::engine::Engine;
 use crate::lines::Line;
 use crate::object_peers::{count_got, numbers_at};
@@ -156,11 +157,11 @@ pub fn begin_construction(engine: &mut Engine, new: NewObject, held: bool) -> Re
     } = new;
     push_task(
         engine,
-        Task::Constructing {
+        Task::Constructing(ConstructionFrame {
             object,
             steps,
             held,
-        },
+        }),
     );
     engine.world.say(line)?;
     lend(&mut engine.world.seats, peer, object);

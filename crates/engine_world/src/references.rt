@@ -108,7 +108,7 @@ impl Task {
             Task::Unsetting { .. } => None,
             Task::Running(_) => None,
             Task::Thawing { object, .. } => Some(*object),
-            Task::Constructing { object, .. } => Some(*object),
+            Task::Constructing(construction) => Some(construction.object),
             Task::Building { .. } => None,
             Task::Adopting { .. } => None,
             Task::Binding { .. } => None,
@@ -171,7 +171,7 @@ fn hold_given(table: &mut Table, task: &Task)
         Task::Unsetting { .. } => {}
         Task::Running(frame) => hold_registers(table, frame.registers.as_slice()),
         Task::Thawing { .. } => {}
-        Task::Constructing { .. } => {}
+        Task::Constructing(_) => {}
         Task::Building { .. } => {}
         Task::Adopting { .. } => {}
         Task::Binding { .. } => {}

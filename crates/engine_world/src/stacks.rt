@@ -30,6 +30,7 @@ impl Stack {
     ghost use Rattle.ui_machine.specs.State.Handlers.{Handler};
     ghost use Rattle.ui_machine.specs.Rules.Build.{of_items};
     ghost use Rattle.ui_machine.specs.Seq.{total};
+    ghost use Rattle.engine_world.specs.FirstConstructions.{construction_in, first_construction};
     ghost use Rattle.engine_world.specs.FirstEmissions.{emission_in, first_emission};
     ghost use Rattle.engine_world.specs.FirstPrograms.{IsRewritten, first_program, program_in, stack_frame};
     ghost use Rattle.engine_world.specs.KnownHandlers.{AllTakeKnownHandlers, TakesKnownHandlers};
@@ -165,6 +166,7 @@ impl Stack {
         ensures first { IfSome result (λ task. (last : ℕ) → AllTakeKnownHandlers last self.old → TakesKnownHandlers last task) }
         ensures program { option_and_then program_in result ≡ first_program self.old.tasks.items }
         ensures emission { option_and_then emission_in result ≡ first_emission self.old.tasks.items }
+        ensures construction { option_and_then construction_in result ≡ first_construction self.old.tasks.items }
         ensures given { MatchOption result (vec_len self.new.tasks ≡ vec_len self.old.tasks) (λ _. vec_len self.old.tasks ≡ vec_len self.new.tasks + 1) }
         ensures free { IfSome result (λ _. vec_len self.new.tasks < vec_capacity self.new.tasks) }
         ensures room { vec_capacity self.new.tasks ≡ vec_capacity self.old.tasks }

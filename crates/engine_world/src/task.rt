@@ -3,6 +3,7 @@
 ghost use Rattle.std.specs.Prelude.{◌≡◌, [], ◌∷◌, reverse, map, MatchOption};
 ghost use Rattle.engine_world.specs.TaskView.{making_of_code};
 
+use crate::construction_frames::ConstructionFrame;
 use crate::emission_frames::EmissionFrame;
 use bindings::DueTransfers;
 use bytecode::Register;
@@ -233,12 +234,7 @@ pub enum Task {
         slots: Slots,
     },
     /// The rest of a construction.
-    Constructing {
-        object: ObjectId,
-        steps: ConstructSteps,
-        /// Whether the builder holds the object at its end.
-        held: bool,
-    },
+    Constructing(ConstructionFrame),
     /// The rest of the build: the objects from a place on, and then the forward references.
     Building {
         place: Place,

@@ -1,10 +1,10 @@
-use Rattle.std.proofs.Common.{◌≡◌, ◌≤◌, ◌∙◌, refl, sym, ap, subst, arith, List, [], ◌∷◌}
+use Rattle.std.proofs.Common.{◌∙◌, refl, sym, ap, subst, arith, List, [], ◌∷◌}
 use Rattle.ui_machine.specs.Rules.Accumulation.{stopped}
-use Rattle.ui_machine.specs.State.Tasks.{Emission, Emitting, PlanEntry, Task}
+use Rattle.ui_machine.specs.State.Tasks.{Emission, Emitting, PlanEntry}
 use Rattle.signal_core.specs.Emission as walks
-use Rattle.engine_world.specs.FirstEmissions.{EmitsKnown, Emitted, emission_view, emitting, entries_left, first_emission, first_emitted}
+use Rattle.engine_world.specs.FirstEmissions.{EmitsKnown, Emitted, emission_view, emitting, first_emission, first_emitted}
 use Rattle.engine_world.specs.FirstPrograms.{rest_of}
-use Rattle.engine_world.specs.TaskView.{agenda_of, entries_to_come}
+use Rattle.engine_world.specs.TaskView.{entries_to_come}
 use Rattle.engine_world.specs.declared.task.Transfers.TheVariants as at
 use Rattle.engine_world.proofs.FirstEmissions.{begins, first_begun}
 use Rattle.engine_world.proofs.Registers.{none_found, some_found}

@@ -43,8 +43,8 @@ emit-requires c =
           omega (arith, few, tasks_counted d e.world.handlers.handlers e.stack);
     }
 
-pub take_first_task-requires-clause-begins : goal.take_first_task-requires-clause-begins
-take_first_task-requires-clause-begins c =
+pub construct_or_take-requires-clause-begins : goal.construct_or_take-requires-clause-begins
+construct_or_take-requires-clause-begins c =
     let e = c.args.engine.now in
     none_found _ c.first_emission.result (first_emission e.stack.tasks.items) c.is_none.result c.first_emission.ensures c.is_none.ensures c.if-is_none.true
 

@@ -80,6 +80,7 @@ act-requires c = record {
       omega (arith, few, first, tasks_counted d hs c.pop.new.self, same);
   other = c.in-Some.ensures.program ∙ c.requires.other;
   begins = c.in-Some.ensures.emission ∙ c.requires.begins;
+  builds = c.in-Some.ensures.construction ∙ c.requires.builds;
   begun = c.in-Some.ensures.first c.args.engine.now.world.handlers.last c.requires.counted.connects.begun;
   counted =
       let d = c.args.definition.now in

@@ -11,6 +11,7 @@ use Rattle.engine_world.proofs.Rooms.{task_counted}
 use Rattle.engine_instructions.proofs.Creating.{making_from}
 use Rattle.engine_instructions.proofs.Whole.{leads_whole}
 use Rattle.engine_world.proofs.Signals.{bind_count, build_count}
+use Rattle.engine_world.specs.FirstConstructions.{construction_in}
 use Rattle.engine_world.specs.FirstEmissions.{emission_in}
 use Rattle.engine_world.specs.FirstPrograms.{program_in}
 use Rattle.engine_pools.proofs.tasks.act.Goals as goal
@@ -53,18 +54,6 @@ notify_thawed-requires c = record {
       let e = c.args.engine.now in
       counted_lives d _ e c.never_full.ensures.dead c.requires.counted c.in-Thawing.object.0
       (let one = ap (λ (t : code.Task). in_task c.in-Thawing.object.0 (task_in d e t)) c.in-Thawing.is in omega (arith, one, same_self c.in-Thawing.object.0));
-  counted = task_counted c.args.definition.now c.args.engine.now c.args.task c.requires.counted;
-  room = c.requires.room;
-}
-
-pub construct-requires : goal.construct-requires
-construct-requires c = record {
-  able = rw c.in-Constructing.is at c.requires.able;
-  live =
-      let d = c.args.definition.now in
-      let e = c.args.engine.now in
-      counted_lives d _ e c.never_full.ensures.dead c.requires.counted c.in-Constructing.object.0
-      (let one = ap (λ (t : code.Task). in_task c.in-Constructing.object.0 (task_in d e t)) c.in-Constructing.is in omega (arith, one, same_self c.in-Constructing.object.0));
   counted = task_counted c.args.definition.now c.args.engine.now c.args.task c.requires.counted;
   room = c.requires.room;
 }
@@ -151,6 +140,9 @@ unreachable-requires c = let none = sym (ap (λ (t : code.Task). emission_in t) 
 pub unreachable-requires-in-Running : goal.unreachable-requires-in-Running
 unreachable-requires-in-Running c = let none = sym (ap (λ (t : code.Task). program_in t) c.in-Running.is) ∙ c.requires.other in cc none
 
+pub unreachable-requires-in-Constructing : goal.unreachable-requires-in-Constructing
+unreachable-requires-in-Constructing c = let none = sym (ap (λ (t : code.Task). construction_in t) c.in-Constructing.is) ∙ c.requires.builds in cc none
+
 pub unreachable-requires-in-Answering : goal.unreachable-requires-in-Answering
 unreachable-requires-in-Answering c = rw c.in-Answering.is at c.requires.able
 
@@ -167,10 +159,6 @@ returns-in-Notifying-clause-counted c =
 pub returns-in-Thawing-clause-counted : goal.returns-in-Thawing-clause-counted
 returns-in-Thawing-clause-counted c =
     done_plain c.args.definition.now c.args.engine.now c.notify_thawed.new.engine c.args.task _ c.in-Thawing.is (λ o. refl) c.notify_thawed.ensures.counted c.requires.counted
-
-pub returns-in-Constructing-clause-counted : goal.returns-in-Constructing-clause-counted
-returns-in-Constructing-clause-counted c =
-    done_plain c.args.definition.now c.args.engine.now c.construct.new.engine c.args.task _ c.in-Constructing.is (λ o. refl) c.in_ok-construct-in-Constructing.ensures.counted c.requires.counted
 
 pub returns-in-Building-clause-counted : goal.returns-in-Building-clause-counted
 returns-in-Building-clause-counted c =
@@ -195,9 +183,6 @@ returns-in-Beginning-clause-step c = rw c.in-Beginning.is (leads_whole c.args.de
 
 pub returns-in-Thawing-clause-step : goal.returns-in-Thawing-clause-step
 returns-in-Thawing-clause-step c = rw c.in-Thawing.is (leads_whole c.args.definition.now c.notify_thawed.new.engine done _ c.notify_thawed.ensures.step)
-
-pub returns-in-Constructing-clause-step : goal.returns-in-Constructing-clause-step
-returns-in-Constructing-clause-step c = rw c.in-Constructing.is (leads_whole c.args.definition.now c.construct.new.engine done _ c.in_ok-construct-in-Constructing.ensures.step)
 
 pub returns-in-Building-clause-step : goal.returns-in-Building-clause-step
 returns-in-Building-clause-step c = rw c.in-Building.is (leads_whole c.args.definition.now c.build.new.engine done _ c.in_ok-build-in-Building.ensures.step)

@@ -1,7 +1,7 @@
-use Rattle.std.proofs.Common.{◌≡◌, ◌∙◌, None, false, true, option_map, sym, ap, subst, refl}
+use Rattle.std.proofs.Common.{◌∙◌, option_map, sym, ap, subst}
 use Rattle.ui_machine.specs.Outcome.{Answer}
 use Rattle.ui_machine.specs.State.Config.{Config}
-use Rattle.signal_core.specs.Emission.{Walk, is_transfers, next_step}
+use Rattle.signal_core.specs.Emission.{Walk, next_step}
 use Rattle.signal_core.specs.declared.turn.Turn.{Turn}
 use Rattle.engine_world.specs.Able.{Leads}
 use Rattle.engine_world.specs.EngineView.{config_of}

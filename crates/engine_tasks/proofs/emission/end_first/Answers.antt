@@ -1,4 +1,4 @@
-use Rattle.std.proofs.Common.{◌≡◌, ◌∷◌, ◌∙◌, List, Some, drop, sym, ap, subst, arith}
+use Rattle.std.proofs.Common.{◌≡◌, ◌∷◌, ◌∙◌, List, drop, sym, ap, subst, arith}
 use Rattle.ui_machine.specs.Outcome.{Answer}
 use Rattle.ui_machine.specs.Rules.Accumulation.{ending}
 use Rattle.ui_machine.specs.State.Config.{Config}

@@ -1,7 +1,7 @@
-use Rattle.std.proofs.Common.{◌≡◌, ◌∙◌, List, map, sym, ap, subst, arith}
+use Rattle.std.proofs.Common.{◌∙◌, List, sym, ap, subst, arith}
 use Rattle.ui_machine.specs.Definition.Values as values
 use Rattle.ui_machine.specs.Outcome.{Answer}
-use Rattle.ui_machine.specs.State.Config.{Config, World}
+use Rattle.ui_machine.specs.State.Config.{Config}
 use Rattle.law_typing.specs.Good.Living.{NamesLiving}
 use Rattle.law_typing.specs.Verdict.Accepted.{Each}
 use Rattle.bytecode.specs.Computing.{registers_of}

@@ -1,5 +1,5 @@
-use Rattle.std.proofs.Common.{◌≡◌, ◌∙◌, [], cond, vec_len, ap, refl, sym}
-use Rattle.engine_world.specs.FirstEmissions.{Emitted, emitted_of, stack_emission}
+use Rattle.std.proofs.Common.{◌∙◌, [], cond, vec_len, ap, refl, sym}
+use Rattle.engine_world.specs.FirstEmissions.{Emitted, emitted_of}
 use Rattle.engine_world.specs.declared.task.Task.TheVariants as tasks
 use Rattle.engine_world.proofs.FirstPrograms.{ending}
 use Rattle.engine_world.proofs.FirstEmissions.{emitted_last, emitted_now, kept_so, reemitted}

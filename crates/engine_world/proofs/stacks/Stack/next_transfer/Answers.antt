@@ -55,7 +55,7 @@ next_of_stack : (s new : Stack) (was now : EmissionFrame) (e : Ending (vec_len s
     → new.tasks.items ≡ slice_set s.tasks.items (vec_len s.tasks - 1) (tasks.Emitting now) → (bs : List Binding) (r : Option DueTransfer)
     → MatchOption r ((from_ready bs (due_now was.transfers) ≡ []) × (due_now now.transfers ≡ [])) (λ due. from_ready bs (due_now was.transfers) ≡ due ∷ due_now now.transfers)
     → MatchOption r ((from_ready bs (due_now (stack_emission s).transfers) ≡ []) × (due_now (stack_emission new).transfers ≡ []))
-      (λ due. from_ready bs (due_now (stack_emission s).transfers) ≡ due ∷ due_now (stack_emission new).transfers)
+    (λ due. from_ready bs (due_now (stack_emission s).transfers) ≡ due ∷ due_now (stack_emission new).transfers)
 next_of_stack s new was now e is bs r next =
     subst (λ (x : Emitted). MatchOption r ((from_ready bs (due_now x.transfers) ≡ []) × (due_now (stack_emission new).transfers ≡ [])) (λ due. from_ready bs (due_now x.transfers) ≡ due ∷ due_now (stack_emission new).transfers)) (sym (emitted_last s was e))
     (subst (λ (x : Emitted). MatchOption r ((from_ready bs (due_now was.transfers) ≡ []) × (due_now x.transfers ≡ [])) (λ due. from_ready bs (due_now was.transfers) ≡ due ∷ due_now x.transfers)) (sym (emitted_now s new was now e is)) next)
