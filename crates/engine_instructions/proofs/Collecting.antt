@@ -1,4 +1,5 @@
 -- What an emission collects of its programs, and where else a program's result goes.
+use Rattle.std.specs.Prelude.{MatchOption}
 use Rattle.std.proofs.Common.{◌≡◌, ◌≤◌, ◌∙◌, refl, sym, ap, subst, ℕ, ◌+◌, ◌++◌, Bool, true, false, cond, List, [], ◌∷◌, map, Option, None, Some, Ok, Err, arith}
 use Rattle.ui_machine.specs.declared.arm.Arm.{Arm}
 use Rattle.ui_machine.specs.declared.arm.Arm.TheVariants as arms
@@ -293,6 +294,15 @@ pub gives_source : (d : Definition) (w : World) (source : ℕ) (rest : List Task
     → kept_source w source given ≡ Ok v → given_down d w (Answering source ∷ rest) given ≡ leaves v new
 unfolding down_to_source
 gives_source d w source rest given v new back kept = ap (λ (a : Answer World). a >>= λ k. leaves k rest) kept ∙ ap (leaves v) (sym back)
+
+-- what is left once the first task was taken off is what was behind it
+pub popped_behind : (d : Definition) (hs : List Handler) (o : Option code.Task) (old new : List Task) (t : Task) (rest : List Task) → old ≡ t ∷ rest
+    → MatchOption o ((old ≡ []) × (new ≡ [])) (λ task. old ≡ task_of d hs task ∷ new) → old ≡ t ∷ new
+popped_behind d hs None old new t rest first none = let never : t ∷ rest ≡ [] = sym first ∙ none.0 in absurd (cc never)
+popped_behind d hs (Some task) old new t rest first off =
+    let both : task_of d hs task ∷ new ≡ t ∷ rest = sym off ∙ first in
+    let behind : new ≡ rest = cc both in
+    first ∙ ap (λ (ts : List Task). t ∷ ts) (sym behind)
 
 -- its task held nothing
 pub popped_source : (d : Definition) (e : Engine) (s : Stack) (taken : ℕ → ℕ) (source : ℕ) → agenda_of d e ≡ Answering source ∷ tasks_of d e.world.handlers.handlers s

@@ -1,7 +1,15 @@
 -- What a stop leaves of an emission, and of the tasks.
-use Rattle.engine_world.specs.KnownHandlers.{AllTakeKnownHandlers, EndsWithoutTransfers}
-use Rattle.engine_world.proofs.Counts.{restacked}
-use Rattle.std.proofs.Common.{◌≡◌, ◌∙◌, refl, sym, ap, subst, ℕ, ◌++◌, Bool, true, false, cond, map, nat_eq, reverse, List, [], ◌∷◌, Option, None, Some, arith}
+use Rattle.engine_world.specs.KnownHandlers.{AllTakeKnownHandlers, EndsWithoutTransfers, TakesKnownHandlers}
+use Rattle.engine_world.specs.FirstEmissions.{StopsBelow, stop_in, with_last}
+use Rattle.engine_world.specs.FirstPrograms.{first_program, stack_frame}
+use Rattle.engine_world.specs.declared.stacks.Stack.{Stack}
+use Rattle.engine_world.proofs.FirstPrograms.{first_of_last, starts}
+use Rattle.engine_world.proofs.OtherFirst.{head_same}
+use Rattle.engine_world.proofs.Registers.{stack_same_held}
+use Rattle.engine_world.proofs.StopsBelow.{Lasts, below_known, has_last, last_changed, lasts, no_last}
+use Rattle.engine_world.proofs.Vectors.{front_known, last_known}
+use Rattle.std.specs.Prelude.{All}
+use Rattle.std.proofs.Common.{IsSome, drop, ◌≡◌, ◌∙◌, refl, sym, ap, subst, ℕ, ◌++◌, Bool, true, false, cond, map, nat_eq, reverse, List, [], ◌∷◌, Option, None, Some, arith}
 use Rattle.std.specs.List.{filter}
 use Rattle.std.proofs.lemmas.List.Elements.{filter-append}
 use Rattle.ui_machine.specs.Definition.{Definition}
@@ -20,9 +28,7 @@ use Rattle.signal_core.specs.declared.stage.Stage.{Stage}
 use Rattle.signal_core.specs.declared.stage.Stage.TheVariants as stages
 use Rattle.signal_core.specs.declared.turn.Turn.TheVariants as turns
 use Rattle.bindings.specs.declared.due.DueTransfer.{DueTransfer}
-use Rattle.engine_world.specs.Counting.{Counts}
-use Rattle.engine_world.specs.FirstEmissions.{emission_in, first_emission}
-use Rattle.engine_world.proofs.FirstEmissions.{starts_else}
+use Rattle.engine_world.specs.Counting.{Counts, nothing}
 use Rattle.engine_world.specs.TaskView.{agenda_of, emission_of, entries_to_come, task_of, tasks_of}
 use Rattle.engine_world.specs.declared.engine.Engine.{Engine}
 use Rattle.engine_world.specs.declared.task.Task as code
@@ -186,32 +192,52 @@ module _ (w : Walk) (hs : List Handler) (args : List values.Value) (by_event : B
 -- ** tasks
 
 module _ (d : Definition) (hs : List Handler) where
-  -- a stop leaves a task that is no emission's
-  stops_none : (t : code.Task) (rest : List Task) → emission_in t ≡ None → machine.stopped (task_of d hs t ∷ rest) ≡ task_of d hs t ∷ rest
-  stops_none (tasks.Emitting emission) rest other = absurd (cc other)
-  stops_none (tasks.Setting id slot v) rest other = refl
-  stops_none (tasks.Notifying id slot) rest other = refl
-  stops_none (tasks.Beginning e) rest other = refl
-  stops_none (tasks.Running frame) rest other = refl
-  stops_none (tasks.Thawing id slots) rest other = refl
-  stops_none (tasks.Constructing construction) rest other = refl
-  stops_none (tasks.Building place forwards) rest other = refl
-  stops_none (tasks.Adopting place forwards) rest other = refl
-  stops_none (tasks.Transferring number back) rest other = refl
-  stops_none (tasks.Unsetting number) rest other = refl
-  stops_none (tasks.Binding number) rest other = refl
-  stops_none (tasks.Connecting place number) rest other = refl
-  stops_none (tasks.Answering source) rest other = refl
-  stops_none (tasks.Calling call) rest other = refl
-  stops_none (tasks.Due source) rest other = refl
-  stops_none (tasks.Handling event) rest other = refl
+  -- the last of a list, which is the first that is done, is stopped where it is an emission
+  stops_last : (t : code.Task) (rest : List Task) (last : ℕ) → TakesKnownHandlers last t → task_of d hs (stop_in t) ∷ rest ≡ machine.stopped (task_of d hs t ∷ rest)
+  stops_last (tasks.Emitting f) rest last known =
+      ap (λ (m : Emission). Emitting m (entries_to_come (stopped f.cursor) hs (at.Due [])) ∷ rest) (sym (stop_same f.cursor hs f.args.items f.by_event))
+      ∙ ap (λ (entries : List PlanEntry). Emitting (emission_of f.cursor f.args.items f.by_event) entries ∷ rest) (sym (stop_leaves f.cursor hs f.args.items f.by_event f.transfers known.1))
+  stops_last (tasks.Setting id slot v) rest last known = refl
+  stops_last (tasks.Notifying id slot) rest last known = refl
+  stops_last (tasks.Beginning e) rest last known = refl
+  stops_last (tasks.Running frame) rest last known = refl
+  stops_last (tasks.Thawing id slots) rest last known = refl
+  stops_last (tasks.Constructing construction) rest last known = refl
+  stops_last (tasks.Building place forwards) rest last known = refl
+  stops_last (tasks.Adopting place forwards) rest last known = refl
+  stops_last (tasks.Transferring number back) rest last known = refl
+  stops_last (tasks.Unsetting number) rest last known = refl
+  stops_last (tasks.Binding number) rest last known = refl
+  stops_last (tasks.Connecting place number) rest last known = refl
+  stops_last (tasks.Answering source) rest last known = refl
+  stops_last (tasks.Calling call) rest last known = refl
+  stops_last (tasks.Due source) rest last known = refl
+  stops_last (tasks.Handling event) rest last known = refl
 
-  -- and so all tasks where the first is none
-  pub stops_nothing : (items : List code.Task) → first_emission items ≡ None → machine.stopped (reverse (map (task_of d hs) items)) ≡ reverse (map (task_of d hs) items)
-  stops_nothing [] none = refl
-  stops_nothing (x ∷ xs) none =
-      let s = starts_else d hs x xs none in
-      ap (λ (ts : List Task). machine.stopped ts) s.first ∙ stops_none s.task s.behind s.other ∙ sym s.first
+  stops_below : (below : List code.Task) (last : ℕ) → All (TakesKnownHandlers last) below
+      → reverse (map (task_of d hs) (with_last stop_in below)) ≡ machine.stopped (reverse (map (task_of d hs) below))
+  stops_below below last known = by (lasts below) known
+    where
+      by : {xs : List code.Task} → Lasts xs → All (TakesKnownHandlers last) xs → reverse (map (task_of d hs) (with_last stop_in xs)) ≡ machine.stopped (reverse (map (task_of d hs) xs))
+      by no_last known = refl
+      by (has_last front t) known =
+          ap (λ (l : List code.Task). reverse (map (task_of d hs) l)) (last_changed stop_in front t)
+          ∙ first_of_last d hs front (stop_in t)
+          ∙ stops_last t (reverse (map (task_of d hs) front)) last (last_known last front t known)
+          ∙ ap (λ (ts : List Task). machine.stopped ts) (sym (first_of_last d hs front t))
+
+-- the tasks of a stack in which the emission below the program that is the first task was stopped
+pub below_stopped : (d : Definition) (hs : List Handler) (s new : Stack) (last : ℕ) → StopsBelow s new → IsSome (first_program s.tasks.items) → AllTakeKnownHandlers last s
+    → tasks_of d hs new ≡ config.Running (stack_frame s) ∷ machine.stopped (drop 1 (tasks_of d hs s))
+below_stopped d hs s new last stops first known =
+    let all = subst (λ (l : List code.Task). All (TakesKnownHandlers last) l) stops.was known in
+    let before : tasks_of d hs s ≡ task_of d hs stops.first ∷ reverse (map (task_of d hs) stops.below) = ap (λ (l : List code.Task). reverse (map (task_of d hs) l)) stops.was ∙ first_of_last d hs stops.below stops.first in
+    let runs : task_of d hs stops.first ≡ config.Running (stack_frame s) = head_same (sym before ∙ starts d hs s first) in
+    ap (λ (l : List code.Task). reverse (map (task_of d hs) l)) stops.now
+    ∙ first_of_last d hs (with_last stop_in stops.below) stops.first
+    ∙ ap (λ (t : Task). t ∷ reverse (map (task_of d hs) (with_last stop_in stops.below))) runs
+    ∙ ap (λ (ts : List Task). config.Running (stack_frame s) ∷ ts) (stops_below d hs stops.below last (front_known last stops.below stops.first all))
+    ∙ ap (λ (ts : List Task). config.Running (stack_frame s) ∷ machine.stopped ts) (sym (ap (λ (ts : List Task). drop 1 ts) before))
 
 -- a stop changes what no task holds
 pub stopped_holds : (d : Definition) (o : ℕ) (ts : List Task) → total (in_task o) (machine.stopped ts) ≡ total (in_task o) ts
@@ -231,14 +257,11 @@ stopped_holds d o (config.Building items ∷ rest) = refl
 stopped_holds d o (config.Handling request ∷ rest) = refl
 stopped_holds d o (config.Due source ∷ rest) = refl
 
-pub stop_counts : (d : Definition) (e mid : Engine) (taken : ℕ → ℕ) → mid ≡ record e { stack = mid.stack } → agenda_of d mid ≡ machine.stopped (agenda_of d e)
-    → ((last : ℕ) → AllTakeKnownHandlers last e.stack → AllTakeKnownHandlers last mid.stack) → Counts d taken e → Counts d taken mid
-stop_counts d e mid taken beside is begun h = subst (λ (x : Engine). Counts d taken x) (sym beside) (record {
-  knows = h.knows;
-  links = h.links;
-  passes = h.passes;
-  connects = restacked d e mid.stack begun h.connects;
-  exact = λ o.
-      let same_tasks : tasks_of d e.world.handlers.handlers mid.stack ≡ machine.stopped (agenda_of d e) = ap (λ (x : Engine). tasks_of d x.world.handlers.handlers mid.stack) (sym beside) ∙ is in
-      omega (arith, h.exact o, ap (λ (ts : List Task). total (in_task o) ts) same_tasks, stopped_holds d o (agenda_of d e));
-})
+pub below_counts : (d : Definition) (e : Engine) (s : Stack) → StopsBelow e.stack s → IsSome (first_program e.stack.tasks.items) → Counts d nothing e → Counts d nothing (record e { stack = s })
+below_counts d e s stops first h = stack_same_held d e s
+    (λ o.
+    let hs = e.world.handlers.handlers in
+    let after = ap (λ (ts : List Task). total (in_task o) ts) (below_stopped d hs e.stack s e.world.handlers.last stops first h.connects.begun) in
+    let before = ap (λ (ts : List Task). total (in_task o) ts) (starts d hs e.stack first) in
+    omega (arith, after, before, stopped_holds d o (drop 1 (agenda_of d e))))
+    (λ last known. subst (λ (l : List code.Task). All (TakesKnownHandlers last) l) (sym stops.now) (below_known last stops.below stops.first (subst (λ (l : List code.Task). All (TakesKnownHandlers last) l) stops.was known))) nothing h

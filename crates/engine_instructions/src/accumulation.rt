@@ -122,13 +122,15 @@ fn give_other(engine: &mut Engine, definition: &Definition, given: Option<Value>
 {
     // For the proof: the clauses speak of the definition.
     let _ = definition;
-    let Some(task) = engine.stack.pop() else {
+    let Some(task) = engine.stack.first() else {
         return;
     };
-    match task {
-        Task::Answering { source } => answer(engine, source, given),
-        task => engine.stack.push(task),
-    }
+    let Task::Answering { source } = task else {
+        return;
+    };
+    let source = *source;
+    engine.stack.pop();
+    answer(engine, source, given);
 }
 
 /// Gives a program's value to the task below the program. An emission collects it, a source stays or goes by it, and any other task takes

@@ -20,8 +20,8 @@ use crate::properties::value_in;
 use bytecode::{Program, Register};
 use definitions::Definition;
 use engine_world::engine::Engine;
-use engine_world::program_frames::pop_frame;
-use engine_world::references::{let_go_registers, never_full};
+use engine_world::program_frames::drop_program;
+use engine_world::references::never_full;
 use g_values::Value;
 use std::alloc::AllocError;
 
@@ -57,11 +57,9 @@ pub(crate) fn return_from_program(
     ensures room { SameRoom engine.old engine.new }
 {
     let given = given_by(engine, from)?;
-    let frame = pop_frame(engine);
     // For the proof: what the registers name lives, and may be held once more.
     never_full(engine);
+    drop_program(engine);
     give_down(engine, definition, given);
-    let_go_registers(&mut engine.world.table, frame.registers.as_slice());
-    engine.spare_registers.give_back(frame.registers);
     Ok(())
 }

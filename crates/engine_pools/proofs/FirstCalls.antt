@@ -1,5 +1,5 @@
 -- A call that comes first, and what the engine knows of its reply.
-use Rattle.std.proofs.Common.{◌≡◌, refl, ap, sym, ◌∙◌, subst, ℕ, Bool, true, false, cond, List, [], ◌∷◌, Option, None, Some}
+use Rattle.std.proofs.Common.{◌≡◌, refl, ap, sym, ◌∙◌, subst, ℕ, Bool, true, false, cond, List, [], ◌∷◌, ◌++◌, map, reverse, Option, None, Some}
 use Rattle.std.specs.Prelude.{IsSome, IsSomeAnd, IsTrue, is_some, option_map, slice_get}
 use Rattle.ui_machine.specs.Definition.{Definition}
 use Rattle.ui_machine.specs.Definition.Signals.{Method}
@@ -13,9 +13,13 @@ use Rattle.ui_machine.specs.State.References.{mentions, next_unheld}
 use Rattle.ui_machine.specs.Steps.{asked_after, asked_first, question}
 use Rattle.law_peers.specs.Forgetting.{forgotten_reply, forgotten_state}
 use Rattle.native_peers.specs.Seen.{Asks, Relations, Seen}
+use Rattle.engine_world.specs.TaskFrames.{IsFrameless}
 use Rattle.engine_world.specs.TaskView.{task_of}
 use Rattle.engine_world.specs.declared.task.Task as code
 use Rattle.engine_world.specs.declared.task.Task.TheVariants as tasks
+use Rattle.engine_world.proofs.FirstPrograms.{first_of_last}
+use Rattle.engine_world.proofs.OtherFirst.{IsOther, other_last}
+use Rattle.engine_world.proofs.StopsBelow.{Lasts, has_last, lasts, no_last}
 use Rattle.engine_pools.specs.Safety.{NoneUnheld}
 use Rattle.engine_pools.specs.PoolView.{Knows, MayBeAsked, Takes, forgotten_seen}
 use Rattle.engine_pools.proofs.Living.{map_read, no_seen, read_at, seen_at}
@@ -97,3 +101,13 @@ mapped_some f (Some x) = refl
 pub none_asked : (q : Option Question) → false ≡ is_some q → q ≡ None
 none_asked None is = refl
 none_asked (Some x) is = absurd (cc is)
+
+-- so a stack from which a peer is asked begins with no frame
+pub asked_other : (d : Definition) (hs : List Handler) (w : World) (items : List code.Task) → IsSome (asked_first w (reverse (map (task_of d hs) items))) → IsOther items
+asked_other d hs w items some = by (lasts items) some
+  where
+    by : {xs : List code.Task} → Lasts xs → IsSome (asked_first w (reverse (map (task_of d hs) xs))) → IsOther xs
+    by no_last none = absurd (cc none)
+    by (has_last front x) some =
+        let calls = calls_only d hs w x (reverse (map (task_of d hs) front)) (subst (λ (ts : List Task). IsSome (asked_first w ts)) (first_of_last d hs front x) some) in
+        other_last front (front ++ x ∷ []) x refl (subst (λ (t : code.Task). IsFrameless t) (sym calls.1) (record { program = refl; emission = refl }))

@@ -8,6 +8,7 @@ ghost use Rattle.engine_world.specs.KnownHandlers.{TakesKnownHandlers};
 ghost use Rattle.engine_world.specs.Quiet.{IsQuiet};
 ghost use Rattle.engine_world.specs.Room.{SameRoom};
 ghost use Rattle.engine_world.specs.View.{world_of};
+ghost use Rattle.engine_world.specs.TaskFrames.{IsFrameless};
 ghost use Rattle.engine_world.specs.TaskView.{task_in, agenda_of};
 ghost use Rattle.engine_world.specs.EngineView.{config_of};
 ghost use Rattle.ui_machine.specs.Prefix.{IsPrefix};
@@ -57,6 +58,7 @@ impl Reply {
 pub fn begin_dispatch(engine: &mut Engine, definition: &Definition, task: Task)
     requires idle { agenda_of definition.now engine.now ≡ [] }
     requires plain { HoldsNothing task }
+    requires frameless { IsFrameless task }
     requires begun { TakesKnownHandlers engine.now.world.handlers.last task }
     requires room { 0 < vec_capacity engine.now.stack.tasks }
     ensures counted { KeepsCounts definition.now engine.old engine.new }
@@ -67,7 +69,6 @@ pub fn begin_dispatch(engine: &mut Engine, definition: &Definition, task: Task)
     let _ = definition;
     engine.world.result = None;
     engine.counted = 0;
-    engine.stack.clear();
     push_task(engine, task);
 }
 
@@ -84,6 +85,7 @@ pub fn dispatch<P: Peers>(
 ) -> Result<Reply, AllocError>
     requires rests { IsAtRest definition.now engine.now }
     requires plain { HoldsNothing task }
+    requires frameless { IsFrameless task }
     requires begun { TakesKnownHandlers engine.now.world.handlers.last task }
     requires knows { Knows (world_of engine.now.world) (P.seen pool.now) }
     requires safe { IsSafe definition.now (vec_capacity engine.now.stack.tasks) (beginning (world_at (P.seen pool.now) (world_of engine.now.world)) (task_in definition.now engine.now task)) }

@@ -20,6 +20,7 @@ ghost use Rattle.engine_world.specs.Able.{Able, Leads, LeadsToLiving};
 ghost use Rattle.engine_world.specs.Quiet.{IsQuiet};
 ghost use Rattle.engine_world.specs.Room.{HasRoom, SameRoom};
 ghost use Rattle.engine_world.specs.View.{world_of};
+ghost use Rattle.engine_world.specs.TaskFrames.{IsFrameless};
 ghost use Rattle.engine_world.specs.TaskView.{task_of, agenda_of, build_from, build_behind, connects_from};
 ghost use Rattle.engine_world.specs.Counting.{Connects, Counts, IsCounted, KeepsCounts, nothing};
 ghost use Rattle.engine_world.specs.EngineView.{config_of};
@@ -341,6 +342,7 @@ fn behind(definition: &Definition, place: Place, forwards: ForwardReferences) ->
     requires within { place.0 < object_count definition.now }
     ensures task { (hs : List Handler) → task_of definition.now hs result ≡ Building (build_behind definition.now place.0 forwards) }
     ensures begun { (last : ℕ) → TakesKnownHandlers last result }
+    ensures frameless { IsFrameless result }
 {
     let next = next_place(definition, place);
     let Some(entry) = entry_at(definition, place) else {

@@ -9,7 +9,7 @@ ghost use Rattle.ui_machine.specs.Rules.Accumulation.{ending, result_of, told};
 ghost use Rattle.ui_machine.specs.Rules.EmissionPlan.{beginning_emission};
 ghost use Rattle.ui_machine.specs.Rules.Programs.{beginning_program};
 ghost use Rattle.ui_machine.specs.State.Bindings.{binding_of};
-ghost use Rattle.ui_machine.specs.State.References.{in_task, in_value, same};
+ghost use Rattle.ui_machine.specs.State.References.{in_register, in_task, in_value, same};
 ghost use Rattle.ui_machine.specs.State.Tasks.{Beginning, Emitting};
 ghost use Rattle.ui_machine.specs.Steps.{act, counted, left, uncounted};
 ghost use Rattle.bindings.specs.Due.{entry_of, is_free};
@@ -20,14 +20,13 @@ ghost use Rattle.g_values.specs.View.{kind_view, value_view};
 ghost use Rattle.definition_format.specs.Meaning.{IsKnownKind};
 ghost use Rattle.engine_world.specs.Able.{Able, Leads, LeadsToLiving};
 ghost use Rattle.engine_world.specs.Quiet.{IsQuiet};
-ghost use Rattle.engine_world.specs.Room.{HasRoom, SameRoom, TakesRoom};
+ghost use Rattle.engine_world.specs.Room.{HasRoom, SameRoom};
 ghost use Rattle.engine_world.specs.View.{world_of, with_line};
-ghost use Rattle.engine_world.specs.KnownHandlers.{EndsWithoutTransfers};
 ghost use Rattle.engine_world.specs.TaskView.{new_of, emission_of, entries_to_come, agenda_of};
 ghost use Rattle.engine_world.specs.TransferView.{due_later};
-ghost use Rattle.engine_world.specs.Counting.{Counts, KeepsCounts, MayBeHeld, in_emitted, nothing};
+ghost use Rattle.engine_world.specs.Counting.{Counts, KeepsCounts, MayBeHeld, nothing};
 ghost use Rattle.engine_world.specs.EngineView.{config_of};
-ghost use Rattle.engine_world.specs.FirstEmissions.{IsEmission, emission_view, emitted_of, emitting, entries_left, first_emitted, first_emitting};
+ghost use Rattle.engine_world.specs.FirstEmissions.{IsEmission, emission_view, emitted_of, entries_left, first_emitted, first_emitting};
 ghost use Rattle.engine_world.specs.FirstPrograms.{rest_of};
 ghost use Rattle.engine_world.specs.Standing.{past_turns};
 ghost use Rattle.engine_tasks.specs.TurnView.{RunsProgram, given_around, given_by, program_of_turn};
@@ -39,12 +38,11 @@ use definitions::Definition;
 use engine_world::arguments::shared_text;
 use engine_world::counted_steps::count;
 use engine_world::emission_frames::EmissionFrame;
+use engine_world::emissions::{drop_emission, push_emission};
 use engine_world::engine::Engine;
 use engine_world::lines::Line;
 use engine_world::program_frames::pass_down;
-use engine_world::references::{
-    accumulated, hold_any, let_go_any, let_go_values, never_full, push_task,
-};
+use engine_world::references::{accumulated, let_go_any, never_full, push_task};
 use engine_world::task::{NewEmission, Task, Transfers};
 use g_values::{Kind, Value, zero_of};
 use signal_core::{Emission, Turn};
@@ -86,33 +84,12 @@ fn emission_line(
     told.text(alloc, types)
 }
 
-// Puts the rest of an emission before the other tasks. What the emission was given stays held, and its object is held from then on.
-fn push_rest(engine: &mut Engine, rest: EmissionFrame)
-    requires may { MayBeHeld engine.now rest.cursor.object }
-    requires begun { rest.cursor.greatest ≤ engine.now.world.handlers.last }
-    requires ends { EndsWithoutTransfers rest.cursor rest.transfers }
-    requires room { HasRoom 1 engine.now }
-    ensures agenda { (d : machine.Definition) → agenda_of d engine.new
-        ≡ emitting (emitted_of rest) engine.old.world.handlers.handlers ∷ agenda_of d engine.old }
-    ensures world { world_of engine.new.world ≡ world_of engine.old.world }
-    ensures same { engine.new.counted ≡ engine.old.counted }
-    ensures handlers { engine.new.world.handlers ≡ engine.old.world.handlers }
-    ensures counted { (d : machine.Definition) (taken : ℕ → ℕ)
-        → Counts d (λ o. taken o + in_emitted o (emission_of rest.cursor rest.args.items rest.by_event)) engine.old → Counts d taken engine.new }
-    ensures room { TakesRoom 1 engine.old engine.new }
-{
-    // For the proof: what lives may be held once more.
-    never_full(engine);
-    hold_any(&mut engine.world.table, Some(rest.cursor.object()));
-    engine.stack.push(Task::Emitting(rest));
-}
-
 /// Begins an emission that is counted already, with the transfers that it is to make, and says its line. What is connected later has no
 /// turn in it.
 pub(crate) fn start_emission(
     engine: &mut Engine,
     emission: Emission,
-    args: Vec<Value>,
+    mut args: Vec<Value>,
     by_event: bool,
     transfers: Transfers,
     line: String,
@@ -131,13 +108,8 @@ pub(crate) fn start_emission(
     ensures room { SameRoom engine.old engine.new }
 {
     let cursor = engine.world.handlers.begin_emission(emission);
-    let rest = EmissionFrame {
-        cursor,
-        args,
-        by_event,
-        transfers,
-    };
-    push_rest(engine, rest);
+    push_emission(engine, cursor, &mut args, by_event, transfers);
+    engine.spare_args.give_back(args);
     engine.world.say(line)?;
     Ok(())
 }
@@ -238,18 +210,18 @@ fn give_back_list(engine: &mut Engine, object: ObjectId, transfers: Transfers)
     engine.world.bindings.give_back(object, due);
 }
 
-// Ends an emission that was taken off. A program that waits for its result takes it, what the emission was given is let go, and its lists
-// are given back.
+// Ends an emission that was taken off and has no arguments any more. A program that waits for its result takes it, what the emission has
+// accumulated and its object are let go, and its lists are given back.
 #[tactic(auto, unfolding(ui_machine::specs::Rules::Accumulation::ending, ui_machine::specs::Rules::Accumulation::resulting, ui_machine::specs::Rules::EmissionPlan::signal_at, ui_machine::specs::Steps::left))]
 fn end_emission(
     engine: &mut Engine,
     definition: &Definition,
     rest: EmissionFrame,
 ) -> Result<(), AllocError>
-    requires able { Able (left engine.now.counted (ending definition.now (world_of engine.now.world) (emission_of rest.cursor rest.args.items rest.by_event) (agenda_of definition.now engine.now))) }
-    requires counted { Counts definition.now (λ o. same o rest.cursor.object + in_emitted o (emission_of rest.cursor rest.args.items rest.by_event)) engine.now }
+    requires able { Able (left engine.now.counted (ending definition.now (world_of engine.now.world) (emission_view (emitted_of rest)) (agenda_of definition.now engine.now))) }
+    requires counted { Counts definition.now (λ o. same o rest.cursor.object + in_register o rest.cursor.value) engine.now }
     ensures step { Leads result
-        (left engine.old.counted (ending definition.now (world_of engine.old.world) (emission_of rest.cursor rest.args.items rest.by_event) (agenda_of definition.now engine.old)))
+        (left engine.old.counted (ending definition.now (world_of engine.old.world) (emission_view (emitted_of rest)) (agenda_of definition.now engine.old)))
         (config_of definition.now engine.new) }
     ensures quiet { OnErr result (IsQuiet (world_of engine.old.world) (world_of engine.new.world)) }
     ensures counted { OnOk result (Counts definition.now nothing engine.new) }
@@ -274,7 +246,6 @@ fn end_emission(
     let value = result_of(definition, signal.result, cursor.value());
     pass_down(engine, definition, &value)?;
     say_result_if(engine, definition, by_event, value)?;
-    let_go_values(&mut engine.world.table, args.as_slice());
     let_go_any(&mut engine.world.table, held);
     let_go_any(&mut engine.world.table, Some(object));
     engine.spare_args.give_back(args);
@@ -294,12 +265,7 @@ fn end_first(engine: &mut Engine, definition: &Definition) -> Result<(), AllocEr
     ensures counted { OnOk result (Counts definition.now nothing engine.new) }
     ensures room { SameRoom engine.old engine.new }
 {
-    let Some(task) = engine.stack.pop() else {
-        unreachable!()
-    };
-    let Task::Emitting(rest) = task else {
-        unreachable!()
-    };
+    let rest = drop_emission(engine);
     end_emission(engine, definition, rest)
 }
 

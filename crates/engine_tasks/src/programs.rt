@@ -1,6 +1,6 @@
 //! The beginning of a program (GObject manual, Closures: `g_closure_invoke`).
 
-ghost use Rattle.std.specs.Prelude.{◌≡◌, OnOk, OnErr};
+ghost use Rattle.std.specs.Prelude.{◌≡◌, ◌≤◌, vec_capacity, IfOk, OnOk, OnErr};
 ghost use Rattle.ui_machine.specs.Rules.Programs.{beginning_program};
 ghost use Rattle.ui_machine.specs.Steps.{uncounted};
 ghost use Rattle.law_typing.specs.Good.Living.{NamesLiving};
@@ -15,15 +15,29 @@ ghost use Rattle.engine_world.specs.TaskView.{agenda_of};
 ghost use Rattle.engine_world.specs.Counting.{IsCounted, KeepsCounts};
 ghost use Rattle.engine_world.specs.EngineView.{config_of};
 
+use bytecode::Program;
 use definitions::Definition;
 use engine_world::engine::Engine;
 use engine_world::lines::Line;
-use engine_world::references::push_task;
-use engine_world::task::Task;
-use frames::Frame;
+use engine_world::program_frames::push_program;
 use g_values::Value;
 use std::alloc::AllocError;
 use ui_machine::ProgramId;
+
+// Returns the list of a program's first registers with room for all registers of the program. It has that room already, unless it was not
+// made for this definition.
+fn with_room(
+    mut registers: Vec<Option<Value>>,
+    program: &Program,
+) -> Result<Vec<Option<Value>>, AllocError>
+    ensures same { IfOk result (λ list. list.items ≡ registers.items) }
+    ensures room { IfOk result (λ list. program.now.registers ≤ vec_capacity list) }
+{
+    if registers.capacity() < program.registers {
+        registers.reserve(program.registers)?;
+    }
+    Ok(registers)
+}
 
 /// Begins the program with this number before the other tasks, and says its line. Its first registers have the values of its parameters
 /// already. What its registers name is held from then on.
@@ -53,8 +67,9 @@ pub(crate) fn begin_program(
         program: program.name.as_str(),
     };
     let line = run.text(engine.alloc, definition.types())?;
-    let frame = Frame::new(number, program, registers)?;
-    push_task(engine, Task::Running(frame));
+    let mut registers = with_room(registers, program)?;
+    push_program(engine, number, program, &mut registers);
+    engine.spare_registers.give_back(registers);
     engine.world.say(line)?;
     Ok(())
 }

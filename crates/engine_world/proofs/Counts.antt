@@ -416,6 +416,23 @@ pushed_rest d e t s taken m entries only counts first begun h = record {
       omega (arith, objects, floats, counts o, ap (λ (ts : List Task). total (in_task o) ts) first, h.exact o);
 }
 
+-- the first task was taken off, and lets go what it held beside what is held for it from then on
+pub dropped : (d : Definition) (e : Engine) (t : Store) (s : Stack) (taken left gone : ℕ → ℕ) (rest : List Task) → OnlyCounts e.world.table t
+    → ((o : ℕ) → count_of t.counts o + gone o ≡ count_of e.world.table.counts o)
+    → ((o : ℕ) → total (in_task o) (agenda_of d e) + taken o ≡ total (in_task o) rest + (left o + gone o))
+    → tasks_of d e.world.handlers.handlers s ≡ rest → ((last : ℕ) → AllTakeKnownHandlers last e.stack → AllTakeKnownHandlers last s)
+    → Counts d taken e → Counts d left (record e { world = record e.world { table = t }; stack = s })
+dropped d e t s taken left gone rest only counts parts behind begun h = record {
+  knows = h.knows;
+  links = h.links;
+  passes = h.passes;
+  connects = record { most = h.connects.most; to_come = h.connects.to_come; begun = begun e.world.handlers.last h.connects.begun };
+  exact = λ o.
+      let objects : total (in_object d o) t.objects ≡ total (in_object d o) e.world.table.objects = ap (total (in_object d o)) only.objects in
+      let floats : total (same o) t.floating ≡ total (same o) e.world.table.floating = ap (total (same o)) only.floating in
+      omega (arith, objects, floats, counts o, parts o, ap (λ (ts : List Task). total (in_task o) ts) behind, h.exact o);
+}
+
 -- what was held beside is let go
 pub less_held : (d : Definition) (e : Engine) (t : Store) (more left gone : ℕ → ℕ) → OnlyCounts e.world.table t
     → ((o : ℕ) → count_of t.counts o + gone o ≡ count_of e.world.table.counts o) → ((o : ℕ) → more o ≡ left o + gone o)

@@ -1,6 +1,5 @@
 -- An emission that is the first task goes on in its place.
 use Rattle.std.proofs.Common.{◌≡◌, ℕ, suc, ◌-◌, IsSome, is_some, vec_len, List, [], ◌∷◌, ◌++◌, length, map, drop, reverse, slice_get, slice_set, Option, None, Some, option_and_then, refl, ap, sym, subst, ◌∙◌, arith}
-use Rattle.std.specs.Option.{option_to_list}
 use Rattle.std.specs.Prelude.{All}
 use Rattle.std.proofs.lemmas.List.{reverse-append}
 use Rattle.std.proofs.lemmas.List.Elements.{All-head, All-tail}
@@ -16,7 +15,7 @@ use Rattle.engine_world.specs.declared.engine.Engine.{Engine}
 use Rattle.engine_world.specs.declared.stacks.Stack.{Stack}
 use Rattle.engine_world.specs.declared.task.Task.{Task}
 use Rattle.engine_world.specs.declared.task.Task.TheVariants as tasks
-use Rattle.engine_world.proofs.FirstPrograms.{Ending, IsKeptSo, begun_written, found, found_written, kept_last, last_found, last_gives, last_has, starts_by, tasks_written}
+use Rattle.engine_world.proofs.FirstPrograms.{Ending, IsKeptSo, begun_written, found, found_written, kept_last, last_gives, last_has, starts_by, tasks_written}
 
 -- ** the first emission
 
@@ -104,14 +103,6 @@ starts_else d hs x (y ∷ ys) is =
       first = reverse-append (task_of d hs x ∷ []) (map (task_of d hs) (y ∷ ys)) ∙ ap (λ (l : List config.Task). l ++ task_of d hs x ∷ []) rest.first;
       other = rest.other;
     }
-
--- what is taken off is an emission where the first task is one
-pub popped_emission : (items rest : List Task) (o : Option Task) → items ≡ rest ++ option_to_list o → (o ≡ None → length items ≡ 0)
-    → option_and_then emission_in o ≡ first_emission items
-popped_emission [] rest None is empty = refl
-popped_emission (x ∷ xs) rest None is empty = absurd (omega (arith, empty refl))
-popped_emission items rest (Some x) is empty =
-    sym (ap (λ (l : List Task). first_emission l) is ∙ ap (λ (o : Option Task). option_and_then emission_in o) (last_found rest x))
 
 -- ** an emission that goes on in its place
 

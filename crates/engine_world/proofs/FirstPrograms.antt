@@ -1,7 +1,6 @@
 -- A program that is the first task is written in its place.
 use Rattle.std.proofs.Common.{◌≡◌, ℕ, zero, suc, cond, ◌+◌, ◌-◌, ◌<◌, ◌≤◌, Bool, true, false, IsSome, is_some, vec_len, ◌||◌, List, [], ◌∷◌, ◌++◌, length, map, drop, reverse, get_or, slice_get, slice_set, Option, None, Some, option_and_then, option_map, refl, ap, sym, subst, ◌∙◌, arith}
 use Rattle.std.specs.List.{list_any}
-use Rattle.std.specs.Option.{option_to_list}
 use Rattle.std.specs.Prelude.{All}
 use Rattle.std.proofs.Math.Seq.{set-append_seam}
 use Rattle.std.proofs.lemmas.List.{length-set, map-append, reverse-append}
@@ -240,14 +239,6 @@ starts_else d hs x (y ∷ ys) is =
     }
 
 -- ** a program that is rewritten in its place
-
--- what is taken off is a program where the first task is one
-pub popped_program : (items rest : List Task) (o : Option Task) → items ≡ rest ++ option_to_list o → (o ≡ None → length items ≡ 0)
-    → option_and_then program_in o ≡ first_program items
-popped_program [] rest None is empty = refl
-popped_program (x ∷ xs) rest None is empty = absurd (omega (arith, empty refl))
-popped_program items rest (Some x) is empty =
-    sym (ap (λ (l : List Task). first_program l) is ∙ ap (λ (o : Option Task). option_and_then program_in o) (last_found rest x))
 
 pub frame_last : (s : Stack) (was : Frame) → Ending (vec_len s.tasks) s.tasks.items (tasks.Running was) → stack_frame s ≡ frame_view was
 frame_last s was e = frame_found s was (last_gives program_in e.front s.tasks.items (tasks.Running was) e.whole)

@@ -42,3 +42,7 @@ pub mod Ableness
 pub mod FirstPrograms
 pub mod FirstEmissions
 pub mod FirstConstructions
+pub mod Vectors
+pub mod StopsBelow
+pub mod Begun
+pub mod OtherFirst

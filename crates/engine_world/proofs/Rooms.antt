@@ -1,5 +1,5 @@
 -- Room for what is held: no count comes to its end.
-use Rattle.std.proofs.Common.{◌≡◌, ℕ, ◌+◌, ◌-◌, ◌*◌, ◌<◌, ◌≤◌, ◌^◌, ◌&&◌, Bool, List, [], ◌∷◌, ◌++◌, true, false, is_some, length, map, nat_lt, reverse, Option, Some, None, IsSome, refl, sym, ap, ◌∙◌, vec_len, arith}
+use Rattle.std.proofs.Common.{◌≡◌, ℕ, ◌+◌, ◌-◌, ◌*◌, ◌<◌, ◌≤◌, ◌^◌, ◌&&◌, Bool, List, [], ◌∷◌, ◌++◌, true, false, is_some, length, map, nat_lt, reverse, Option, Some, None, IsSome, refl, sym, ap, ◌∙◌, Vec, vec_len, arith}
 use Rattle.std.proofs.lemmas.Bool.Decides.{nat_tests}
 use Rattle.std.proofs.lemmas.List.{length-map, length-reverse, reverse-append}
 use Rattle.std.specs.Option.{option_map}
@@ -10,6 +10,8 @@ use Rattle.ui_machine.specs.State.Config as config
 use Rattle.ui_machine.specs.State.Handlers.{Handler}
 use Rattle.ui_machine.specs.State.Objects.{living}
 use Rattle.ui_machine.specs.State.References.{in_held, in_object, in_option, in_register, in_source, in_task, in_value, same}
+use Rattle.std.specs.Global.{Global}
+use Rattle.g_values.specs.declared.value.Value.{Value}
 use Rattle.g_values.specs.View.{value_view}
 use Rattle.bytecode.specs.Computing.{registers_of}
 use Rattle.instance_tables.proofs.Few.{same_most, value_most}
@@ -118,6 +120,11 @@ task_most d hs o (tasks.Calling call) =
     )
 task_most d hs o (tasks.Due source) = omega arith
 task_most d hs o (tasks.Handling event) = omega arith
+
+-- the same of registers that a program is given
+pub registers_most : (o : ℕ) (rs : Vec (Option Value) Global) → total (in_register o) (registers_of rs.items) ≤ 2 ^ 64
+registers_most o rs =
+    omega (arith, total_ones (in_register o) (register_most o) (registers_of rs.items), length-map rs.items (option_map value_view), rs.ok.0, rs.ok.1, rs.small)
 
 -- so a task that was taken off adds little to what is counted
 pub task_counted : (d : machine.Definition) (e : Engine) (t : Task) → Counts d (λ o. in_task o (task_in d e t)) e → IsCounted d e

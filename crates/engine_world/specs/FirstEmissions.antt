@@ -1,10 +1,10 @@
 -- The emission that is the first task.
-use Rattle.std.specs.Prelude.{◌≡◌, ℕ, ◌-◌, ◌≤◌, Bool, false, List, [], ◌∷◌, drop, length, IsSome, Option, None, Some, option_and_then, slice_get}
+use Rattle.std.specs.Prelude.{◌≡◌, ℕ, ◌-◌, ◌≤◌, Bool, false, List, [], ◌∷◌, ◌++◌, drop, length, IsSome, Option, None, Some, option_and_then, slice_get}
 use Rattle.ui_machine.specs.Definition as machine
 use Rattle.ui_machine.specs.State.Handlers.{Handler}
 use Rattle.ui_machine.specs.State.Tasks as config
 use Rattle.g_values.specs.declared.value.Value.{Value}
-use Rattle.signal_core.specs.Emission.{Walk}
+use Rattle.signal_core.specs.Emission.{Walk, stopped}
 use Rattle.signal_core.specs.declared.stage.Stage.TheVariants as stages
 use Rattle.engine_world.specs.KnownHandlers.{AllTakeKnownHandlers, EndsWithoutTransfers}
 use Rattle.engine_world.specs.TaskView.{emission_of, entries_to_come, tasks_of}
@@ -13,6 +13,7 @@ use Rattle.engine_world.specs.declared.engine.Engine.{Engine}
 use Rattle.engine_world.specs.declared.stacks.Stack.{Stack}
 use Rattle.engine_world.specs.declared.task.Task.{Task}
 use Rattle.engine_world.specs.declared.task.Task.TheVariants as tasks
+pub use Rattle.engine_world.specs.TaskFrames.{emission_in}
 use Rattle.engine_world.specs.declared.task.Transfers.{Transfers}
 use Rattle.engine_world.specs.declared.task.Transfers.TheVariants as at
 
@@ -38,11 +39,6 @@ entries_left e hs = entries_to_come e.walk hs e.transfers
 -- the machine's task
 abbrev pub emitting : Emitted → List Handler → config.Task
 emitting e hs = config.Emitting (emission_view e) (entries_left e hs)
-
--- the emission of a task that is one
-abbrev pub emission_in : Task → Option EmissionFrame
-emission_in (tasks.Emitting frame) = Some frame
-emission_in _ = None
 
 -- the emission that is the first of some tasks, the first of which is the last of the list
 abbrev pub first_emission : List Task → Option EmissionFrame
@@ -75,6 +71,26 @@ pub record IsReemitted (old new : Stack) : Type 0 where
   pub first : IsSome (first_emission new.tasks.items)
   pub tasks : (d : machine.Definition) (hs : List Handler) → tasks_of d hs new ≡ emitting (stack_emission new) hs ∷ drop 1 (tasks_of d hs old)
   pub begun : (last : ℕ) → EmitsKnown last (stack_emission new) → AllTakeKnownHandlers last old → AllTakeKnownHandlers last new
+
+-- ** an emission that is stopped below the first task
+
+-- an emission of which only the cleanup stage is left, or any other task as it is
+abbrev pub stop_in : Task → Task
+stop_in (tasks.Emitting f) = tasks.Emitting (record f { cursor = stopped f.cursor; transfers = at.Due [] })
+stop_in task = task
+
+-- a list with its last changed
+abbrev pub with_last : {A : Type 0} → (A → A) → List A → List A
+with_last f [] = []
+with_last f (x ∷ []) = f x ∷ []
+with_last f (x ∷ y ∷ ys) = x ∷ with_last f (y ∷ ys)
+
+-- the task below the first one is stopped, if it is an emission
+pub record StopsBelow (old new : Stack) : Type 0 where
+  pub below : List Task
+  pub first : Task
+  pub was : old.tasks.items ≡ below ++ first ∷ []
+  pub now : new.tasks.items ≡ with_last stop_in below ++ first ∷ []
 
 -- ** of an engine
 

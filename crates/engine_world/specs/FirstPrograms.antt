@@ -9,12 +9,7 @@ use Rattle.engine_world.specs.TaskView.{agenda_of, tasks_of}
 use Rattle.engine_world.specs.declared.engine.Engine.{Engine}
 use Rattle.engine_world.specs.declared.stacks.Stack.{Stack}
 use Rattle.engine_world.specs.declared.task.Task.{Task}
-use Rattle.engine_world.specs.declared.task.Task.TheVariants as tasks
-
--- the program of a task that is one
-abbrev pub program_in : Task → Option Frame
-program_in (tasks.Running frame) = Some frame
-program_in _ = None
+pub use Rattle.engine_world.specs.TaskFrames.{program_in}
 
 -- the program that is the first of some tasks, the first of which is the last of the list
 abbrev pub first_program : List Task → Option Frame

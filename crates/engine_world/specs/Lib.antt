@@ -11,6 +11,7 @@ pub mod View
 pub mod MakingView
 pub mod LineView
 pub mod TransferView
+pub mod TaskFrames
 pub mod TaskView
 pub mod KnownHandlers
 pub mod ConnectView

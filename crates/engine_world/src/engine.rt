@@ -29,11 +29,11 @@ pub struct Engine {
     pub stack: Stack,
     /// The meanings of the names in programs.
     pub links: Links,
-    /// Vectors for the registers of programs that begin later.
+    /// The list in which the first registers of a program are gathered.
     pub spare_registers: Spare<Option<Value>>,
-    /// Vectors for the arguments of emissions that begin later.
+    /// The lists in which the arguments of an emission are gathered.
     pub spare_args: Spare<Value>,
-    /// Vectors for the steps of constructions that begin later.
+    /// Lists for the steps of constructions that begin later.
     pub spare_steps: Spare<ConstructStep>,
     /// How many counted steps the dispatch has had.
     pub counted: u64,
@@ -81,10 +81,11 @@ impl Engine {
         ensures idle { IfOk result (λ e. (d : machine.Definition) → agenda_of d e ≡ []) }
         ensures room { IfOk result (λ e. vec_capacity e.stack.tasks ≡ room.tasks) }
     {
-        let stack = Stack::new(alloc, room.tasks)?;
-        let spare_registers = Spare::new(alloc, room.frames, room.width)?;
-        let mut spare_args = Spare::new(alloc, room.frames, room.width)?;
-        spare_args.add_wide(alloc, room.wide_emissions.as_slice())?;
+        let args = room.args.min(room.registers);
+        let stack = Stack::new(alloc, room.tasks, room.registers, args)?;
+        let spare_registers = Spare::new(alloc, 1, room.registers)?;
+        let mut spare_args = Spare::new(alloc, 1, args)?;
+        spare_args.add_wide(alloc, room.args)?;
         let spare_steps = Spare::new(alloc, room.constructions, room.steps)?;
         Ok(Engine {
             world: World {

@@ -1,22 +1,103 @@
 //! The emission that is the first task, which goes on in its place.
 
-ghost use Rattle.std.specs.Prelude.{◌≡◌, [], ◌∷◌, cond, option_map, vec_capacity, vec_len, IsSome, MatchOption};
+ghost use Rattle.std.specs.Prelude.{◌≡◌, ℕ, ◌+◌, ◌<◌, List, [], ◌∷◌, cond, drop, option_map, vec_capacity, vec_len, IsSome, MatchOption};
+ghost use Rattle.ui_machine.specs.Definition as machine;
+ghost use Rattle.ui_machine.specs.State.Handlers.{Handler};
 ghost use Rattle.bindings.specs.Due.{from_ready};
 ghost use Rattle.g_values.specs.View.{value_view};
 ghost use Rattle.signal_core.specs.Emission.{collected, next_step, stage_after, stopped};
-ghost use Rattle.engine_world.specs.FirstEmissions.{IsReemitted, first_emission, stack_emission};
+ghost use Rattle.engine_world.specs.FirstEmissions.{EmitsKnown, IsReemitted, StopsBelow, emitted_of, emitting, first_emission, stack_emission, stop_in, with_last};
+ghost use Rattle.engine_world.specs.FirstPrograms.{first_program};
+ghost use Rattle.engine_world.specs.KnownHandlers.{AllTakeKnownHandlers};
+ghost use Rattle.engine_world.specs.TaskView.{tasks_of};
 ghost use Rattle.engine_world.specs.TransferView.{due_later, due_now};
 ghost use Rattle.engine_world.specs.declared.task.Transfers.TheVariants as at;
 
 use crate::emission_frames::EmissionFrame;
 use crate::stacks::Stack;
-use crate::task::Task;
+use crate::task::{Task, Transfers};
 use bindings::{Bindings, DueTransfer};
 use g_values::Value;
-use signal_core::{Handlers, Turn};
+use signal_core::{Cursor, Handlers, Turn};
 use std::alloc::Global;
+use std::mem;
+
+// Stops the last of some tasks, if it is an emission.
+fn stop_last(tasks: &mut Vec<Task>, alloc: Global)
+    ensures stopped { tasks.new.items ≡ with_last stop_in tasks.old.items }
+    ensures room { (vec_len tasks.new ≡ vec_len tasks.old) × (vec_capacity tasks.new ≡ vec_capacity tasks.old) }
+{
+    let Some(task) = tasks.last_mut() else {
+        return;
+    };
+    if let Task::Emitting(emission) = task {
+        emission.stop(alloc);
+    }
+}
 
 impl Stack {
+    /// Puts an emission before the other tasks, which is given these values. Their list is empty afterwards.
+    pub fn push_emission(
+        &mut self,
+        alloc: Global,
+        cursor: Cursor,
+        values: &mut Vec<Value>,
+        by_event: bool,
+        transfers: Transfers,
+    )
+        requires room { vec_len self.now.tasks < vec_capacity self.now.tasks }
+        ensures tasks { (d : machine.Definition) (hs : List Handler)
+            → tasks_of d hs self.new ≡ emitting (record { walk = cursor; args = values.old.items; by_event = by_event; transfers = transfers }) hs ∷ tasks_of d hs self.old }
+        ensures emptied { values.new.items ≡ [] }
+        ensures begun { (last : ℕ) → EmitsKnown last (record { walk = cursor; args = values.old.items; by_event = by_event; transfers = transfers })
+            → AllTakeKnownHandlers last self.old → AllTakeKnownHandlers last self.new }
+        ensures taken { vec_len self.new.tasks ≡ vec_len self.old.tasks + 1 }
+        ensures room { vec_capacity self.new.tasks ≡ vec_capacity self.old.tasks }
+    {
+        let args = self.args.keep(alloc, values);
+        self.tasks.push_reserved(Task::Emitting(EmissionFrame {
+            cursor,
+            args,
+            by_event,
+            transfers,
+        }));
+    }
+
+    /// Takes the emission off that is the first task, and drops its arguments. The list in which they were is left to it if it has another
+    /// room than usual.
+    pub fn drop_emission(&mut self, alloc: Global) -> EmissionFrame
+        requires there { IsSome (first_emission self.now.tasks.items) }
+        ensures ended { emitted_of result ≡ record (stack_emission self.old) { args = [] } }
+        ensures tasks { (d : machine.Definition) (hs : List Handler) → tasks_of d hs self.new ≡ drop 1 (tasks_of d hs self.old) }
+        ensures begun { (last : ℕ) → AllTakeKnownHandlers last self.old → AllTakeKnownHandlers last self.new }
+        ensures given { vec_len self.old.tasks ≡ vec_len self.new.tasks + 1 }
+        ensures room { vec_capacity self.new.tasks ≡ vec_capacity self.old.tasks }
+    {
+        let Some(task) = self.tasks.pop() else {
+            unreachable!()
+        };
+        let Task::Emitting(mut emission) = task else {
+            unreachable!()
+        };
+        self.lowest = self.lowest.min(self.tasks.len());
+        let args = mem::replace(&mut emission.args, Vec::new(alloc));
+        emission.args = self.args.give_back(alloc, args);
+        emission
+    }
+
+    /// Stops the emission below the first task, which is a program, if an emission lies there.
+    pub fn stop_below(&mut self, alloc: Global)
+        requires there { IsSome (first_program self.now.tasks.items) }
+        ensures stops { StopsBelow self.old self.new }
+        ensures room { (vec_len self.new.tasks ≡ vec_len self.old.tasks) × (vec_capacity self.new.tasks ≡ vec_capacity self.old.tasks) }
+    {
+        let Some(first) = self.tasks.pop() else {
+            unreachable!()
+        };
+        stop_last(&mut self.tasks, alloc);
+        self.tasks.push_reserved(first);
+    }
+
     /// Returns the first task, if it is an emission.
     pub fn first_emission(&self) -> Option<&EmissionFrame>
         ensures { option_map (λ f. f.now) result ≡ first_emission self.now.tasks.items }
@@ -84,22 +165,6 @@ impl Stack {
             unreachable!()
         };
         emission.begin_transfers(alloc);
-    }
-
-    /// Stops the emission, of which only the cleanup stage is left then. That makes no transfers.
-    pub fn stop_emission(&mut self, alloc: Global)
-        requires there { IsSome (first_emission self.now.tasks.items) }
-        ensures emission { stack_emission self.new ≡ record (stack_emission self.old) { walk = stopped (stack_emission self.old).walk; transfers = at.Due [] } }
-        ensures emits { IsReemitted self.old self.new }
-        ensures room { (vec_len self.new.tasks ≡ vec_len self.old.tasks) × (vec_capacity self.new.tasks ≡ vec_capacity self.old.tasks) }
-    {
-        let Some(task) = self.tasks.last_mut() else {
-            unreachable!()
-        };
-        let Task::Emitting(emission) = task else {
-            unreachable!()
-        };
-        emission.stop(alloc);
     }
 
     /// Has the emission collect a program's value. If it is the last one, the emission is stopped, and makes no transfers.

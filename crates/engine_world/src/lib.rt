@@ -12,6 +12,7 @@ pub mod construct_steps;
 pub mod construction_frames;
 pub mod counted_steps;
 pub mod emission_frames;
+pub mod emissions;
 pub mod engine;
 pub mod first_constructions;
 pub mod first_emissions;

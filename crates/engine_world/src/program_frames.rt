@@ -1,7 +1,9 @@
 //! The program that is the first task: what its registers hold, and the result that it waits for. It stays in its place.
 
-ghost use Rattle.std.specs.Prelude.{◌≡◌, ℕ, ◌+◌, [], ◌∷◌, None, Some, Ok, option_map, vec_len, OnOk};
-ghost use Rattle.ui_machine.specs.Seq.{write};
+ghost use Rattle.std.specs.Prelude.{◌≡◌, ℕ, ◌+◌, ◌<◌, ◌≤◌, [], ◌∷◌, None, Some, Ok, option_map, vec_capacity, OnOk};
+ghost use Rattle.ui_machine.specs.Seq.{total, write};
+ghost use Rattle.ui_machine.specs.Rules.Programs.{first_frame as beginning_frame};
+ghost use Rattle.instance_tables.specs.Store.{count_of};
 ghost use Rattle.ui_machine.specs.Definition as machine;
 ghost use Rattle.ui_machine.specs.Instructions.Registers.{with_register};
 ghost use Rattle.engine_world.specs.Able.{Able, Leads};
@@ -10,21 +12,24 @@ ghost use Rattle.ui_machine.specs.State.References.{in_register, in_value};
 ghost use Rattle.ui_machine.specs.State.Tasks.{Running};
 ghost use Rattle.g_values.specs.View.{value_view};
 ghost use Rattle.bytecode.specs.Computing.{registers_of};
-ghost use Rattle.frames.specs.FrameView.{frame_view};
+ghost use Rattle.bytecode.specs.View.{program_view};
+ghost use Rattle.frames.specs.FrameView.{AreSet, frame_view, set_values};
 ghost use Rattle.engine_world.specs.FirstPrograms.{IsProgram, first_frame, rest_of};
-ghost use Rattle.engine_world.specs.KnownHandlers.{AllTakeKnownHandlers};
 ghost use Rattle.engine_world.specs.Room.{HasRoom, SameRoom, TakesRoom};
 ghost use Rattle.engine_world.specs.TaskView.{agenda_of};
-ghost use Rattle.engine_world.specs.Counting.{Counts, HoldsTasks, KeepsCounts, MayHold, OnlyTasks, in_frame};
+ghost use Rattle.engine_world.specs.View.{world_of};
+ghost use Rattle.engine_world.specs.Counting.{HoldsTasks, KeepsCounts, MayBeHeld, MayHold, OnlyTasks, in_frame};
 
 use crate::engine::Engine;
-use crate::references::{hold_any, let_go_any, register_named};
-use crate::task::Task;
-use bytecode::Register;
+use crate::references::{
+    hold_any, hold_registers, let_go_any, let_go_registers, never_full, register_named,
+};
+use bytecode::{Program, Register};
 use definitions::Definition;
 use frames::Frame;
 use g_values::Value;
 use std::alloc::AllocError;
+use ui_machine::ProgramId;
 
 /// Returns the program that is the first task.
 #[inline(always)]
@@ -68,39 +73,50 @@ pub fn put(engine: &mut Engine, definition: &Definition, to: Register, value: Op
     let_go_any(&mut engine.world.table, register_named(&held));
 }
 
-/// Takes the program that is the first task off, and returns it. What its registers name stays held.
-pub fn pop_frame(engine: &mut Engine) -> Frame
-    requires first { IsProgram engine.now }
-    ensures frame { frame_view result ≡ first_frame engine.old }
-    ensures agenda { (d : machine.Definition) → agenda_of d engine.new ≡ rest_of d engine.old }
-    ensures beside { engine.new ≡ record engine.old { stack = engine.new.stack } }
-    ensures begun { (last : ℕ) → AllTakeKnownHandlers last engine.old.stack → AllTakeKnownHandlers last engine.new.stack }
-    ensures counted { (d : machine.Definition) (taken : ℕ → ℕ)
-        → Counts d taken engine.old → Counts d (λ o. taken o + in_frame o (frame_view result)) engine.new }
-    ensures free { HasRoom 1 engine.new }
-    ensures room { SameRoom engine.old engine.new }
-    ensures left { vec_len engine.old.stack.tasks ≡ vec_len engine.new.stack.tasks + 1 }
-{
-    let Some(task) = engine.stack.pop() else {
-        unreachable!()
-    };
-    let Task::Running(frame) = task else {
-        unreachable!()
-    };
-    frame
-}
-
-/// Puts the rest of a program before the other tasks, in the room that is there. The objects that its registers name stay held.
-#[inline(always)]
-pub fn push_frame(engine: &mut Engine, frame: Frame)
+/// Begins a program before the other tasks, with these values in its first registers. All of them are set, and what they name has to live.
+/// From then on the program holds it. The list of the values has room for all registers of the program, and is empty afterwards.
+pub fn push_program(
+    engine: &mut Engine,
+    number: ProgramId,
+    program: &Program,
+    values: &mut Vec<Option<Value>>,
+)
+    requires list { program.now.registers ≤ vec_capacity values.now }
+    requires set { AreSet (registers_of values.now.items) }
+    requires may { (o : ℕ) → 0 < total (in_register o) (registers_of values.now.items) → MayBeHeld engine.now o }
     requires room { HasRoom 1 engine.now }
-    ensures agenda { (d : machine.Definition) → agenda_of d engine.new ≡ Running (frame_view frame) ∷ agenda_of d engine.old }
-    ensures beside { engine.new ≡ record engine.old { stack = engine.new.stack } }
-    ensures counted { (d : machine.Definition) (taken : ℕ → ℕ)
-        → Counts d (λ o. taken o + in_frame o (frame_view frame)) engine.old → Counts d taken engine.new }
+    ensures agenda { (d : machine.Definition) → agenda_of d engine.new
+        ≡ Running (beginning_frame number (program_view program.now) (set_values (registers_of values.old.items))) ∷ agenda_of d engine.old }
+    ensures emptied { values.new.items ≡ [] }
+    ensures world { world_of engine.new.world ≡ world_of engine.old.world }
+    ensures same { engine.new.counted ≡ engine.old.counted }
+    ensures handlers { engine.new.world.handlers ≡ engine.old.world.handlers }
+    ensures counted { (d : machine.Definition) → KeepsCounts d engine.old engine.new }
     ensures room { TakesRoom 1 engine.old engine.new }
 {
-    engine.stack.push(Task::Running(frame));
+    // For the proof: what lives may be held so often.
+    never_full(engine);
+    hold_registers(&mut engine.world.table, values.as_slice());
+    engine
+        .stack
+        .push_program(engine.alloc, number, program, values);
+}
+
+/// Takes the program off that is the first task. What its registers name is let go.
+pub fn drop_program(engine: &mut Engine)
+    requires first { IsProgram engine.now }
+    requires held { (o : ℕ) → in_frame o (first_frame engine.now) ≤ count_of engine.now.world.table.counts o }
+    ensures agenda { (d : machine.Definition) → agenda_of d engine.new ≡ rest_of d engine.old }
+    ensures only { OnlyTasks engine.old engine.new }
+    ensures counts { (o : ℕ) → count_of engine.new.world.table.counts o + in_frame o (first_frame engine.old) ≡ count_of engine.old.world.table.counts o }
+    ensures counted { (d : machine.Definition) → KeepsCounts d engine.old engine.new }
+    ensures room { SameRoom engine.old engine.new }
+{
+    let Some(frame) = engine.stack.first_program() else {
+        unreachable!()
+    };
+    let_go_registers(&mut engine.world.table, frame.registers.as_slice());
+    engine.stack.drop_program(engine.alloc);
 }
 
 // Writes a result to the register of the first task, a program, that waited for it.

@@ -16,6 +16,7 @@ ghost use Rattle.instance_tables.specs.Store.{id_of, count_of, may_hold, named_b
 ghost use Rattle.engine_world.specs.KnownHandlers.{TakesKnownHandlers};
 ghost use Rattle.engine_world.specs.Room.{HasRoom, TakesRoom};
 ghost use Rattle.engine_world.specs.View.{world_of};
+ghost use Rattle.engine_world.specs.TaskFrames.{IsFrameless};
 ghost use Rattle.engine_world.specs.TaskView.{task_of, task_in, agenda_of};
 ghost use Rattle.engine_world.specs.Counting.{Connects, IsCounted, MayHold, MayPush, OnlyCounts, KeepsCounts, in_given, in_subject};
 
@@ -131,8 +132,8 @@ pub(crate) fn register_named(register: &Option<Value>) -> Option<ObjectId>
     }
 }
 
-// Holds once more each object that one of these registers names.
-fn hold_registers(table: &mut Table, registers: &[Option<Value>])
+/// Holds once more each object that one of these registers names.
+pub(crate) fn hold_registers(table: &mut Table, registers: &[Option<Value>])
     requires may { MayHold table.now (λ o. total (in_register o) (registers_of registers.now)) }
     ensures only { OnlyCounts table.old table.new }
     ensures counts { (o : ℕ) → count_of table.new.counts o ≡ count_of table.old.counts o + total (in_register o) (registers_of registers.now) }
@@ -153,23 +154,21 @@ pub fn let_go_registers(table: &mut Table, registers: &[Option<Value>])
     }
 }
 
-// Holds what a task names beside its own object: the arguments and the accumulated value of an emission, the arguments of a call, and the
-// registers of a program.
+// Holds what a task names beside its own object: the arguments of an emission that is to begin, or of a call. The task is no frame with values.
 fn hold_given(table: &mut Table, task: &Task)
+    requires frameless { IsFrameless task.now }
     requires may { (d : machine.Definition) (hs : List Handler) → MayHold table.now (λ o. in_given o (task_of d hs task.now)) }
     ensures only { OnlyCounts table.old table.new }
     ensures counts { (d : machine.Definition) (hs : List Handler) (o : ℕ) → count_of table.new.counts o ≡ count_of table.old.counts o + in_given o (task_of d hs task.now) }
 {
     match task {
         Task::Beginning(emission) => hold_values(table, emission.args.as_slice()),
-        Task::Emitting(emission) => {
-            hold_emitted(table, &emission.cursor, emission.args.as_slice())
-        }
+        Task::Emitting(_) => unreachable!(),
         Task::Setting { .. } => {}
         Task::Notifying { .. } => {}
         Task::Transferring { .. } => {}
         Task::Unsetting { .. } => {}
-        Task::Running(frame) => hold_registers(table, frame.registers.as_slice()),
+        Task::Running(_) => unreachable!(),
         Task::Thawing { .. } => {}
         Task::Constructing(_) => {}
         Task::Building { .. } => {}
@@ -181,17 +180,6 @@ fn hold_given(table: &mut Table, task: &Task)
         Task::Handling(_) => {}
         Task::Due { .. } => {}
     }
-}
-
-// Holds the arguments of an emission, and the value that it has accumulated.
-fn hold_emitted(table: &mut Table, cursor: &Cursor, args: &[Value])
-    requires may { MayHold table.now (λ o. total (in_value o) (map value_view args.now) + in_register o cursor.now.value) }
-    ensures only { OnlyCounts table.old table.new }
-    ensures counts { (o : ℕ) → count_of table.new.counts o
-        ≡ count_of table.old.counts o + (total (in_value o) (map value_view args.now) + in_register o cursor.now.value) }
-{
-    hold_values(table, args);
-    hold_any(table, accumulated(cursor));
 }
 
 /// Shows the prover that what lives may be held once more: where each object is counted as often as it is mentioned, no count is at its
@@ -207,8 +195,10 @@ pub fn never_full(engine: &Engine)
     engine.world.table.next_unheld();
 }
 
-/// Puts a task before the others, in the room that is there. From then on it holds its objects, which have to live.
+/// Puts a task before the others, in the room that is there. From then on it holds its objects, which have to live. It is neither a program
+/// nor an emission that goes on.
 pub fn push_task(engine: &mut Engine, task: Task)
+    requires frameless { IsFrameless task }
     requires begun { TakesKnownHandlers engine.now.world.handlers.last task }
     requires may { MayPush engine.now task }
     requires room { HasRoom 1 engine.now }

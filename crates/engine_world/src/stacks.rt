@@ -7,51 +7,74 @@ ghost use Rattle.g_values.specs.View.{value_view};
 ghost use Rattle.bytecode.specs.View.{instruction_view, number_of, program_view};
 ghost use Rattle.frames.specs.FrameView.{Takes, at_block, taken_in};
 ghost use Rattle.engine_world.specs.BuildTasks.{is_of_build};
+ghost use Rattle.engine_world.specs.TaskFrames.{IsFrameless, IsStocked, args_used, registers_used};
 
 use crate::task::Task;
 use bytecode::{BlockNumber, Instruction, Program, Register};
+use frame_stacks::Stock;
 use frames::Frame;
 use g_values::Value;
 use std::alloc::{AllocError, Global};
+use ui_machine::ProgramId;
 
-/// The tasks that are left, the first on top, in room that is reserved once. The tasks of the build lie at the bottom.
+/// The tasks that are left, the first on top, in room that is reserved once. The tasks of the build lie at the bottom. For each task that
+/// has room there is a vector for registers and one for arguments, so that programs and emissions ask for no memory to begin.
 #[derive(Drop)]
 pub struct Stack {
     pub tasks: Vec<Task>,
     // How many tasks from the bottom are looked through for those of the build. No task above them is one.
     pub(crate) lowest: usize,
+    // The vectors that are left for the registers of programs.
+    pub(crate) registers: Stock<Option<Value>>,
+    // The vectors that are left for the arguments of emissions.
+    pub(crate) args: Stock<Value>,
     ghost within: { lowest ≤ length tasks.items },
     ghost above: { list_any is_of_build (drop lowest tasks.items) ≡ false },
+    ghost programs: { IsStocked registers_used tasks registers },
+    ghost emissions: { IsStocked args_used tasks args },
 }
 
 impl Stack {
     ghost use Rattle.ui_machine.specs.Definition as machine;
+    ghost use Rattle.ui_machine.specs.Definition.Values as machine_values;
     ghost use Rattle.ui_machine.specs.State.Tasks as config;
     ghost use Rattle.ui_machine.specs.State.Handlers.{Handler};
+    ghost use Rattle.ui_machine.specs.Rules.Programs.{first_frame};
     ghost use Rattle.ui_machine.specs.Rules.Build.{of_items};
     ghost use Rattle.ui_machine.specs.Seq.{total};
     ghost use Rattle.engine_world.specs.FirstConstructions.{construction_in, first_construction};
     ghost use Rattle.engine_world.specs.FirstEmissions.{emission_in, first_emission};
     ghost use Rattle.engine_world.specs.FirstPrograms.{IsRewritten, first_program, program_in, stack_frame};
+    ghost use Rattle.bytecode.specs.Computing.{registers_of};
     ghost use Rattle.engine_world.specs.KnownHandlers.{AllTakeKnownHandlers, TakesKnownHandlers};
     ghost use Rattle.engine_world.specs.TaskView.{task_of, tasks_of};
 
-    /// Creates an empty stack with room for `most` tasks.
+    /// Creates an empty stack with room for `most` tasks, and with vectors for them: each for `registers` registers, or for `args` arguments.
     ///
     /// # Errors
     ///
     /// `AllocError` if memory is refused. No other call asks for memory.
-    pub fn new(alloc: Global, most: usize) -> Result<Self, AllocError>
+    pub fn new(
+        alloc: Global,
+        most: usize,
+        registers: usize,
+        args: usize,
+    ) -> Result<Self, AllocError>
         ensures tasks { IfOk result (λ s. (d : machine.Definition) (hs : List Handler) → tasks_of d hs s ≡ []) }
         ensures begun { IfOk result (λ s. (last : ℕ) → AllTakeKnownHandlers last s) }
         ensures room { IfOk result (λ s. vec_capacity s.tasks ≡ most) }
     {
-        let tasks = Vec::with_capacity(alloc, most)?;
-        Ok(Stack { tasks, lowest: 0 })
+        Ok(Stack {
+            tasks: Vec::with_capacity(alloc, most)?,
+            lowest: 0,
+            registers: Stock::new(alloc, most, registers)?,
+            args: Stock::new(alloc, most, args)?,
+        })
     }
 
-    /// Puts a task before the others, in the room that is there.
+    /// Puts a task before the others, in the room that is there. It is neither a program nor an emission that goes on.
     pub fn push(&mut self, task: Task)
+        requires frameless { IsFrameless task }
         requires room { vec_len self.now.tasks < vec_capacity self.now.tasks }
         ensures tasks { (d : machine.Definition) (hs : List Handler) → tasks_of d hs self.new ≡ task_of d hs task ∷ tasks_of d hs self.old }
         ensures begun { (last : ℕ) → TakesKnownHandlers last task → AllTakeKnownHandlers last self.old → AllTakeKnownHandlers last self.new }
@@ -65,10 +88,53 @@ impl Stack {
         }
     }
 
+    /// Puts a program that begins before the other tasks, with these values in its first registers. The list of the values has room for all
+    /// registers of the program, and is empty afterwards.
+    pub fn push_program(
+        &mut self,
+        alloc: Global,
+        number: ProgramId,
+        program: &Program,
+        values: &mut Vec<Option<Value>>,
+    )
+        requires list { program.now.registers ≤ vec_capacity values.now }
+        requires room { vec_len self.now.tasks < vec_capacity self.now.tasks }
+        ensures tasks { (d : machine.Definition) (hs : List Handler) (args : List machine_values.Value) → registers_of values.old.items ≡ map (λ v. Some v) args
+            → tasks_of d hs self.new ≡ config.Running (first_frame number (program_view program.now) args) ∷ tasks_of d hs self.old }
+        ensures emptied { values.new.items ≡ [] }
+        ensures begun { (last : ℕ) → AllTakeKnownHandlers last self.old → AllTakeKnownHandlers last self.new }
+        ensures taken { vec_len self.new.tasks ≡ vec_len self.old.tasks + 1 }
+        ensures room { vec_capacity self.new.tasks ≡ vec_capacity self.old.tasks }
+    {
+        let registers = self.registers.keep(alloc, values);
+        let frame = Frame::new(number, program, registers);
+        self.tasks.push_reserved(Task::Running(frame));
+    }
+
+    /// Takes the program off that is the first task, and drops what its registers hold.
+    pub fn drop_program(&mut self, alloc: Global)
+        requires there { IsSome (first_program self.now.tasks.items) }
+        ensures tasks { (d : machine.Definition) (hs : List Handler) → tasks_of d hs self.new ≡ drop 1 (tasks_of d hs self.old) }
+        ensures begun { (last : ℕ) → AllTakeKnownHandlers last self.old → AllTakeKnownHandlers last self.new }
+        ensures given { vec_len self.old.tasks ≡ vec_len self.new.tasks + 1 }
+        ensures room { vec_capacity self.new.tasks ≡ vec_capacity self.old.tasks }
+    {
+        let Some(task) = self.tasks.pop() else {
+            unreachable!()
+        };
+        let Task::Running(frame) = task else {
+            unreachable!()
+        };
+        self.lowest = self.lowest.min(self.tasks.len());
+        self.registers.give_back(alloc, frame.registers);
+    }
+
     /// Returns the first task, if there is one.
     pub fn first(&self) -> Option<&Task>
-        ensures { (d : machine.Definition) (hs : List Handler) → MatchOption result (tasks_of d hs self.now ≡ [])
+        ensures tasks { (d : machine.Definition) (hs : List Handler) → MatchOption result (tasks_of d hs self.now ≡ [])
             (λ task. (rest : List config.Task) × (tasks_of d hs self.now ≡ task_of d hs task.now ∷ rest)) }
+        ensures program { option_and_then (λ task. program_in task.now) result ≡ first_program self.now.tasks.items }
+        ensures emission { option_and_then (λ task. emission_in task.now) result ≡ first_emission self.now.tasks.items }
     {
         self.tasks.last()
     }
@@ -157,15 +223,16 @@ impl Stack {
         frame.into = into;
     }
 
-    /// Takes the first task off, if there is one. Its room is free again.
+    /// Takes the first task off, if there is one. It is neither a program nor an emission that goes on. Its room is free again.
     pub fn pop(&mut self) -> Option<Task>
+        requires program { first_program self.now.tasks.items ≡ None }
+        requires emission { first_emission self.now.tasks.items ≡ None }
         ensures tasks { (d : machine.Definition) (hs : List Handler) → MatchOption result
             ((tasks_of d hs self.old ≡ []) × (tasks_of d hs self.new ≡ []))
             (λ task. tasks_of d hs self.old ≡ task_of d hs task ∷ tasks_of d hs self.new) }
         ensures begun { (last : ℕ) → AllTakeKnownHandlers last self.old → AllTakeKnownHandlers last self.new }
         ensures first { IfSome result (λ task. (last : ℕ) → AllTakeKnownHandlers last self.old → TakesKnownHandlers last task) }
-        ensures program { option_and_then program_in result ≡ first_program self.old.tasks.items }
-        ensures emission { option_and_then emission_in result ≡ first_emission self.old.tasks.items }
+        ensures frameless { IfSome result IsFrameless }
         ensures construction { option_and_then construction_in result ≡ first_construction self.old.tasks.items }
         ensures given { MatchOption result (vec_len self.new.tasks ≡ vec_len self.old.tasks) (λ _. vec_len self.old.tasks ≡ vec_len self.new.tasks + 1) }
         ensures free { IfSome result (λ _. vec_len self.new.tasks < vec_capacity self.new.tasks) }
@@ -174,17 +241,6 @@ impl Stack {
         let task = self.tasks.pop();
         self.lowest = self.lowest.min(self.tasks.len());
         task
-    }
-
-    /// Removes all tasks.
-    pub fn clear(&mut self)
-        ensures tasks { (d : machine.Definition) (hs : List Handler) → tasks_of d hs self.new ≡ [] }
-        ensures begun { (last : ℕ) → AllTakeKnownHandlers last self.new }
-        ensures free { vec_len self.new.tasks ≡ 0 }
-        ensures room { vec_capacity self.new.tasks ≡ vec_capacity self.old.tasks }
-    {
-        self.tasks.clear();
-        self.lowest = 0;
     }
 
     /// Returns the lowest tasks, among which are all tasks of the build. So all that the build has still to make and to connect is theirs.

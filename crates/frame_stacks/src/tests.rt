@@ -1,6 +1,6 @@
-//! Frames of each kind, pushed out of vectors of any capacity, and popped.
+//! Frames of each kind, pushed out of vectors of any capacity, and popped; and vectors that a stock keeps.
 
-use crate::{Frame, Frames};
+use crate::{Frame, Frames, Stock};
 use g_values::Value;
 use signal_core::{Emission, Handlers, SignalFlags};
 use std::test::Fail;
@@ -37,5 +37,23 @@ fn the_last_pushed_is_the_first_popped(rt: HostRuntime) -> Result<(), Fail> {
     assert!(rt; matches!(frames.pop(), None));
     assert!(rt; frames.values().is_empty());
     assert_eq!(rt; (frames.len(), frames.depth(), frames.width()), (0, 3, 2));
+    Ok(())
+}
+
+#[test]
+fn a_vector_of_the_usual_room_is_given_for_one_of_the_stock(rt: HostRuntime) -> Result<(), Fail> {
+    let mut stock = Stock::new(rt.alloc(), 2, 3)?;
+    let mut values = Vec::with_capacity(rt.alloc(), 3)?;
+    values.push_reserved(7u64);
+    let kept = stock.keep(rt.alloc(), &mut values);
+    assert_eq!(rt; kept.as_slice(), [7u64].as_slice());
+    assert_eq!(rt; (values.len(), values.capacity()), (0, 3));
+    let mut wide = Vec::with_capacity(rt.alloc(), 4)?;
+    wide.push_reserved(8u64);
+    let kept_wide = stock.keep(rt.alloc(), &mut wide);
+    assert_eq!(rt; (wide.len(), wide.capacity()), (0, 0));
+    assert_eq!(rt; stock.give_back(rt.alloc(), kept).capacity(), 0);
+    let wide = stock.give_back(rt.alloc(), kept_wide);
+    assert_eq!(rt; (wide.len(), wide.capacity()), (0, 4));
     Ok(())
 }

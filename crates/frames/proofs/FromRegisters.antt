@@ -1,5 +1,5 @@
 -- What code computed of registers is what the machine's instruction leads to.
-use Rattle.std.proofs.Common.{◌≡◌, ℕ, Bool, cond, ◌++◌, List, Option, None, Some, IfSome, IsSome, option_map, Result, IfOk, Ok, Err, refl, sym, ap, ◌∙◌, subst, codes}
+use Rattle.std.proofs.Common.{◌≡◌, ℕ, Bool, cond, List, Option, None, Some, IfSome, IsSome, option_map, Result, IfOk, Ok, Err, refl, sym, ap, ◌∙◌, codes}
 use Rattle.ui_machine.specs.Seq.{read}
 use Rattle.ui_machine.specs.Outcome.{Answer}
 use Rattle.ui_machine.specs.declared.arm.Arm.{Arm}
@@ -16,14 +16,13 @@ use Rattle.ui_machine.specs.State.Tasks.{Frame, Registers, Task}
 use Rattle.ui_machine.specs.Instructions.{in_front, instruction_step}
 use Rattle.ui_machine.specs.Instructions.Arithmetic.{gives_from, within_bytes}
 use Rattle.ui_machine.specs.Instructions.Registers.{gives}
-use Rattle.g_values.specs.View.{kind_view, value_view}
+use Rattle.g_values.specs.View.{kind_view}
 use Rattle.bytecode.specs.declared.computations.Computation.{Computation}
 use Rattle.bytecode.specs.declared.computations.Computation.TheVariants as computations
 use Rattle.bytecode.specs.declared.computations.Computed.{Computed}
 use Rattle.bytecode.specs.declared.computations.Computed.TheVariants as computed
 use Rattle.bytecode.specs.Computing.{comparison_of, instruction_of, operation_of}
-use Rattle.g_values.specs.Arithmetic.{calculated, compared}
-use Rattle.frames.specs.Computing.{Computes, IsValue, Joins, Reads, convertible_in, joined_in, of_two, sameness_of, truth_in, writes}
+use Rattle.frames.specs.Computing.{Computes, IsValue, Joins, Reads, convertible_in, joined_in, writes}
 use Rattle.frames.proofs.MachineSteps.{compares, converts, given, is_conjunction, is_disjunction, is_sameness, joins, moves, negates, reckons}
 
 -- ** what leads to no arm

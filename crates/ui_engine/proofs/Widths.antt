@@ -1,18 +1,17 @@
 -- How much the entries of a list have that were looked at.
-use Rattle.std.proofs.Common.{◌≡◌, ◌<◌, ◌≤◌, ◌+◌, ◌++◌, ℕ, zero, suc, Bool, true, false, cond, max, nat_lt, rules, List, [], ◌∷◌, length, map, take, get_or, reverse, option_map, Option, None, Some, sym, refl, ap, ◌∙◌, subst, arith, ⊎_elim}
+use Rattle.std.proofs.Common.{◌≡◌, ◌<◌, ◌≤◌, ◌+◌, ℕ, Bool, true, false, nat_lt, List, [], ◌∷◌, length, reverse, Option, None, Some, sym, refl, subst, arith, ⊎_elim}
 use Rattle.std.specs.Prelude.{IfSome, slice_get}
 use Rattle.std.proofs.lemmas.Bool.Decides.{nat_tests}
 use Rattle.std.proofs.lemmas.List.{length-append, length-reverse}
-use Rattle.std.proofs.lemmas.Option.{slice_get-map, slice_get_cases, slice_get_past, slice_get_read}
+use Rattle.std.proofs.lemmas.Option.{slice_get_cases, slice_get_past}
 use Rattle.std.specs.List.{flat_map}
-use Rattle.std.specs.Ordering.{nat_cmp, ord_max}
 use Rattle.ui_machine.specs.Definition.{Definition}
 use Rattle.ui_machine.specs.Definition.Lookups.{class_of, no_class}
 use Rattle.ui_machine.specs.Rules.Ancestry.{depth, lineage}
 use Rattle.ui_machine.specs.Rules.Construction.{constructed_runs, run_of}
 use Rattle.ui_machine.specs.State.Tasks.{ConstructStep}
 use Rattle.type_tree.proofs.Entries.{read-past}
-use Rattle.ui_engine.specs.Widths.{HoldsParams, HoldsSignals, most_of, wider}
+use Rattle.ui_engine.specs.Widths.{HoldsParams, HoldsSignals}
 
 module _ {A : Type 0} (weight : A → ℕ) where
   -- one has so much at most
@@ -48,50 +47,6 @@ module _ {A : Type 0} (weight : A → ℕ) where
       by true e = are number (grind (arith, nat_tests, e))
       by false e = let over : length xs ≤ number = grind (arith, nat_tests, e, past) in subst (IsAtMost most) (sym (slice_get_past xs number over)) tt
 
-  -- ** the most
-
-  more_of : (xs : List A) (n : ℕ) (x : A) → slice_get xs n ≡ Some x → most_of weight (take (suc n) xs) ≡ max (most_of weight (take n xs)) (weight x)
-  more_of [] n x at = cc
-  more_of (y ∷ xs) zero x at =
-      let is : y ≡ x = cc in
-      let none : max (weight x) 0 ≡ max 0 (weight x) = grind (arith, nat_tests) in
-      ap (λ (z : A). max (weight z) 0) is ∙ none
-  more_of (y ∷ xs) (suc n) x at =
-      let rest = more_of xs n x at in
-      let moved : max (weight y) (max (most_of weight (take n xs)) (weight x)) ≡ max (max (weight y) (most_of weight (take n xs))) (weight x) = grind (arith, nat_tests) in
-      ap (max (weight y)) rest ∙ moved
-
-  -- one more of a list that is gone through
-  pub most_more : (xs : List A) (n most : ℕ) (x : A) → slice_get xs n ≡ Some x → most ≡ most_of weight (take n xs) → max most (weight x) ≡ most_of weight (take (n + 1) xs)
-  most_more xs n most x at is =
-      let next : suc n ≡ n + 1 = omega arith in
-      ap (λ m. max m (weight x)) is ∙ sym (more_of xs n x at) ∙ ap (λ k. most_of weight (take k xs)) next
-
--- ** those that are more
-
-wider_more : {A : Type 0} (weight : A → ℕ) (width : ℕ) (xs : List A) (n : ℕ) (x : A) → slice_get xs n ≡ Some x
-    → wider width (map weight (take (suc n) xs)) ≡ wider width (map weight (take n xs)) ++ wider width (weight x ∷ [])
-wider_more weight width [] n x at = cc
-wider_more weight width (y ∷ xs) zero x at = let is : y ≡ x = cc in ap (λ z. wider width (weight z ∷ [])) is
-wider_more weight width (y ∷ xs) (suc n) x at = by (nat_lt width (weight y)) (wider_more weight width xs n x at)
-  where
-    more : List ℕ
-    more = wider width (map weight (take (suc n) xs))
-
-    before : List ℕ
-    before = wider width (map weight (take n xs))
-
-    by : (b : Bool) → more ≡ before ++ wider width (weight x ∷ []) → cond b (weight y ∷ more) more ≡ cond b (weight y ∷ before) before ++ wider width (weight x ∷ [])
-    by true rest = ap (λ (l : List ℕ). weight y ∷ l) rest
-    by false rest = rest
-
--- one more of a list that is gone through
-pub wide_more : {A : Type 0} (weight : A → ℕ) (width : ℕ) (xs : List A) (n : ℕ) (x : A) (wide new : List ℕ) → slice_get xs n ≡ Some x → wide ≡ wider width (map weight (take n xs))
-    → new ≡ wide ++ wider width (weight x ∷ []) → new ≡ wider width (map weight (take (n + 1) xs))
-wide_more weight width xs n x wide new at is more =
-    let next : suc n ≡ n + 1 = omega arith in
-    more ∙ ap (λ l. l ++ wider width (weight x ∷ [])) is ∙ sym (wider_more weight width xs n x at) ∙ ap (λ k. wider width (map weight (take k xs))) next
-
 -- ** the signals of all classes
 
 pub all_held : (d : Definition) (count most : ℕ) → length d.classes ≤ count → ((class : ℕ) → class < count → HoldsParams d class most) → HoldsSignals d most
@@ -116,15 +71,3 @@ pub few_runs : (d : Definition) (class : ℕ) → length (constructed_runs d cla
 few_runs d class =
     let few = few_of (λ c. run_of (class_of d c).constructed) (λ c. one_run (class_of d c).constructed) (reverse (lineage d.types class)) in
     omega (arith, few, length-reverse (lineage d.types class))
-
--- ** what a loop has of a list
-
--- what an iteration has, as it is seen
-pub item_seen : {X A : Type 0} (view : X → A) (xs items : List X) (i : ℕ) (x : X) → items ≡ xs → i < length items → x ≡ get_or items i x
-    → slice_get (map view xs) i ≡ Some (view x)
-item_seen view xs items i x all within is =
-    ap (λ l. slice_get (map view l) i) (sym all) ∙ slice_get-map view items i ∙ ap (option_map view) (slice_get_read items (length items) i x refl within is)
-
--- the greater of two numbers, as the code finds it
-pub is_max : (a b : ℕ) → ord_max nat_cmp a b ≡ max a b
-is_max a b = search (rules, nat_tests)

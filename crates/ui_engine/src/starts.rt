@@ -129,7 +129,7 @@ pub(crate) fn begin<P: Peers>(
         return Err(fault_of(alloc, fault)?);
     }
     let seats = seats(alloc, pool, needs.as_slice())?;
-    let room = room_for(alloc, definition, depth)?;
+    let room = room_for(definition, depth);
     let beginning = first_beginning(alloc, definition, seats, room)?;
     Ok(beginning)
 }

@@ -8,11 +8,19 @@ use Rattle.engine_world.specs.declared.task.Task as code
 use Rattle.engine_world.specs.View.{world_of}
 use Rattle.engine_world.proofs.Counts.{taken_off}
 use Rattle.engine_pools.specs.Safety.{NoneUnheld}
-use Rattle.engine_pools.proofs.FirstCalls.{asked_first_so, asks_open, calls_only, none_asked}
+use Rattle.engine_pools.proofs.FirstCalls.{asked_first_so, asked_other, asks_open, calls_only, none_asked}
 use Rattle.engine_pools.proofs.calls.take_call.Goals as goal
 
 pub returns-then-not-asks-clause-taken : goal.returns-then-not-asks-clause-taken
 returns-then-not-asks-clause-taken c = (refl, none_asked _ (sym c.if-not-asks.true ∙ c.asks.ensures))
+
+pub pop-requires : goal.pop-requires
+pop-requires c =
+    let d = c.args.definition.now in
+    let e = c.args.engine.now in
+    let asks = asked_first_so d (config_of d e) (sym c.asks.ensures ∙ c.if-not-asks.false) in
+    let other = asked_other d e.world.handlers.handlers (world_of e.world) e.stack.tasks.items asks.1 in
+    record { program = other.program; emission = other.emission }
 
 pub unreachable-requires : goal.unreachable-requires
 unreachable-requires c =

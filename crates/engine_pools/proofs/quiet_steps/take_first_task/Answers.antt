@@ -78,8 +78,8 @@ act-requires c = record {
       let first = ap (λ (ts : List Task). length ts) (c.in-Some.ensures.tasks d hs) in
       let same = c.pop.ensures.room in
       omega (arith, few, first, tasks_counted d hs c.pop.new.self, same);
-  other = c.in-Some.ensures.program ∙ c.requires.other;
-  begins = c.in-Some.ensures.emission ∙ c.requires.begins;
+  other = c.in-Some.ensures.frameless.program;
+  begins = c.in-Some.ensures.frameless.emission;
   builds = c.in-Some.ensures.construction ∙ c.requires.builds;
   begun = c.in-Some.ensures.first c.args.engine.now.world.handlers.last c.requires.counted.connects.begun;
   counted =

@@ -1,9 +1,8 @@
-use Rattle.std.proofs.Common.{◌≡◌, true, List, ◌++◌, ap, sym, ◌∙◌, arith}
+use Rattle.std.proofs.Common.{◌≡◌, true, List, ◌++◌, ap, sym, ◌∙◌}
 use Rattle.ui_machine.specs.Definition.Properties.{has_flags}
 use Rattle.ui_machine.specs.State.Tasks.{Task}
 use Rattle.definition_format.specs.Meaning.{bind_view}
 use Rattle.engine_world.specs.TaskView.{agenda_of}
-use Rattle.engine_world.proofs.Registers.{on_ok}
 use Rattle.engine_tasks.proofs.Binding.{first_on}
 use Rattle.engine_tasks.proofs.binds.push_first_transfer.Goals as goal
 

@@ -25,6 +25,7 @@ use Rattle.engine_tasks.proofs.builds.build.Goals as goal
 
 pub push_task-requires : goal.push_task-requires
 push_task-requires c = record {
+  frameless = c.behind.ensures.frameless;
   begun = c.behind.ensures.begun c.args.engine.now.world.handlers.last;
   room = let has = c.requires.room in omega (arith, has);
   may =

@@ -18,6 +18,7 @@ use Rattle.engine_world.specs.declared.task.Task as code
 use Rattle.engine_world.proofs.Ableness.{able_as}
 use Rattle.engine_world.proofs.Counts.{taken_alike, taken_off}
 use Rattle.engine_world.proofs.FirstConstructions.{construction_found}
+use Rattle.engine_world.proofs.OtherFirst.{constructs_only}
 use Rattle.engine_tasks.proofs.builds.end_first.Goals as goal
 
 -- what ends is the construction that was taken off, above the tasks that were behind it
@@ -52,3 +53,6 @@ returns-clause-step c =
     let own = construction_found e.stack f (sym c.in-Some.ensures.construction ∙ ap (λ (t : code.Task). construction_in t) c.in-Constructing.is) in
     let first = c.in-Some.ensures.tasks d hs ∙ ap (λ (t : code.Task). task_of d hs t ∷ tasks_of d hs s) c.in-Constructing.is in
     subst (λ (a : Answer Config). Leads c.end_construction.result a (config_of d c.end_construction.new.engine)) (sym (ends_off d e s f own (ap (λ (ts : List Task). drop 1 ts) first))) c.end_construction.ensures.step
+
+pub pop-requires : goal.pop-requires
+pop-requires c = let other = constructs_only c.args.engine.now.stack.tasks.items c.requires.first in record { program = other.program; emission = other.emission }

@@ -1,11 +1,9 @@
-use Rattle.std.proofs.Common.{◌≡◌, ℕ, ◌+◌, List, map, Option, option_map, Ok, sym, ap, subst, ◌∙◌, arith}
+use Rattle.std.proofs.Common.{◌+◌, Option, option_map, Ok, sym, ap, subst, ◌∙◌, arith}
 use Rattle.std.proofs.lemmas.Result.{err_from_is_err_and}
 use Rattle.ui_machine.specs.Definition.Values as values
 use Rattle.ui_machine.specs.Rules.Accumulation.{result_of, told, ending}
-use Rattle.ui_machine.specs.State.References.{in_register, in_value, same}
-use Rattle.ui_machine.specs.Seq.{total}
+use Rattle.ui_machine.specs.State.References.{in_register, same}
 use Rattle.g_values.specs.View.{kind_view, value_view}
-use Rattle.g_values.specs.declared.value.Value.{Value}
 use Rattle.signal_core.specs.SignalView.{declared_view}
 use Rattle.engine_world.specs.View.{world_of}
 use Rattle.engine_world.specs.TaskView.{agenda_of, emission_of}
@@ -18,17 +16,13 @@ use Rattle.ui_machine.specs.State.Config.{World}
 use Rattle.engine_world.specs.declared.engine.Engine.{Engine}
 use Rattle.engine_world.proofs.Ableness.{in_left, no_arm}
 use Rattle.engine_world.proofs.LivingObjects.{lives_where}
-use Rattle.engine_world.specs.Counting.{Counts, in_emitted, nothing}
+use Rattle.engine_world.specs.Counting.{Counts, nothing}
 use Rattle.engine_world.specs.EngineView.{config_of}
-use Rattle.engine_world.specs.declared.task.Task.TheVariants as tasks
 use Rattle.engine_world.proofs.Held.{counted_lives, may_counted}
-use Rattle.engine_world.proofs.Rooms.{register_most, task_most}
+use Rattle.engine_world.proofs.Rooms.{register_most}
+use Rattle.instance_tables.proofs.Few.{same_most}
 use Rattle.engine_tasks.proofs.Holding.{result_held}
 use Rattle.engine_tasks.proofs.emission.end_emission.Goals as goal
-
--- what the arguments hold, as a slice
-slice : (vs now : List Value) → now ≡ vs → (o : ℕ) → total (in_value o) (map value_view now) ≡ total (in_value o) (map value_view vs)
-slice vs now is o = ap (λ (xs : List Value). total (in_value o) (map value_view xs)) is
 
 pub class_of-class-requires : goal.class_of-class-requires
 class_of-class-requires c = record {
@@ -72,9 +66,9 @@ pass_down-requires c =
       held = record { at = λ o. omega (arith, c.requires.counted.exact o) };
       may =
           may_counted d e _ c.never_full.ensures.room (record {
-            taken = λ o. same o c.args.rest.cursor.object + in_emitted o (emission_of c.args.rest.cursor c.args.rest.args.items c.args.rest.by_event);
+            taken = λ o. same o c.args.rest.cursor.object + in_register o c.args.rest.cursor.value;
             counts = c.requires.counted;
-            little = λ o. (let most = task_most c.args.definition.now c.args.engine.now.world.handlers.handlers o (tasks.Emitting c.args.rest) in omega (arith, most));
+            little = λ o. omega (arith, same_most o c.args.rest.cursor.object, register_most o c.args.rest.cursor.value);
           })
           (λ o. let one = register_most o v in omega (arith, one))
           (λ o held. counted_lives d _ e c.never_full.ensures.dead c.requires.counted o
@@ -95,22 +89,13 @@ returns-in_err-say_result_if-clause-quiet c =
     (quiet_on e m (world_of c.say_result_if.new.engine.world) (quiet_same e m (tasks_world c.args.engine.now c.pass_down.new.engine c.pass_down.ensures.only))
     c.in_err-say_result_if.ensures.quiet)
 
-pub let_go_values-requires : goal.let_go_values-requires
-let_go_values-requires c = record {
-  held = λ o.
-      let d = c.args.definition.now in
-      let passed = c.in_ok-pass_down.ensures.counted in
-      let kept = c.in_ok-say_result_if.ensures.counted.at _ (passed.at _ c.requires.counted) in
-      omega (arith, kept.exact o, slice c.args.rest.args.items c.as_slice.result.now c.as_slice.ensures.value o);
-}
-
 pub let_go_any-requires : goal.let_go_any-requires
 let_go_any-requires c = record {
   held = λ o.
       let d = c.args.definition.now in
       let passed = c.in_ok-pass_down.ensures.counted in
       let kept = c.in_ok-say_result_if.ensures.counted.at _ (passed.at _ c.requires.counted) in
-      omega (arith, kept.exact o, c.let_go_values.ensures.counts o, c.accumulated-held.ensures o, slice c.args.rest.args.items c.as_slice.result.now c.as_slice.ensures.value o);
+      omega (arith, kept.exact o, c.accumulated-held.ensures o);
 }
 
 pub let_go_any-requires-2 : goal.let_go_any-requires-2
@@ -119,7 +104,7 @@ let_go_any-requires-2 c = record {
       let d = c.args.definition.now in
       let passed = c.in_ok-pass_down.ensures.counted in
       let kept = c.in_ok-say_result_if.ensures.counted.at _ (passed.at _ c.requires.counted) in
-      omega (arith, kept.exact o, c.let_go_values.ensures.counts o, c.let_go_any.ensures.counts o, c.accumulated-held.ensures o, ap (same o) c.object-object.ensures, slice c.args.rest.args.items c.as_slice.result.now c.as_slice.ensures.value o);
+      omega (arith, kept.exact o, c.let_go_any.ensures.counts o, c.accumulated-held.ensures o, ap (same o) c.object-object.ensures);
 }
 
 pub returns-clause-step : goal.returns-clause-step
@@ -135,7 +120,7 @@ returns-clause-step c =
     let is = c.result_of-value.ensures ∙ ap (λ (x : Option values.Value). result_of d (option_map kind_view c.in-Some.signal.result) x) c.value.ensures in
     let ends = end_known d (world_of e.world) m (agenda_of d e) _ (rw c.object-object.ensures at c.class_of-class.ensures) (declared_view c.in-Some.signal) (rw c.signal-number.ensures at declared) v is
     (agenda_of d b) c.in_ok-pass_down.ensures.agenda in
-    let only = both_only g.world.table c.let_go_any.new.table c.let_go_any-2.new.table (both_only g.world.table c.let_go_values.new.table c.let_go_any.new.table c.let_go_values.ensures.only c.let_go_any.ensures.only) c.let_go_any-2.ensures.only in
+    let only = both_only g.world.table c.let_go_any.new.table c.let_go_any-2.new.table c.let_go_any.ensures.only c.let_go_any-2.ensures.only in
     left_kept e.counted _ _ (agenda_of d b) (world_of g.world) (agenda_of d g) g.counted ends
     (c.in_ok-say_result_if.ensures.world ∙ ap (λ (w : World). told d w c.args.rest.by_event v) (tasks_world e b only_tasks))
     (same_agenda d b g c.say_result_if.ensures.same.0 c.say_result_if.ensures.handlers) (c.say_result_if.ensures.same.1 ∙ ap (λ (x : Engine). x.counted) only_tasks.beside)
@@ -147,8 +132,8 @@ returns-clause-counted c =
     let d = c.args.definition.now in
     let passed = c.in_ok-pass_down.ensures.counted in
     let g = c.say_result_if.new.engine in
-    let only = both_only g.world.table c.let_go_any.new.table c.let_go_any-2.new.table (both_only g.world.table c.let_go_values.new.table c.let_go_any.new.table c.let_go_values.ensures.only c.let_go_any.ensures.only) c.let_go_any-2.ensures.only in
+    let only = both_only g.world.table c.let_go_any.new.table c.let_go_any-2.new.table c.let_go_any.ensures.only c.let_go_any-2.ensures.only in
     subst (λ (x : Engine). Counts d nothing x) (sym c.give_back_list.ensures)
-    (less_held d g c.let_go_any-2.new.table _ nothing (λ o. same o c.args.rest.cursor.object + in_emitted o (emission_of c.args.rest.cursor c.args.rest.args.items c.args.rest.by_event)) only
-    (λ o. omega (arith, c.let_go_any-2.ensures.counts o, c.let_go_any.ensures.counts o, c.let_go_values.ensures.counts o, c.accumulated-held.ensures o, ap (same o) c.object-object.ensures, slice c.args.rest.args.items c.as_slice.result.now c.as_slice.ensures.value o)) (λ o. omega arith)
+    (less_held d g c.let_go_any-2.new.table _ nothing (λ o. same o c.args.rest.cursor.object + in_register o c.args.rest.cursor.value) only
+    (λ o. omega (arith, c.let_go_any-2.ensures.counts o, c.let_go_any.ensures.counts o, c.accumulated-held.ensures o, ap (same o) c.object-object.ensures)) (λ o. omega arith)
     (c.in_ok-say_result_if.ensures.counted.at _ (passed.at _ c.requires.counted)))

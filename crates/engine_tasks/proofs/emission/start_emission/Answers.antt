@@ -13,16 +13,16 @@ pub returns-clause-agenda : goal.returns-clause-agenda
 returns-clause-agenda c d =
     let e = c.args.engine.now in
     let a = c.args.args.items in
-    ap (λ (h : Connected). tasks_of d h.handlers c.push_rest.new.engine.stack) c.say.ensures.handlers
-    ∙ c.push_rest.ensures.agenda d
+    ap (λ (h : Connected). tasks_of d h.handlers c.push_emission.new.engine.stack) c.say.ensures.handlers
+    ∙ c.push_emission.ensures.agenda d
     ∙ ap (λ (v : Walk). Emitting (emission_of v a c.args.by_event) (entries_to_come v e.world.handlers.handlers c.args.transfers) ∷ agenda_of d e) c.begin_emission-cursor.ensures
 
 pub returns-clause-world : goal.returns-clause-world
-returns-clause-world c = c.in_ok-say.ensures.ok ∙ ap (λ (w : World). with_line (string_bytes c.args.line) w) c.push_rest.ensures.world
+returns-clause-world c = c.in_ok-say.ensures.ok ∙ ap (λ (w : World). with_line (string_bytes c.args.line) w) c.push_emission.ensures.world
 
 pub returns-clause-counted : goal.returns-clause-counted
 returns-clause-counted c d taken h =
     let e = c.args.engine.now in
-    (keeps_said d c.push_rest.new.engine c.say.new.self c.say.ensures.beside).at taken
-    (c.push_rest.ensures.counted d taken
+    (keeps_said d c.push_emission.new.engine c.say.new.self c.say.ensures.beside).at taken
+    (c.push_emission.ensures.counted d taken
     (taken_alike d e _ _ (λ o. omega (arith, ap (λ (v : Walk). in_register o v.value) c.begin_emission-cursor.ensures)) h))

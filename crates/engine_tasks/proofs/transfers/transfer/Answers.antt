@@ -1,20 +1,15 @@
 use Rattle.std.proofs.Common.{◌≡◌, ◌∙◌, sym, ap, subst, option_map}
-use Rattle.ui_machine.specs.Outcome.{Answer}
 use Rattle.ui_machine.specs.Rules.Transfers.{set_by, transferring}
-use Rattle.ui_machine.specs.State.Config.{Config}
 use Rattle.ui_machine.specs.Steps.{counted, uncounted}
 use Rattle.g_values.specs.View.{value_view}
 use Rattle.engine_world.specs.Counting.{PassesGot}
-use Rattle.engine_world.specs.EngineView.{config_of}
 use Rattle.engine_world.specs.TaskView.{agenda_of}
 use Rattle.engine_world.specs.View.{world_of}
 use Rattle.engine_world.specs.declared.engine.Engine.{Engine}
 use Rattle.engine_world.proofs.Counts.{keeps_on, keeps_same, still_counted}
 use Rattle.engine_world.proofs.Notified.{counted_on}
-use Rattle.engine_world.proofs.Registers.{on_ok}
 use Rattle.engine_tasks.specs.TransferSteps.{carried_value, to_end}
 use Rattle.engine_tasks.proofs.Carrying.{target_lives, transfer_sets, transfers_by}
-use Rattle.engine_world.specs.Able.{Leads}
 use Rattle.engine_world.proofs.Ableness.{able_as, first, in_counted}
 use Rattle.engine_tasks.proofs.transfers.transfer.Goals as goal
 

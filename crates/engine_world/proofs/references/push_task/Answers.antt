@@ -22,6 +22,7 @@ hold_any-requires c = record {
 
 pub hold_given-requires : goal.hold_given-requires
 hold_given-requires c = record {
+  frameless = c.requires.frameless;
   may = λ d hs.
       let e = c.args.engine.now in
       let all : MayHold e.world.table (λ o. in_task o (task_of d hs c.args.task)) =

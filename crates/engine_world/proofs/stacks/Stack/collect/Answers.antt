@@ -1,3 +1,7 @@
+use Rattle.engine_world.specs.declared.emission_frames.EmissionFrame.{EmissionFrame}
+use Rattle.engine_world.specs.TaskFrames.{args_used, registers_used}
+use Rattle.engine_world.proofs.Vectors.{stocked_set}
+use Rattle.frame_stacks.specs.Stocks.{is_usual}
 use Rattle.std.proofs.Common.{◌∙◌, [], cond, vec_len, ap, refl, sym}
 use Rattle.engine_world.specs.FirstEmissions.{Emitted, emitted_of}
 use Rattle.engine_world.specs.declared.task.Task.TheVariants as tasks
@@ -16,7 +20,12 @@ invariant_of-self c =
     let now = c.collect.new.self in
     let e = ending (vec_len s.tasks) s.tasks.items (tasks.Emitting was) (tasks.Emitting was) s.tasks.ok.0 c.in-Some.ensures.item.3.0 (sym c.in-Emitting.is ∙ c.in-Some.ensures.item.3.1 (tasks.Emitting was)) in
     let k = kept_so s was now e in
-    record { within = k.within; above = k.above }
+    record {
+      within = k.within;
+      above = k.above;
+      programs = stocked_set registers_used s.tasks s.registers s.programs _ refl (tasks.Emitting was) (tasks.Emitting now) e refl refl;
+      emissions = stocked_set args_used s.tasks s.args s.emissions _ refl (tasks.Emitting was) (tasks.Emitting now) e refl (ap (λ (f : EmissionFrame). is_usual s.args.room f.args) c.collect.ensures.beside);
+    }
 
 pub returns-clause-emits : goal.returns-clause-emits
 returns-clause-emits c =

@@ -1,3 +1,5 @@
+use Rattle.engine_world.specs.TaskFrames.{args_used, registers_used}
+use Rattle.engine_world.proofs.Vectors.{stocked_set}
 use Rattle.std.proofs.Common.{◌≡◌, ◌∙◌, ◌-◌, [], ◌∷◌, Option, MatchOption, slice_set, vec_len, ap, refl, subst, sym}
 use Rattle.engine_world.specs.FirstConstructions.{Constructed, constructed_of, stack_construction}
 use Rattle.engine_world.specs.MakingView.{making_of_code}
@@ -16,7 +18,12 @@ invariant_of-self c =
     let now = c.next_step.new.self in
     let e = ending (vec_len s.tasks) s.tasks.items (tasks.Constructing was) (tasks.Constructing was) s.tasks.ok.0 c.in-Some.ensures.item.3.0 (sym c.in-Constructing.is ∙ c.in-Some.ensures.item.3.1 (tasks.Constructing was)) in
     let k = kept_last s (tasks.Constructing was) (tasks.Constructing now) e refl in
-    record { within = k.within; above = k.above }
+    record {
+      within = k.within;
+      above = k.above;
+      programs = stocked_set registers_used s.tasks s.registers s.programs _ refl (tasks.Constructing was) (tasks.Constructing now) e refl refl;
+      emissions = stocked_set args_used s.tasks s.args s.emissions _ refl (tasks.Constructing was) (tasks.Constructing now) e refl refl;
+    }
 
 pub returns-clause-constructs : goal.returns-clause-constructs
 returns-clause-constructs c =

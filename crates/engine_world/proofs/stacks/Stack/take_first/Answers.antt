@@ -1,4 +1,7 @@
-use Rattle.std.proofs.Common.{◌≡◌, ◌∙◌, ◌-◌, Option, option_map, slice_set, vec_len, refl, subst, sym}
+use Rattle.engine_world.specs.TaskFrames.{args_used, registers_used}
+use Rattle.engine_world.proofs.Vectors.{stocked_set}
+use Rattle.frame_stacks.specs.Stocks.{is_usual}
+use Rattle.std.proofs.Common.{ap, ◌≡◌, ◌∙◌, ◌-◌, Option, option_map, slice_set, vec_len, refl, subst, sym}
 use Rattle.ui_machine.specs.Definition.Programs.{Instruction, Program}
 use Rattle.ui_machine.specs.State.Tasks as config
 use Rattle.frames.specs.FrameView.{Takes, frame_view, taken_in}
@@ -15,7 +18,12 @@ invariant_of-self c =
     let s = c.args.self.now in
     let e = ending (vec_len s.tasks) s.tasks.items (tasks.Running c.in-Running.frame) (tasks.Running c.in-Running.frame) s.tasks.ok.0 c.in-Some.ensures.item.3.0 (sym c.in-Running.is ∙ c.in-Some.ensures.item.3.1 (tasks.Running c.in-Running.frame)) in
     let k = kept_so s c.in-Running.frame c.take.new.self e in
-    record { within = k.within; above = k.above }
+    record {
+      within = k.within;
+      above = k.above;
+      programs = stocked_set registers_used s.tasks s.registers s.programs _ refl (tasks.Running c.in-Running.frame) (tasks.Running c.take.new.self) e refl (ap (λ v. is_usual s.registers.room v) c.take.ensures.kept);
+      emissions = stocked_set args_used s.tasks s.args s.emissions _ refl (tasks.Running c.in-Running.frame) (tasks.Running c.take.new.self) e refl refl;
+    }
 
 pub returns-clause-rewritten : goal.returns-clause-rewritten
 returns-clause-rewritten c =
@@ -35,4 +43,4 @@ pub returns-clause-taken : goal.returns-clause-taken
 returns-clause-taken c =
     let s = c.args.self.now in
     let e = ending (vec_len s.tasks) s.tasks.items (tasks.Running c.in-Running.frame) (tasks.Running c.in-Running.frame) s.tasks.ok.0 c.in-Some.ensures.item.3.0 (sym c.in-Running.is ∙ c.in-Some.ensures.item.3.1 (tasks.Running c.in-Running.frame)) in
-    taken_of_stack s _ c.in-Running.frame c.take.new.self e refl (program_view c.args.program.now) (option_map (λ i. instruction_view i.now) c.take.result) c.take.ensures
+    taken_of_stack s _ c.in-Running.frame c.take.new.self e refl (program_view c.args.program.now) (option_map (λ i. instruction_view i.now) c.take.result) c.take.ensures.taken

@@ -1,3 +1,5 @@
+use Rattle.engine_world.specs.TaskFrames.{args_used, registers_used}
+use Rattle.engine_world.proofs.Vectors.{stocked_set}
 use Rattle.std.proofs.Common.{◌∙◌, option_map, vec_len, ap, refl, sym}
 use Rattle.ui_machine.specs.State.Tasks as config
 use Rattle.engine_world.specs.declared.task.Task.TheVariants as tasks
@@ -10,7 +12,12 @@ invariant_of-self c =
     let s = c.args.self.now in
     let e = ending (vec_len s.tasks) s.tasks.items (tasks.Running c.in-Running.frame) (tasks.Running c.in-Running.frame) s.tasks.ok.0 c.in-Some.ensures.item.3.0 (sym c.in-Running.is ∙ c.in-Some.ensures.item.3.1 (tasks.Running c.in-Running.frame)) in
     let k = kept_so s c.in-Running.frame (record c.in-Running.frame { into = c.args.into }) e in
-    record { within = k.within; above = k.above }
+    record {
+      within = k.within;
+      above = k.above;
+      programs = stocked_set registers_used s.tasks s.registers s.programs _ refl (tasks.Running c.in-Running.frame) (tasks.Running (record c.in-Running.frame { into = c.args.into })) e refl refl;
+      emissions = stocked_set args_used s.tasks s.args s.emissions _ refl (tasks.Running c.in-Running.frame) (tasks.Running (record c.in-Running.frame { into = c.args.into })) e refl refl;
+    }
 
 pub returns-clause-rewritten : goal.returns-clause-rewritten
 returns-clause-rewritten c =
