@@ -114,7 +114,7 @@ module _ (d : Definition) where
               let short = stacked_are_short at.agenda (stacks_last d replies c at reached stacked) in
               let shallow = kept.shallow replies fit at reached in
               let enough = roomy a in
-              omega (arith, short, shallow, enough);
+              (omega (arith, short, shallow, enough), omega (arith, shallow, enough));
           numbers = λ replies fit at reached. numbers_last c (kin_made d c.world good.objects) left replies at reached;
         }
 

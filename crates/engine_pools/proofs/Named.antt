@@ -9,6 +9,7 @@ use Rattle.ui_machine.specs.State.Objects.{Objects, living}
 use Rattle.ui_machine.specs.State.Tasks.{Answering, Beginning, Building, Calling, Constructing, Due, Emission, Emitting, Handling, Item, Notifying, Running, Setting, Task, Thawing, Transferring, Unsetting}
 use Rattle.machine_laws.specs.GoneLaws.{Gone, pruned}
 use Rattle.law_peers.specs.Forgetting.{forgotten_at}
+use Rattle.law_typing.specs.Good.Agenda.{frames, is_frame}
 use Rattle.law_typing.specs.Good.Living.{TaskNamesLiving}
 use Rattle.law_typing.specs.Verdict.Accepted.{Each}
 use Rattle.engine_world.specs.Able.{TasksNameLiving}
@@ -127,8 +128,32 @@ numbers_alike y x is left =
     let there : HasNumbersLeft (without_gone (forgotten_at y)) = record { identities = omega (arith, identities, made); handlers = omega (arith, handlers, connected) } in
     subst HasNumbersLeft is there
 
--- as few tasks as the machine's configuration has the engine's has
+-- nor is a task more or less a frame by them
+module _ (gone : Gone) where
+  frame_pruned : (t : Task) → is_frame (pruned gone t) ≡ is_frame t
+  frame_pruned (Emitting e turns) = refl
+  frame_pruned (Setting id slot x) = refl
+  frame_pruned (Notifying id slot) = refl
+  frame_pruned (Beginning e) = refl
+  frame_pruned (Thawing id slots) = refl
+  frame_pruned (Running f) = refl
+  frame_pruned (Calling call) = refl
+  frame_pruned (Constructing id steps held) = refl
+  frame_pruned (Transferring number back) = refl
+  frame_pruned (Unsetting number) = refl
+  frame_pruned (Answering source) = refl
+  frame_pruned (Building items) = refl
+  frame_pruned (Handling request) = refl
+  frame_pruned (Due source) = refl
+
+  frames_pruned : (ts : List Task) → frames (map (pruned gone) ts) ≡ frames ts
+  frames_pruned [] = refl
+  frames_pruned (t ∷ ts) = omega (arith, frame_pruned t, frames_pruned ts)
+
+-- as few tasks and frames as the machine's configuration has the engine's has
 pub few_alike : (room : ℕ) (y x : Config) → without_gone (forgotten_at y) ≡ x → HasFewTasks room y → HasFewTasks room x
 few_alike room y x is few =
-    let same : length x.agenda ≡ length y.agenda = sym (ap (λ (c : Config). length c.agenda) is) ∙ length-map y.agenda (pruned (gone_handlers (forgotten_at y).world)) in
-    omega (arith, same, few)
+    let gone = gone_handlers (forgotten_at y).world in
+    let tasks : length x.agenda ≡ length y.agenda = sym (ap (λ (c : Config). length c.agenda) is) ∙ length-map y.agenda (pruned gone) in
+    let deep : frames x.agenda ≡ frames y.agenda = sym (ap (λ (c : Config). frames c.agenda) is) ∙ frames_pruned gone y.agenda in
+    (omega (arith, tasks, few.0), omega (arith, deep, few.1))

@@ -1,5 +1,5 @@
 -- Where nothing is to be finalised, the machine's step is the first task's; else it is the finalisation.
-use Rattle.std.proofs.Common.{◌≡◌, ℕ, ◌≤◌, Bool, true, false, cond, map, [], length, suc, ◌<◌, List, ◌∷◌, Some, None, arith, Result, Ok, Err, refl, sym, ap, subst, ◌∙◌}
+use Rattle.std.proofs.Common.{◌≡◌, ℕ, ◌≤◌, Bool, true, false, cond, map, [], length, suc, ◌<◌, List, ◌∷◌, Some, None, vec_capacity, arith, Result, Ok, Err, refl, sym, ap, subst, ◌∙◌}
 use Rattle.std.specs.List.{filter}
 use Rattle.ui_machine.specs.declared.arm.Arm.{Arm}
 use Rattle.ui_machine.specs.declared.arm.Halt.{Halt}
@@ -14,7 +14,10 @@ use Rattle.ui_machine.specs.Steps.{act, sink_first_floating, counted, finalising
 use Rattle.engine_world.specs.declared.engine.StepKind.{StepKind}
 use Rattle.engine_world.specs.declared.engine.StepKind.TheVariants as mades
 use Rattle.engine_world.specs.Able.{LeadsToLiving}
-use Rattle.engine_world.specs.EngineView.{IsOfKind}
+use Rattle.engine_world.specs.EngineView.{IsOfKind, config_of}
+use Rattle.engine_world.specs.Room.{HasRoom}
+use Rattle.engine_world.specs.declared.engine.Engine.{Engine}
+use Rattle.engine_world.proofs.Rooms.{frames_few, tasks_counted}
 use Rattle.ui_machine.specs.Prefix.{IsPrefix}
 use Rattle.engine_world.specs.Standing.{Follows, GoesWithoutGone, gone_handlers, past_turns, with_first, without_gone}
 use Rattle.engine_pools.specs.QuietSteps.{IsSafeView, QuietlyStepped}
@@ -108,9 +111,16 @@ module _ (d : Definition) (c e : Config) (none : NoneUnheld d c) (task : Task) (
 pub view_numbers : (d : Definition) {room : ℕ} (c : Config) → IsSafeView d room c → HasNumbersLeft c
 view_numbers d c safe = numbers_alike safe.safe.at c safe.safe.stands.view (safe.safe.safe.numbers [] tt safe.safe.at (reaches_here d safe.safe.at))
 
--- there are fewer tasks than there is room for
+-- there are fewer tasks than there is room for, and fewer frames than half of that
 pub view_few : (d : Definition) (room : ℕ) (c : Config) → IsSafeView d room c → HasFewTasks room c
 view_few d room c safe = few_alike room safe.safe.at c safe.safe.stands.view (safe.safe.safe.few [] tt safe.safe.at (reaches_here d safe.safe.at))
+
+-- so there is room for one task more, and a vector for it
+pub view_room : (d : Definition) (e : Engine) → IsSafeView d (vec_capacity e.stack.tasks) (config_of d e) → HasRoom 1 e
+view_room d e safe =
+    let few = view_few d (vec_capacity e.stack.tasks) (config_of d e) safe in
+    let hs = e.world.handlers.handlers in
+    (omega (arith, few.0, tasks_counted d hs e.stack), omega (arith, few.1, frames_few d hs e.stack))
 
 -- names mean what they mean in the definition
 pub view_meanings : (d : Definition) {room : ℕ} (c : Config) → IsSafeView d room c → KeepsMeanings d c.world

@@ -1,6 +1,6 @@
 -- Configurations from which nothing is ever stuck, each question is apt, all that is named lives, names mean what they mean in the
 -- definition, numbers are left, and tasks are few.
-use Rattle.std.specs.Prelude.{◌≡◌, ℕ, ◌<◌, IfSome, IsSomeAnd, None, length, slice_get}
+use Rattle.std.specs.Prelude.{◌≡◌, ℕ, ◌+◌, ◌*◌, ◌<◌, ◌≤◌, IfSome, IsSomeAnd, None, length, slice_get}
 use Rattle.ui_machine.specs.Definition.{Definition}
 use Rattle.ui_machine.specs.State.Config.{Config}
 use Rattle.ui_machine.specs.State.Peers.{Question}
@@ -11,6 +11,7 @@ use Rattle.law_left_numbers.specs.Identities.{HasIdentities}
 use Rattle.law_sessions.specs.Dispatches.{Throughout}
 use Rattle.law_meanings.specs.Meanings.{HasMeanings}
 use Rattle.law_sessions.specs.Safe.{Safe}
+use Rattle.law_typing.specs.Good.Agenda.{frames}
 use Rattle.law_typing.specs.Good.Living.{AllNamesLiving}
 use Rattle.engine_pools.specs.Following.{Point, Stands}
 use Rattle.engine_pools.specs.PoolView.{Takes}
@@ -33,9 +34,9 @@ pub record HasNumbersLeft (c : Config) : Type 0 where
   pub identities : HasIdentities c
   pub handlers : HasHandlerNumbers c
 
--- fewer tasks are left than there is room for
+-- fewer tasks are left than there is room for, and fewer frames than half of that
 abbrev pub HasFewTasks : (room : ℕ) → Config → Type 0
-HasFewTasks room c = length c.agenda < room
+HasFewTasks room c = (length c.agenda < room) × (2 * (frames c.agenda + 1) ≤ room)
 
 -- a configuration from which no run is stuck, or has more than so many frames, each question is apt, all that is named lives, names mean
 -- what they mean in the definition, there are numbers for what is still to be made and connected, and there are fewer tasks than there is

@@ -1,6 +1,6 @@
 //! Emissions: their beginning, their turns and their end (GObject manual, Signals: `g_signal_emit`).
 
-ghost use Rattle.std.specs.Prelude.{◌≡◌, ◌≤◌, ◌+◌, ◌∷◌, [], ℕ, None, Some, map, option_map, string_bytes, true, IfSome, IfOk, OnOk, OnErr};
+ghost use Rattle.std.specs.Prelude.{◌≡◌, ◌+◌, ◌∷◌, [], ℕ, None, Some, map, option_map, string_bytes, true, IfSome, IfOk, OnOk, OnErr};
 ghost use Rattle.ui_machine.specs.Definition as machine;
 ghost use Rattle.ui_machine.specs.Seq.{total};
 ghost use Rattle.ui_machine.specs.Output.Lines as lines;

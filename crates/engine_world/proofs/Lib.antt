@@ -26,6 +26,7 @@ pub mod GotPeers
 pub mod PeerNumbers
 pub mod SameTurns
 pub mod Signals
+pub mod RoomLeft
 pub mod Rooms
 pub mod HandlerAdded
 pub mod Prototypes

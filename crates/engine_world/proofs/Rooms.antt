@@ -14,12 +14,14 @@ use Rattle.std.specs.Global.{Global}
 use Rattle.g_values.specs.declared.value.Value.{Value}
 use Rattle.g_values.specs.View.{value_view}
 use Rattle.bytecode.specs.Computing.{registers_of}
+use Rattle.law_typing.specs.Good.Agenda.{frames, is_frame}
 use Rattle.instance_tables.proofs.Few.{same_most, value_most}
 use Rattle.instance_tables.specs.Store.{Store, count_of, may_hold}
 use Rattle.engine_world.proofs.Lists.{total-append}
 use Rattle.frames.specs.FrameView.{frame_view}
 use Rattle.frames.specs.declared.frame.Frame.{Frame}
 use Rattle.engine_world.specs.Counting.{Counts, IsCounted, in_frame}
+use Rattle.engine_world.specs.TaskFrames.{framed, is_framed}
 use Rattle.engine_world.specs.TaskView.{agenda_of, task_in, task_of, tasks_of}
 use Rattle.engine_world.specs.View.{held_of}
 use Rattle.engine_world.specs.declared.engine.Engine.{Engine}
@@ -147,6 +149,39 @@ agenda_most d hs s o =
 -- as many tasks are left as lie in the stack
 pub tasks_counted : (d : machine.Definition) (hs : List Handler) (s : Stack) → length (tasks_of d hs s) ≡ vec_len s.tasks
 tasks_counted d hs s = length-reverse (map (task_of d hs) s.tasks.items) ∙ length-map s.tasks.items (task_of d hs) ∙ sym s.tasks.ok.0
+
+-- each program and each emission among them is a frame
+framed_is_frame : (d : machine.Definition) (hs : List Handler) (t : Task) → is_framed t ≤ is_frame (task_of d hs t)
+framed_is_frame d hs (tasks.Setting id slot v) = omega arith
+framed_is_frame d hs (tasks.Notifying id slot) = omega arith
+framed_is_frame d hs (tasks.Beginning e) = omega arith
+framed_is_frame d hs (tasks.Emitting f) = omega arith
+framed_is_frame d hs (tasks.Running frame) = omega arith
+framed_is_frame d hs (tasks.Thawing id slots) = omega arith
+framed_is_frame d hs (tasks.Constructing f) = omega arith
+framed_is_frame d hs (tasks.Building place forwards) = omega arith
+framed_is_frame d hs (tasks.Adopting place forwards) = omega arith
+framed_is_frame d hs (tasks.Transferring number back) = omega arith
+framed_is_frame d hs (tasks.Unsetting number) = omega arith
+framed_is_frame d hs (tasks.Binding number) = omega arith
+framed_is_frame d hs (tasks.Connecting place number) = omega arith
+framed_is_frame d hs (tasks.Answering source) = omega arith
+framed_is_frame d hs (tasks.Calling call) = omega arith
+framed_is_frame d hs (tasks.Due source) = omega arith
+framed_is_frame d hs (tasks.Handling event) = omega arith
+
+total_framed : (d : machine.Definition) (hs : List Handler) (ts : List Task) → total is_framed ts ≤ total (λ t. is_frame (task_of d hs t)) ts
+total_framed d hs [] = omega arith
+total_framed d hs (t ∷ ts) = omega (arith, framed_is_frame d hs t, total_framed d hs ts)
+
+pub frames_few : (d : machine.Definition) (hs : List Handler) (s : Stack) → framed s.tasks ≤ frames (tasks_of d hs s)
+frames_few d hs s =
+    omega (
+      arith,
+      total_framed d hs s.tasks.items,
+      total_mapped is_frame (task_of d hs) s.tasks.items,
+      total_reversed is_frame (map (task_of d hs) s.tasks.items),
+    )
 
 -- ** all that holds an object
 

@@ -9,7 +9,7 @@ use Rattle.frame_stacks.specs.Stocks.{Kept}
 use Rattle.engine_world.specs.BuildTasks.{is_of_build}
 use Rattle.engine_world.specs.FirstEmissions.{stop_in, with_last}
 use Rattle.engine_world.specs.KnownHandlers.{TakesKnownHandlers}
-use Rattle.engine_world.specs.TaskFrames.{IsStocked, args_used, registers_used}
+use Rattle.engine_world.specs.TaskFrames.{IsStocked, args_used, framed, is_framed, registers_used}
 use Rattle.engine_world.specs.declared.emission_frames.EmissionFrame.{EmissionFrame}
 use Rattle.engine_world.specs.declared.task.Task.{Task}
 use Rattle.engine_world.specs.declared.task.Task.TheVariants as tasks
@@ -79,6 +79,25 @@ stop_args room (tasks.Answering source) = refl
 stop_args room (tasks.Calling call) = refl
 stop_args room (tasks.Due source) = refl
 stop_args room (tasks.Handling event) = refl
+
+stop_framed : (t : Task) → is_framed (stop_in t) ≡ is_framed t
+stop_framed (tasks.Emitting f) = refl
+stop_framed (tasks.Setting id slot v) = refl
+stop_framed (tasks.Notifying id slot) = refl
+stop_framed (tasks.Beginning e) = refl
+stop_framed (tasks.Running frame) = refl
+stop_framed (tasks.Thawing id slots) = refl
+stop_framed (tasks.Constructing construction) = refl
+stop_framed (tasks.Building place forwards) = refl
+stop_framed (tasks.Adopting place forwards) = refl
+stop_framed (tasks.Transferring number back) = refl
+stop_framed (tasks.Unsetting number) = refl
+stop_framed (tasks.Binding number) = refl
+stop_framed (tasks.Connecting place number) = refl
+stop_framed (tasks.Answering source) = refl
+stop_framed (tasks.Calling call) = refl
+stop_framed (tasks.Due source) = refl
+stop_framed (tasks.Handling event) = refl
 
 stop_build : (t : Task) → is_of_build (stop_in t) ≡ is_of_build t
 stop_build (tasks.Emitting f) = refl
@@ -176,15 +195,17 @@ below_known last (x ∷ y ∷ ys) first all =
 
 -- ** stocks
 
+-- what tasks come to, where a stop leaves it of each
+total_stays : (of : Task → ℕ) → ((t : Task) → of (stop_in t) ≡ of t) → (tasks new : Vec Task Global) (below : List Task) (first : Task)
+    → tasks.items ≡ below ++ first ∷ [] → new.items ≡ with_last stop_in below ++ first ∷ [] → total of new.items ≡ total of tasks.items
+total_stays of same tasks new below first was now = ap (total of) now ∙ below_total of same below first ∙ sym (ap (total of) was)
+
 module _ (used : ℕ → Task → ℕ) (same : (room : ℕ) (t : Task) → used room (stop_in t) ≡ used room t) (tasks new : Vec Task Global) (stock : Kept) (s : IsStocked used tasks stock)
     (room : vec_capacity new ≡ vec_capacity tasks) (below : List Task) (first : Task) (was : tasks.items ≡ below ++ first ∷ []) (now : new.items ≡ with_last stop_in below ++ first ∷ []) where
   still_stocked : IsStocked used new stock
   still_stocked = record {
-    left =
-        let had = used stock.room in
-        let sum : total had new.items ≡ total had tasks.items = ap (total had) now ∙ below_total had (same stock.room) below first ∙ sym (ap (total had) was) in
-        omega (arith, s.left, sum, room);
-    places = omega (arith, s.places, room);
+    left = (let sum = total_stays (used stock.room) (same stock.room) tasks new below first was now in omega (arith, s.left, sum));
+    enough = omega (arith, s.enough, room);
   }
 
 pub registers_stay : (tasks new : Vec Task Global) (stock : Kept) → IsStocked registers_used tasks stock → vec_capacity new ≡ vec_capacity tasks → (below : List Task) (first : Task)
@@ -194,6 +215,10 @@ registers_stay = still_stocked registers_used stop_registers
 pub args_stay : (tasks new : Vec Task Global) (stock : Kept) → IsStocked args_used tasks stock → vec_capacity new ≡ vec_capacity tasks → (below : List Task) (first : Task)
     → tasks.items ≡ below ++ first ∷ [] → new.items ≡ with_last stop_in below ++ first ∷ [] → IsStocked args_used new stock
 args_stay = still_stocked args_used stop_args
+
+pub frames_stay : (tasks new : Vec Task Global) (below : List Task) (first : Task)
+    → tasks.items ≡ below ++ first ∷ [] → new.items ≡ with_last stop_in below ++ first ∷ [] → framed new ≡ framed tasks
+frames_stay = total_stays is_framed stop_framed
 
 module _ (tasks new : Vec Task Global) (below : List Task) (first : Task) (was : tasks.items ≡ below ++ first ∷ []) (now : new.items ≡ with_last stop_in below ++ first ∷ []) where
   pub within_stays : (lowest : ℕ) → lowest ≤ length tasks.items → lowest ≤ length new.items

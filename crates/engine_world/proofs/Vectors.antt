@@ -9,14 +9,16 @@ use Rattle.engine_world.specs.TaskView.{task_of}
 use Rattle.std.specs.List.{list_any}
 use Rattle.std.proofs.lemmas.Bool.Decides.{nat_tests}
 use Rattle.engine_world.specs.BuildTasks.{is_of_build}
-use Rattle.std.proofs.Common.{◌≡◌, ◌∙◌, ◌||◌, zero, suc, min, nat_lt, drop, map, reverse, ℕ, ◌+◌, ◌-◌, ◌≤◌, ◌<◌, List, [], ◌∷◌, ◌++◌, Option, None, Some, option_and_then, Vec, vec_capacity, vec_len, length, nat_eq, Bool, true, false, cond, slice_get, slice_set, refl, ap, sym, subst, arith}
+use Rattle.std.proofs.Common.{◌≡◌, ◌∙◌, ◌||◌, zero, suc, min, nat_lt, drop, map, reverse, ℕ, ◌+◌, ◌-◌, ◌≤◌, ◌<◌, List, [], ◌∷◌, ◌++◌, Option, None, Some, is_some, option_and_then, Vec, vec_capacity, vec_len, length, nat_eq, Bool, true, false, cond, slice_get, slice_set, refl, ap, sym, subst, arith}
 use Rattle.std.specs.Global.{Global}
 use Rattle.std.specs.Option.{option_to_list}
 use Rattle.ui_machine.specs.Seq.{total}
 use Rattle.frame_stacks.specs.Stocks.{Kept, is_usual}
+use Rattle.frames.specs.declared.frame.Frame.{Frame}
 use Rattle.engine_world.specs.FirstEmissions.{first_emission}
 use Rattle.engine_world.specs.FirstPrograms.{first_program}
-use Rattle.engine_world.specs.TaskFrames.{IsFrameless, IsStocked, args_had, args_used, emission_in, program_in, registers_had, registers_used}
+use Rattle.engine_world.specs.TaskFrames.{HasPlaces, IsFrameless, IsStocked, args_had, args_used, emission_in, framed, is_framed, program_in, registers_had, registers_used}
+use Rattle.engine_world.specs.declared.emission_frames.EmissionFrame.{EmissionFrame}
 use Rattle.engine_world.specs.declared.task.Task.{Task}
 use Rattle.engine_world.proofs.FirstPrograms.{Ending, ends_with, first_of_last, last_found}
 use Rattle.engine_world.proofs.Lists.{total-append}
@@ -29,89 +31,107 @@ usual_most room v = by (nat_eq (vec_capacity v) room)
     by true = omega arith
     by false = omega arith
 
-registers_most : (room : ℕ) (t : Task) → registers_used room t ≤ 1
-registers_most room t = by (program_in t)
+-- only a program has a vector for registers, and only an emission one for arguments
+registers_most : (room : ℕ) (t : Task) → registers_used room t ≤ is_framed t
+registers_most room t = by (program_in t) (is_some (emission_in t))
   where
-    by : (o : Option _) → registers_had room o ≤ 1
-    by None = omega arith
-    by (Some f) = usual_most room f.registers
+    by : (o : Option Frame) (b : Bool) → registers_had room o ≤ cond (is_some o || b) 1 0
+    by None true = omega arith
+    by None false = omega arith
+    by (Some f) b = usual_most room f.registers
 
-args_most : (room : ℕ) (t : Task) → args_used room t ≤ 1
-args_most room t = by (emission_in t)
+args_most : (room : ℕ) (t : Task) → args_used room t ≤ is_framed t
+args_most room t = by (is_some (program_in t)) (emission_in t)
   where
-    by : (o : Option _) → args_had room o ≤ 1
-    by None = omega arith
-    by (Some f) = usual_most room f.args
+    by : (b : Bool) (o : Option EmissionFrame) → args_had room o ≤ cond (b || is_some o) 1 0
+    by true None = omega arith
+    by false None = omega arith
+    by true (Some f) = usual_most room f.args
+    by false (Some f) = usual_most room f.args
 
-total_few : (used : Task → ℕ) → ((t : Task) → used t ≤ 1) → (ts : List Task) → total used ts ≤ length ts
-total_few used few [] = omega arith
-total_few used few (t ∷ ts) = omega (arith, few t, total_few used few ts)
+total_few : (used most : Task → ℕ) → ((t : Task) → used t ≤ most t) → (ts : List Task) → total used ts ≤ total most ts
+total_few used most few [] = omega arith
+total_few used most few (t ∷ ts) = omega (arith, few t, total_few used most few ts)
 
--- ** a vector is left while a task has room
+-- ** a vector is left while programs and emissions are fewer than half of what has room
 
-left_one : (used : ℕ → Task → ℕ) → ((room : ℕ) (t : Task) → used room t ≤ 1) → (tasks : Vec Task Global) (stock : Kept) → IsStocked used tasks stock
-    → vec_len tasks < vec_capacity tasks → 0 < stock.count
-left_one used few tasks stock s room = omega (arith, s.left, room, total_few (used stock.room) (few stock.room) tasks.items, tasks.ok.0)
+left_one : (used : ℕ → Task → ℕ) → ((room : ℕ) (t : Task) → used room t ≤ is_framed t) → (tasks : Vec Task Global) (stock : Kept) → IsStocked used tasks stock
+    → HasPlaces 1 tasks → 0 < stock.count
+left_one used few tasks stock s room = omega (arith, s.left, s.enough, room.1, total_few (used stock.room) is_framed (few stock.room) tasks.items)
 
-pub registers_left : (tasks : Vec Task Global) (stock : Kept) → IsStocked registers_used tasks stock → vec_len tasks < vec_capacity tasks → 0 < stock.count
+pub registers_left : (tasks : Vec Task Global) (stock : Kept) → IsStocked registers_used tasks stock → HasPlaces 1 tasks → 0 < stock.count
 registers_left = left_one registers_used registers_most
 
-pub args_left : (tasks : Vec Task Global) (stock : Kept) → IsStocked args_used tasks stock → vec_len tasks < vec_capacity tasks → 0 < stock.count
+pub args_left : (tasks : Vec Task Global) (stock : Kept) → IsStocked args_used tasks stock → HasPlaces 1 tasks → 0 < stock.count
 args_left = left_one args_used args_most
 
 -- ** tasks that come and go
 
+-- one more of them
+total_more : (of : Task → ℕ) (tasks new : Vec Task Global) (t : Task) → new.items ≡ tasks.items ++ t ∷ [] → total of new.items ≡ total of tasks.items + of t
+total_more of tasks new t items =
+    let sum : total of new.items ≡ total of tasks.items + total of (t ∷ []) = ap (total of) items ∙ total-append of tasks.items (t ∷ []) in
+    omega (arith, sum)
+
+-- another last one
+total_set : (of : Task → ℕ) (tasks : Vec Task Global) (new : List Task) (was now : Task) → Ending (vec_len tasks) tasks.items was → new ≡ slice_set tasks.items (vec_len tasks - 1) now
+    → of now ≡ of was → total of new ≡ total of tasks.items
+total_set of tasks new was now e items same =
+    let before : total of tasks.items ≡ total of e.front + total of (was ∷ []) = ap (total of) e.whole ∙ total-append of e.front (was ∷ []) in
+    let after : total of new ≡ total of e.front + total of (now ∷ []) = ap (total of) (items ∙ ends_with (vec_len tasks) tasks.items was now e) ∙ total-append of e.front (now ∷ []) in
+    omega (arith, before, after, same)
+
 module _ (used : ℕ → Task → ℕ) (tasks new : Vec Task Global) (stock : Kept) (room : vec_capacity new ≡ vec_capacity tasks) (s : IsStocked used tasks stock) (t : Task) where
-  more : new.items ≡ tasks.items ++ t ∷ [] → total (used stock.room) new.items ≡ total (used stock.room) tasks.items + used stock.room t
-  more items =
-      let sum : total (used stock.room) new.items ≡ total (used stock.room) tasks.items + total (used stock.room) (t ∷ []) =
-      ap (total (used stock.room)) items ∙ total-append (used stock.room) tasks.items (t ∷ []) in
-      omega (arith, sum)
-
-  less : tasks.items ≡ new.items ++ t ∷ [] → total (used stock.room) tasks.items ≡ total (used stock.room) new.items + used stock.room t
-  less items =
-      let sum : total (used stock.room) tasks.items ≡ total (used stock.room) new.items + total (used stock.room) (t ∷ []) =
-      ap (total (used stock.room)) items ∙ total-append (used stock.room) new.items (t ∷ []) in
-      omega (arith, sum)
-
   -- one comes with what it took of the stock
   pub stocked_more : (taken : Kept) → new.items ≡ tasks.items ++ t ∷ [] → taken.count + used stock.room t ≡ stock.count → taken ≡ record stock { count = taken.count } → IsStocked used new taken
   stocked_more taken items count beside =
       subst (λ (k : Kept). IsStocked used new k) (sym beside) (record {
-        left = (let sum = more items in omega (arith, s.left, sum, count, room));
-        places = omega (arith, s.places, room);
+        left = (let sum = total_more (used stock.room) tasks new t items in omega (arith, s.left, sum, count));
+        enough = omega (arith, s.enough, room);
       })
 
   -- one that took nothing
   pub stocked_plain : new.items ≡ tasks.items ++ t ∷ [] → used stock.room t ≡ 0 → IsStocked used new stock
-  stocked_plain items none = record { left = (let sum = more items in omega (arith, s.left, sum, none, room)); places = omega (arith, s.places, room) }
+  stocked_plain items none = record { left = (let sum = total_more (used stock.room) tasks new t items in omega (arith, s.left, sum, none)); enough = omega (arith, s.enough, room) }
 
   -- one goes, and gives back what it had
   pub stocked_less : (given : Kept) → tasks.items ≡ new.items ++ t ∷ [] → given ≡ record stock { count = stock.count + used stock.room t } → IsStocked used new given
   stocked_less given items is =
       subst (λ (k : Kept). IsStocked used new k) (sym is)
-      (record { left = (let sum = less items in omega (arith, s.left, sum, room)); places = omega (arith, s.places, room) })
+      (record { left = (let sum = total_more (used stock.room) new tasks t items in omega (arith, s.left, sum)); enough = omega (arith, s.enough, room) })
 
   -- one that had nothing
   pub stocked_gone : tasks.items ≡ new.items ++ t ∷ [] → used stock.room t ≡ 0 → IsStocked used new stock
-  stocked_gone items none = record { left = (let sum = less items in omega (arith, s.left, sum, none, room)); places = omega (arith, s.places, room) }
+  stocked_gone items none = record { left = (let sum = total_more (used stock.room) new tasks t items in omega (arith, s.left, sum, none)); enough = omega (arith, s.enough, room) }
 
   -- there is a place for what it had
   pub has_place : tasks.items ≡ new.items ++ t ∷ [] → stock.count + used stock.room t ≤ stock.most
-  has_place items = let sum = less items in omega (arith, s.left, s.places, sum)
+  has_place items = let sum = total_more (used stock.room) new tasks t items in omega (arith, s.left, sum)
 
 -- the last one changes, and has what it had
 pub stocked_set : (used : ℕ → Task → ℕ) (tasks : Vec Task Global) (stock : Kept) → IsStocked used tasks stock → (new : Vec Task Global) → vec_capacity new ≡ vec_capacity tasks
     → (was now : Task) → Ending (vec_len tasks) tasks.items was → new.items ≡ slice_set tasks.items (vec_len tasks - 1) now → used stock.room now ≡ used stock.room was
     → IsStocked used new stock
 stocked_set used tasks stock s new room was now e items same = record {
-  left =
-      let had = used stock.room in
-      let before : total had tasks.items ≡ total had e.front + total had (was ∷ []) = ap (total had) e.whole ∙ total-append had e.front (was ∷ []) in
-      let after : total had new.items ≡ total had e.front + total had (now ∷ []) = ap (total had) (items ∙ ends_with (vec_len tasks) tasks.items was now e) ∙ total-append had e.front (now ∷ []) in
-      omega (arith, s.left, before, after, same, room);
-  places = omega (arith, s.places, room);
+  left = (let sum = total_set (used stock.room) tasks new.items was now e items same in omega (arith, s.left, sum));
+  enough = omega (arith, s.enough, room);
 }
+
+-- ** how many are programs and emissions
+
+pub framed_more : (tasks new : Vec Task Global) (t : Task) → is_framed t ≡ 1 → new.items ≡ tasks.items ++ t ∷ [] → framed new ≡ framed tasks + 1
+framed_more tasks new t one items = let sum = total_more is_framed tasks new t items in omega (arith, sum, one)
+
+-- a task that is neither is none of them
+not_framed : (t : Task) → IsFrameless t → is_framed t ≡ 0
+not_framed t none = rw (none.program, none.emission) refl
+
+pub framed_plain : (tasks new : Vec Task Global) (t : Task) → IsFrameless t → new.items ≡ tasks.items ++ t ∷ [] → framed new ≡ framed tasks
+framed_plain tasks new t none items = let sum = total_more is_framed tasks new t items in let zero = not_framed t none in omega (arith, sum, zero)
+
+pub framed_set : (tasks : Vec Task Global) (new : List Task) (was now : Task) → Ending (vec_len tasks) tasks.items was → new ≡ slice_set tasks.items (vec_len tasks - 1) now
+    → is_framed now ≡ is_framed was → total is_framed new ≡ framed tasks
+framed_set = total_set is_framed
 
 -- ** what was taken off
 
@@ -141,10 +161,16 @@ stocked_pop used tasks new stock room s None items none = record {
   left =
       let had = used stock.room in
       let sum : total had tasks.items ≡ total had new.items + total had [] = ap (total had) items ∙ total-append had new.items [] in
-      omega (arith, s.left, sum, room);
-  places = omega (arith, s.places, room);
+      omega (arith, s.left, sum);
+  enough = omega (arith, s.enough, room);
 }
 stocked_pop used tasks new stock room s (Some t) items none = stocked_gone used tasks new stock room s t items (none t refl)
+
+pub framed_pop : (tasks new : Vec Task Global) (o : Option Task) → tasks.items ≡ new.items ++ option_to_list o → ((t : Task) → o ≡ Some t → IsFrameless t) → framed new ≡ framed tasks
+framed_pop tasks new None items none =
+    let sum : framed tasks ≡ framed new + total is_framed [] = ap (total is_framed) items ∙ total-append is_framed new.items [] in
+    omega (arith, sum)
+framed_pop tasks new (Some t) items none = sym (framed_plain new tasks t (none t refl) items)
 
 pub popped_frameless : (items rest : List Task) (o : Option Task) → items ≡ rest ++ option_to_list o → first_program items ≡ None → first_emission items ≡ None → IfSome o IsFrameless
 popped_frameless items rest None is program emission = tt

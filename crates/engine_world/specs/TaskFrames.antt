@@ -1,5 +1,5 @@
 -- The frames among the tasks, and the vectors that programs and emissions have of a stack's stocks.
-use Rattle.std.specs.Prelude.{◌≡◌, ℕ, ◌+◌, ◌≤◌, Option, None, Some, Vec, vec_capacity}
+use Rattle.std.specs.Prelude.{◌≡◌, ℕ, ◌+◌, ◌*◌, ◌≤◌, ◌||◌, Option, None, Some, Vec, cond, is_some, vec_capacity, vec_len}
 use Rattle.std.specs.Global.{Global}
 use Rattle.ui_machine.specs.Seq.{total}
 use Rattle.frame_stacks.specs.Stocks.{Kept, is_usual}
@@ -17,6 +17,18 @@ program_in _ = None
 abbrev pub emission_in : Task → Option EmissionFrame
 emission_in (tasks.Emitting frame) = Some frame
 emission_in _ = None
+
+-- 1 for a program or an emission that goes on, and 0 for any other task
+abbrev pub is_framed : Task → ℕ
+is_framed t = cond (is_some (program_in t) || is_some (emission_in t)) 1 0
+
+-- how many of these tasks are programs or emissions
+abbrev pub framed : Vec Task Global → ℕ
+framed tasks = total is_framed tasks.items
+
+-- so many tasks more have room, and there is a vector for one of them, if it is a program or an emission
+abbrev pub HasPlaces : ℕ → Vec Task Global → Type 0
+HasPlaces more tasks = (vec_len tasks + more ≤ vec_capacity tasks) × (2 * (framed tasks + 1) ≤ vec_capacity tasks)
 
 -- ** vectors
 
@@ -37,10 +49,11 @@ registers_used room t = registers_had room (program_in t)
 abbrev pub args_used : (room : ℕ) → Task → ℕ
 args_used room t = args_had room (emission_in t)
 
--- With those that the tasks have there is a vector for each task that has room. So one is left while one more task has room.
+-- The vectors that tasks have and those that are left are all that there are, and there is one for every second task that has room. So one is
+-- left while fewer than half of what has room are programs and emissions.
 pub record IsStocked (used : (room : ℕ) → Task → ℕ) (tasks : Vec Task Global) (stock : Kept) : Type 0 where
-  pub left : total (used stock.room) tasks.items + stock.count ≡ vec_capacity tasks
-  pub places : vec_capacity tasks ≤ stock.most
+  pub left : total (used stock.room) tasks.items + stock.count ≡ stock.most
+  pub enough : vec_capacity tasks ≤ 2 * stock.most + 1
 
 -- a task that is neither a program nor an emission that goes on, and so has no vector of a stock
 pub record IsFrameless (t : Task) : Type 0 where

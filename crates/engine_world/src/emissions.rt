@@ -10,7 +10,7 @@ ghost use Rattle.engine_world.specs.Counting.{Counts, MayBeHeld, OnlyTasks, in_e
 ghost use Rattle.engine_world.specs.FirstEmissions.{IsEmission, emitted_of, emitting, first_emitted};
 ghost use Rattle.engine_world.specs.FirstPrograms.{rest_of};
 ghost use Rattle.engine_world.specs.KnownHandlers.{EndsWithoutTransfers};
-ghost use Rattle.engine_world.specs.Room.{HasRoom, SameRoom, TakesRoom};
+ghost use Rattle.engine_world.specs.Room.{HasRoom, SameRoom, TakesFrame};
 ghost use Rattle.engine_world.specs.TaskView.{agenda_of, emission_of};
 ghost use Rattle.engine_world.specs.View.{world_of};
 
@@ -42,7 +42,7 @@ pub fn push_emission(
     ensures handlers { engine.new.world.handlers ≡ engine.old.world.handlers }
     ensures counted { (d : machine.Definition) (taken : ℕ → ℕ)
         → Counts d (λ o. taken o + in_emitted o (emission_of cursor values.old.items by_event)) engine.old → Counts d taken engine.new }
-    ensures room { TakesRoom 1 engine.old engine.new }
+    ensures room { TakesFrame engine.old engine.new }
 {
     // For the proof: what lives may be held once more.
     never_full(engine);

@@ -3,6 +3,7 @@
 ghost use Rattle.std.specs.Prelude.{◌≡◌, [], ◌∷◌, option_map, vec_capacity, vec_len, IsSome, MatchOption};
 ghost use Rattle.engine_world.specs.FirstConstructions.{IsReconstructed, first_construction, stack_construction};
 ghost use Rattle.engine_world.specs.MakingView.{making_of_code};
+ghost use Rattle.engine_world.specs.TaskFrames.{framed};
 
 use crate::construction_frames::ConstructionFrame;
 use crate::stacks::Stack;
@@ -30,6 +31,7 @@ impl Stack {
             (λ step. (stack_construction self.old).steps ≡ making_of_code step ∷ (stack_construction self.new).steps) }
         ensures construction { stack_construction self.new ≡ record (stack_construction self.old) { steps = (stack_construction self.new).steps } }
         ensures constructs { IsReconstructed self.old self.new }
+        ensures frames { framed self.new.tasks ≡ framed self.old.tasks }
         ensures room { (vec_len self.new.tasks ≡ vec_len self.old.tasks) × (vec_capacity self.new.tasks ≡ vec_capacity self.old.tasks) }
     {
         let Some(task) = self.tasks.last_mut() else {

@@ -1,6 +1,6 @@
 //! The emission that is the first task, which goes on in its place.
 
-ghost use Rattle.std.specs.Prelude.{◌≡◌, ℕ, ◌+◌, ◌<◌, List, [], ◌∷◌, cond, drop, option_map, vec_capacity, vec_len, IsSome, MatchOption};
+ghost use Rattle.std.specs.Prelude.{◌≡◌, ℕ, ◌+◌, List, [], ◌∷◌, cond, drop, option_map, vec_capacity, vec_len, IsSome, MatchOption};
 ghost use Rattle.ui_machine.specs.Definition as machine;
 ghost use Rattle.ui_machine.specs.State.Handlers.{Handler};
 ghost use Rattle.bindings.specs.Due.{from_ready};
@@ -9,6 +9,7 @@ ghost use Rattle.signal_core.specs.Emission.{collected, next_step, stage_after, 
 ghost use Rattle.engine_world.specs.FirstEmissions.{EmitsKnown, IsReemitted, StopsBelow, emitted_of, emitting, first_emission, stack_emission, stop_in, with_last};
 ghost use Rattle.engine_world.specs.FirstPrograms.{first_program};
 ghost use Rattle.engine_world.specs.KnownHandlers.{AllTakeKnownHandlers};
+ghost use Rattle.engine_world.specs.TaskFrames.{HasPlaces, framed};
 ghost use Rattle.engine_world.specs.TaskView.{tasks_of};
 ghost use Rattle.engine_world.specs.TransferView.{due_later, due_now};
 ghost use Rattle.engine_world.specs.declared.task.Transfers.TheVariants as at;
@@ -45,13 +46,14 @@ impl Stack {
         by_event: bool,
         transfers: Transfers,
     )
-        requires room { vec_len self.now.tasks < vec_capacity self.now.tasks }
+        requires room { HasPlaces 1 self.now.tasks }
         ensures tasks { (d : machine.Definition) (hs : List Handler)
             → tasks_of d hs self.new ≡ emitting (record { walk = cursor; args = values.old.items; by_event = by_event; transfers = transfers }) hs ∷ tasks_of d hs self.old }
         ensures emptied { values.new.items ≡ [] }
         ensures begun { (last : ℕ) → EmitsKnown last (record { walk = cursor; args = values.old.items; by_event = by_event; transfers = transfers })
             → AllTakeKnownHandlers last self.old → AllTakeKnownHandlers last self.new }
         ensures taken { vec_len self.new.tasks ≡ vec_len self.old.tasks + 1 }
+        ensures frames { framed self.new.tasks ≡ framed self.old.tasks + 1 }
         ensures room { vec_capacity self.new.tasks ≡ vec_capacity self.old.tasks }
     {
         let args = self.args.keep(alloc, values);
@@ -71,6 +73,7 @@ impl Stack {
         ensures tasks { (d : machine.Definition) (hs : List Handler) → tasks_of d hs self.new ≡ drop 1 (tasks_of d hs self.old) }
         ensures begun { (last : ℕ) → AllTakeKnownHandlers last self.old → AllTakeKnownHandlers last self.new }
         ensures given { vec_len self.old.tasks ≡ vec_len self.new.tasks + 1 }
+        ensures frames { framed self.old.tasks ≡ framed self.new.tasks + 1 }
         ensures room { vec_capacity self.new.tasks ≡ vec_capacity self.old.tasks }
     {
         let Some(task) = self.tasks.pop() else {
@@ -89,6 +92,7 @@ impl Stack {
     pub fn stop_below(&mut self, alloc: Global)
         requires there { IsSome (first_program self.now.tasks.items) }
         ensures stops { StopsBelow self.old self.new }
+        ensures frames { framed self.new.tasks ≡ framed self.old.tasks }
         ensures room { (vec_len self.new.tasks ≡ vec_len self.old.tasks) × (vec_capacity self.new.tasks ≡ vec_capacity self.old.tasks) }
     {
         let Some(first) = self.tasks.pop() else {
@@ -121,6 +125,7 @@ impl Stack {
         ensures later { due_later (stack_emission self.new).transfers ≡ due_later (stack_emission self.old).transfers }
         ensures emission { stack_emission self.new ≡ record (stack_emission self.old) { transfers = (stack_emission self.new).transfers } }
         ensures emits { IsReemitted self.old self.new }
+        ensures frames { framed self.new.tasks ≡ framed self.old.tasks }
         ensures room { (vec_len self.new.tasks ≡ vec_len self.old.tasks) × (vec_capacity self.new.tasks ≡ vec_capacity self.old.tasks) }
     {
         let Some(task) = self.tasks.last_mut() else {
@@ -139,6 +144,7 @@ impl Stack {
         ensures emission { stack_emission self.new
             ≡ record (stack_emission self.old) { walk = record (stack_emission self.old).walk { stage = stage_after (next_step (stack_emission self.old).walk handlers.now.handlers) } } }
         ensures emits { IsReemitted self.old self.new }
+        ensures frames { framed self.new.tasks ≡ framed self.old.tasks }
         ensures room { (vec_len self.new.tasks ≡ vec_len self.old.tasks) × (vec_capacity self.new.tasks ≡ vec_capacity self.old.tasks) }
     {
         let Some(task) = self.tasks.last_mut() else {
@@ -156,6 +162,7 @@ impl Stack {
         requires none { due_now (stack_emission self.now).transfers ≡ [] }
         ensures emission { stack_emission self.new ≡ record (stack_emission self.old) { transfers = at.Due (due_later (stack_emission self.old).transfers) } }
         ensures emits { IsReemitted self.old self.new }
+        ensures frames { framed self.new.tasks ≡ framed self.old.tasks }
         ensures room { (vec_len self.new.tasks ≡ vec_len self.old.tasks) × (vec_capacity self.new.tasks ≡ vec_capacity self.old.tasks) }
     {
         let Some(task) = self.tasks.last_mut() else {
@@ -173,6 +180,7 @@ impl Stack {
         ensures emission { stack_emission self.new
             ≡ record (stack_emission self.old) { walk = collected (value_view value) is_last (stack_emission self.old).walk; transfers = cond is_last (at.Due []) (stack_emission self.old).transfers } }
         ensures emits { IsReemitted self.old self.new }
+        ensures frames { framed self.new.tasks ≡ framed self.old.tasks }
         ensures room { (vec_len self.new.tasks ≡ vec_len self.old.tasks) × (vec_capacity self.new.tasks ≡ vec_capacity self.old.tasks) }
     {
         let Some(task) = self.tasks.last_mut() else {

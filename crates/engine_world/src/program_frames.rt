@@ -15,7 +15,7 @@ ghost use Rattle.bytecode.specs.Computing.{registers_of};
 ghost use Rattle.bytecode.specs.View.{program_view};
 ghost use Rattle.frames.specs.FrameView.{AreSet, frame_view, set_values};
 ghost use Rattle.engine_world.specs.FirstPrograms.{IsProgram, first_frame, rest_of};
-ghost use Rattle.engine_world.specs.Room.{HasRoom, SameRoom, TakesRoom};
+ghost use Rattle.engine_world.specs.Room.{HasRoom, SameRoom, TakesFrame, TakesRoom};
 ghost use Rattle.engine_world.specs.TaskView.{agenda_of};
 ghost use Rattle.engine_world.specs.View.{world_of};
 ghost use Rattle.engine_world.specs.Counting.{HoldsTasks, KeepsCounts, MayBeHeld, MayHold, OnlyTasks, in_frame};
@@ -92,7 +92,7 @@ pub fn push_program(
     ensures same { engine.new.counted ≡ engine.old.counted }
     ensures handlers { engine.new.world.handlers ≡ engine.old.world.handlers }
     ensures counted { (d : machine.Definition) → KeepsCounts d engine.old engine.new }
-    ensures room { TakesRoom 1 engine.old engine.new }
+    ensures room { TakesFrame engine.old engine.new }
 {
     // For the proof: what lives may be held so often.
     never_full(engine);

@@ -4,7 +4,7 @@
 //! built. A task holds its object from when it comes before the others until it is done. An emission holds its arguments and the value that
 //! it has accumulated from its beginning to its end, and a program holds what its registers name.
 
-ghost use Rattle.std.specs.Prelude.{◌≡◌, ℕ, ◌+◌, ◌<◌, ◌≤◌, ◌^◌, List, ◌∷◌, map, option_map, None, true, IsSome};
+ghost use Rattle.std.specs.Prelude.{◌≡◌, ℕ, ◌+◌, ◌<◌, ◌≤◌, ◌^◌, List, ◌∷◌, map, option_map, vec_capacity, vec_len, None, true, IsSome};
 ghost use Rattle.ui_machine.specs.Definition as machine;
 ghost use Rattle.ui_machine.specs.Seq.{total};
 ghost use Rattle.ui_machine.specs.State.Handlers.{Handler};
@@ -14,7 +14,7 @@ ghost use Rattle.g_values.specs.View.{value_view};
 ghost use Rattle.bytecode.specs.Computing.{registers_of};
 ghost use Rattle.instance_tables.specs.Store.{id_of, count_of, may_hold, named_by};
 ghost use Rattle.engine_world.specs.KnownHandlers.{TakesKnownHandlers};
-ghost use Rattle.engine_world.specs.Room.{HasRoom, TakesRoom};
+ghost use Rattle.engine_world.specs.Room.{TakesRoom};
 ghost use Rattle.engine_world.specs.View.{world_of};
 ghost use Rattle.engine_world.specs.TaskFrames.{IsFrameless};
 ghost use Rattle.engine_world.specs.TaskView.{task_of, task_in, agenda_of};
@@ -201,7 +201,7 @@ pub fn push_task(engine: &mut Engine, task: Task)
     requires frameless { IsFrameless task }
     requires begun { TakesKnownHandlers engine.now.world.handlers.last task }
     requires may { MayPush engine.now task }
-    requires room { HasRoom 1 engine.now }
+    requires room { vec_len engine.now.stack.tasks < vec_capacity engine.now.stack.tasks }
     ensures agenda { (d : machine.Definition) → agenda_of d engine.new ≡ task_in d engine.old task ∷ agenda_of d engine.old }
     ensures world { world_of engine.new.world ≡ world_of engine.old.world }
     ensures same { engine.new.counted ≡ engine.old.counted }

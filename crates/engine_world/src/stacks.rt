@@ -7,7 +7,7 @@ ghost use Rattle.g_values.specs.View.{value_view};
 ghost use Rattle.bytecode.specs.View.{instruction_view, number_of, program_view};
 ghost use Rattle.frames.specs.FrameView.{Takes, at_block, taken_in};
 ghost use Rattle.engine_world.specs.BuildTasks.{is_of_build};
-ghost use Rattle.engine_world.specs.TaskFrames.{IsFrameless, IsStocked, args_used, registers_used};
+ghost use Rattle.engine_world.specs.TaskFrames.{HasPlaces, IsFrameless, IsStocked, args_used, framed, registers_used};
 
 use crate::task::Task;
 use bytecode::{BlockNumber, Instruction, Program, Register};
@@ -17,8 +17,9 @@ use g_values::Value;
 use std::alloc::{AllocError, Global};
 use ui_machine::ProgramId;
 
-/// The tasks that are left, the first on top, in room that is reserved once. The tasks of the build lie at the bottom. For each task that
-/// has room there is a vector for registers and one for arguments, so that programs and emissions ask for no memory to begin.
+/// The tasks that are left, the first on top, in room that is reserved once. The tasks of the build lie at the bottom. For every second task
+/// that has room there is a vector for registers and one for arguments, so that programs and emissions ask for no memory to begin while
+/// they are fewer than half of what has room.
 #[derive(Drop)]
 pub struct Stack {
     pub tasks: Vec<Task>,
@@ -49,7 +50,8 @@ impl Stack {
     ghost use Rattle.engine_world.specs.KnownHandlers.{AllTakeKnownHandlers, TakesKnownHandlers};
     ghost use Rattle.engine_world.specs.TaskView.{task_of, tasks_of};
 
-    /// Creates an empty stack with room for `most` tasks, and with vectors for them: each for `registers` registers, or for `args` arguments.
+    /// Creates an empty stack with room for `most` tasks. For every second one it has a vector for `registers` registers, and one for `args`
+    /// arguments.
     ///
     /// # Errors
     ///
@@ -63,12 +65,13 @@ impl Stack {
         ensures tasks { IfOk result (λ s. (d : machine.Definition) (hs : List Handler) → tasks_of d hs s ≡ []) }
         ensures begun { IfOk result (λ s. (last : ℕ) → AllTakeKnownHandlers last s) }
         ensures room { IfOk result (λ s. vec_capacity s.tasks ≡ most) }
+        ensures vectors { IfOk result (λ s. (s.registers.room ≡ registers) × (s.args.room ≡ args)) }
     {
         Ok(Stack {
             tasks: Vec::with_capacity(alloc, most)?,
             lowest: 0,
-            registers: Stock::new(alloc, most, registers)?,
-            args: Stock::new(alloc, most, args)?,
+            registers: Stock::new(alloc, most / 2, registers)?,
+            args: Stock::new(alloc, most / 2, args)?,
         })
     }
 
@@ -79,6 +82,7 @@ impl Stack {
         ensures tasks { (d : machine.Definition) (hs : List Handler) → tasks_of d hs self.new ≡ task_of d hs task ∷ tasks_of d hs self.old }
         ensures begun { (last : ℕ) → TakesKnownHandlers last task → AllTakeKnownHandlers last self.old → AllTakeKnownHandlers last self.new }
         ensures taken { vec_len self.new.tasks ≡ vec_len self.old.tasks + 1 }
+        ensures frames { framed self.new.tasks ≡ framed self.old.tasks }
         ensures room { vec_capacity self.new.tasks ≡ vec_capacity self.old.tasks }
     {
         let is_of_build = task.is_of_build();
@@ -98,12 +102,13 @@ impl Stack {
         values: &mut Vec<Option<Value>>,
     )
         requires list { program.now.registers ≤ vec_capacity values.now }
-        requires room { vec_len self.now.tasks < vec_capacity self.now.tasks }
+        requires room { HasPlaces 1 self.now.tasks }
         ensures tasks { (d : machine.Definition) (hs : List Handler) (args : List machine_values.Value) → registers_of values.old.items ≡ map (λ v. Some v) args
             → tasks_of d hs self.new ≡ config.Running (first_frame number (program_view program.now) args) ∷ tasks_of d hs self.old }
         ensures emptied { values.new.items ≡ [] }
         ensures begun { (last : ℕ) → AllTakeKnownHandlers last self.old → AllTakeKnownHandlers last self.new }
         ensures taken { vec_len self.new.tasks ≡ vec_len self.old.tasks + 1 }
+        ensures frames { framed self.new.tasks ≡ framed self.old.tasks + 1 }
         ensures room { vec_capacity self.new.tasks ≡ vec_capacity self.old.tasks }
     {
         let registers = self.registers.keep(alloc, values);
@@ -117,6 +122,7 @@ impl Stack {
         ensures tasks { (d : machine.Definition) (hs : List Handler) → tasks_of d hs self.new ≡ drop 1 (tasks_of d hs self.old) }
         ensures begun { (last : ℕ) → AllTakeKnownHandlers last self.old → AllTakeKnownHandlers last self.new }
         ensures given { vec_len self.old.tasks ≡ vec_len self.new.tasks + 1 }
+        ensures frames { framed self.old.tasks ≡ framed self.new.tasks + 1 }
         ensures room { vec_capacity self.new.tasks ≡ vec_capacity self.old.tasks }
     {
         let Some(task) = self.tasks.pop() else {
@@ -158,6 +164,7 @@ impl Stack {
         ensures taken { Takes (option_map (λ i. instruction_view i.now) result) (taken_in (program_view program.now) (stack_frame self.old)) (stack_frame self.new) }
         ensures rewritten { IsRewritten self.old self.new }
         ensures begun { (last : ℕ) → AllTakeKnownHandlers last self.old → AllTakeKnownHandlers last self.new }
+        ensures frames { framed self.new.tasks ≡ framed self.old.tasks }
         ensures room { (vec_len self.new.tasks ≡ vec_len self.old.tasks) × (vec_capacity self.new.tasks ≡ vec_capacity self.old.tasks) }
     {
         let Some(task) = self.tasks.last_mut() else {
@@ -177,6 +184,7 @@ impl Stack {
         ensures held { option_map value_view result ≡ read None (stack_frame self.old).registers to.0 }
         ensures rewritten { IsRewritten self.old self.new }
         ensures begun { (last : ℕ) → AllTakeKnownHandlers last self.old → AllTakeKnownHandlers last self.new }
+        ensures frames { framed self.new.tasks ≡ framed self.old.tasks }
         ensures room { (vec_len self.new.tasks ≡ vec_len self.old.tasks) × (vec_capacity self.new.tasks ≡ vec_capacity self.old.tasks) }
     {
         let Some(task) = self.tasks.last_mut() else {
@@ -195,6 +203,7 @@ impl Stack {
         ensures jumped { option_map (at_block to.0 (stack_frame self.old)) (slice_get (program_view program.now).blocks to.0) ≡ Some (stack_frame self.new) }
         ensures rewritten { IsRewritten self.old self.new }
         ensures begun { (last : ℕ) → AllTakeKnownHandlers last self.old → AllTakeKnownHandlers last self.new }
+        ensures frames { framed self.new.tasks ≡ framed self.old.tasks }
         ensures room { (vec_len self.new.tasks ≡ vec_len self.old.tasks) × (vec_capacity self.new.tasks ≡ vec_capacity self.old.tasks) }
     {
         let Some(task) = self.tasks.last_mut() else {
@@ -212,6 +221,7 @@ impl Stack {
         ensures waits { stack_frame self.new ≡ record (stack_frame self.old) { into = option_map number_of into } }
         ensures rewritten { IsRewritten self.old self.new }
         ensures begun { (last : ℕ) → AllTakeKnownHandlers last self.old → AllTakeKnownHandlers last self.new }
+        ensures frames { framed self.new.tasks ≡ framed self.old.tasks }
         ensures room { (vec_len self.new.tasks ≡ vec_len self.old.tasks) × (vec_capacity self.new.tasks ≡ vec_capacity self.old.tasks) }
     {
         let Some(task) = self.tasks.last_mut() else {
@@ -236,6 +246,7 @@ impl Stack {
         ensures construction { option_and_then construction_in result ≡ first_construction self.old.tasks.items }
         ensures given { MatchOption result (vec_len self.new.tasks ≡ vec_len self.old.tasks) (λ _. vec_len self.old.tasks ≡ vec_len self.new.tasks + 1) }
         ensures free { IfSome result (λ _. vec_len self.new.tasks < vec_capacity self.new.tasks) }
+        ensures frames { framed self.new.tasks ≡ framed self.old.tasks }
         ensures room { vec_capacity self.new.tasks ≡ vec_capacity self.old.tasks }
     {
         let task = self.tasks.pop();

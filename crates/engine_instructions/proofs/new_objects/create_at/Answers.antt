@@ -1,5 +1,5 @@
 use Rattle.engine_world.specs.declared.stacks.Stack.{Stack}
-use Rattle.std.proofs.Common.{◌≡◌, ◌<◌, ℕ, IfSome, IsSome, List, Option, length, false, ap, subst, sym, ◌∙◌, arith, vec_len, vec_capacity}
+use Rattle.std.proofs.Common.{◌≡◌, ◌<◌, ℕ, IfSome, IsSome, List, Option, length, false, ap, subst, sym, ◌∙◌}
 use Rattle.std.proofs.lemmas.Result.{err_from_is_err_and}
 use Rattle.ui_machine.specs.Definition.Values as values
 use Rattle.ui_machine.specs.Definition.Values.{Value}
@@ -12,6 +12,7 @@ use Rattle.law_typing.specs.Good.Living.{NamesLiving}
 use Rattle.g_values.specs.View.{value_view}
 use Rattle.engine_world.specs.Counting.{nothing}
 use Rattle.engine_world.specs.NewObjects.{begun}
+use Rattle.engine_world.specs.TaskFrames.{HasPlaces}
 use Rattle.engine_world.specs.View.{world_of}
 use Rattle.engine_instructions.proofs.Creating.{create_world, create_written, made_able, write_able}
 use Rattle.engine_instructions.proofs.Holding.{lives_held}
@@ -20,6 +21,7 @@ use Rattle.engine_world.proofs.Building.{makes_any}
 use Rattle.engine_world.proofs.Quiets.{quiet_on, quiet_same}
 use Rattle.engine_world.specs.FirstPrograms.{first_frame, rest_of}
 use Rattle.engine_instructions.proofs.Pushed.{program_kept, rest_kept, written_by}
+use Rattle.engine_world.proofs.RoomLeft.{room_still}
 use Rattle.engine_instructions.proofs.new_objects.create_at.Goals as goal
 
 pub make-requires : goal.make-requires
@@ -62,11 +64,8 @@ begin_construction-requires c =
           subst (λ (peer : Option ℕ). IfSome peer (λ number. number < length (world_of c.write_register.new.engine.world).peers)) (sym c.in_ok-new.ensures.peer)
           (subst (λ (ps : List Peer). IfSome c.args.peer (λ number. number < length ps)) (sym seats) c.requires.peer);
       room =
-          let stack = ap (λ (s : Stack). vec_len s.tasks) c.make.ensures.same.0 in
-          let same = ap (λ (s : Stack). vec_capacity s.tasks) c.make.ensures.same.0 in
-          let took = c.write_register.ensures.room in
-          let has = c.requires.room in
-          omega (arith, stack, same, took.0, took.1, has);
+          room_still 1 m c.write_register.new.engine c.write_register.ensures.room
+          (subst (λ (s : Stack). HasPlaces 1 s.tasks) (sym c.make.ensures.same.0) c.requires.room);
       may = lives_held d c.write_register.new.engine new.object.0 c.write_register.ensures.counted (subst (λ (w : World). IsSome (living w.objects new.object.0)) (sym world) c.in_ok-new.ensures.live);
     }
 

@@ -19,7 +19,6 @@ use Rattle.engine_world.specs.EngineView.{config_of}
 use Rattle.engine_world.specs.Able.{LeadsWithoutGone}
 use Rattle.engine_world.specs.FirstPrograms.{IsProgram, IsRewritten, first_frame, rest_of, stack_frame}
 use Rattle.engine_world.specs.KnownHandlers.{AllTakeKnownHandlers}
-use Rattle.engine_world.specs.Room.{HasRoom}
 use Rattle.engine_world.proofs.Ableness.{able_as, in_counted_left, no_arm}
 use Rattle.engine_world.proofs.FirstPrograms.{begins}
 use Rattle.engine_world.proofs.Registers.{stack_same_held}
@@ -32,6 +31,7 @@ use Rattle.engine_instructions.specs.ClosedPeers.{LeavesClosed}
 use Rattle.engine_pools.specs.TaskClosings.{ProgramLeaves, TakenLeaves}
 use Rattle.engine_instructions.proofs.KnownCode.{taken_known}
 use Rattle.engine_instructions.proofs.Programs.{left_counted, no_instruction, taken_keeps, taken_there, takes_instruction, unknown_program}
+use Rattle.engine_world.proofs.RoomLeft.{places_kept}
 use Rattle.engine_pools.proofs.program_steps.run_program.Goals as goal
 
 -- an engine that has counted the step, and then its stack with the instruction taken
@@ -120,9 +120,7 @@ execute-requires c =
     record {
       first = c.take_first.ensures.rewritten.first;
       room =
-          let has : HasRoom 1 b = rw is c.requires.room in
-          let same = c.take_first.ensures.room in
-          omega (arith, has, same.0, same.1);
+          places_kept 1 b.stack.tasks s.tasks c.take_first.ensures.room c.take_first.ensures.frames (rw is c.requires.room);
       meanings = rw is c.requires.meanings;
       program = ap (program_at d) kept.1 ∙ at;
       taken = taken_there d p (first_frame e) t at taken;

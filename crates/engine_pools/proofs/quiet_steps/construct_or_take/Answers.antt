@@ -1,4 +1,4 @@
-use Rattle.std.proofs.Common.{List, refl, subst, ap, vec_capacity, arith}
+use Rattle.std.proofs.Common.{List, refl, subst, ap}
 use Rattle.std.proofs.lemmas.Result.{err_from_is_err_and}
 use Rattle.ui_machine.specs.State.Config.{Config, World}
 use Rattle.ui_machine.specs.State.Tasks.{Task}
@@ -11,12 +11,11 @@ use Rattle.engine_world.specs.declared.engine.StepKind.TheVariants as mades
 use Rattle.engine_world.proofs.Ableness.{none_stops}
 use Rattle.engine_world.proofs.FirstConstructions.{begins}
 use Rattle.engine_world.proofs.Registers.{none_found, some_found}
-use Rattle.engine_world.proofs.Rooms.{tasks_counted}
 use Rattle.engine_pools.specs.QuietSteps.{LeavesKnown}
 use Rattle.engine_pools.specs.Safety.{NoneUnheld}
 use Rattle.engine_pools.proofs.LeftClosings.{task_known}
 use Rattle.engine_pools.proofs.Standing.{first_none}
-use Rattle.engine_pools.proofs.Stepping.{first_can, first_grows, first_stepped, view_few}
+use Rattle.engine_pools.proofs.Stepping.{first_can, first_grows, first_stepped, view_room}
 use Rattle.engine_instructions.proofs.Whole.{leads_whole}
 use Rattle.std.proofs.Common.{Result, Ok}
 use Rattle.std.specs.declared.alloc.AllocError.{AllocError}
@@ -37,9 +36,7 @@ construct-requires c =
       first = first;
       able = none_stops _ (first_can d at at c.requires.none (constructing_task (first_constructed e)) (rest_of d e) is c.requires.quiet c.requires.safe);
       counted = c.requires.counted;
-      room =
-          let few = view_few d (vec_capacity e.stack.tasks) at c.requires.safe in
-          omega (arith, few, tasks_counted d e.world.handlers.handlers e.stack);
+      room = view_room d e c.requires.safe;
     }
 
 pub take_first_task-requires-clause-builds : goal.take_first_task-requires-clause-builds

@@ -1,4 +1,4 @@
-use Rattle.std.proofs.Common.{List, refl, subst, ap, vec_capacity, arith}
+use Rattle.std.proofs.Common.{List, refl, subst, ap}
 use Rattle.std.proofs.lemmas.Result.{err_from_is_err_and}
 use Rattle.ui_machine.specs.State.Config.{Config, World}
 use Rattle.ui_machine.specs.State.Tasks.{Running, Task}
@@ -10,12 +10,11 @@ use Rattle.engine_world.specs.declared.engine.StepKind.TheVariants as mades
 use Rattle.engine_world.proofs.Ableness.{none_stops}
 use Rattle.engine_world.proofs.FirstPrograms.{begins}
 use Rattle.engine_world.proofs.Registers.{none_found, some_found}
-use Rattle.engine_world.proofs.Rooms.{tasks_counted}
 use Rattle.engine_pools.specs.QuietSteps.{LeavesKnown}
 use Rattle.engine_pools.specs.Safety.{NoneUnheld}
 use Rattle.engine_pools.proofs.LeftClosings.{task_known}
 use Rattle.engine_pools.proofs.Standing.{first_none}
-use Rattle.engine_pools.proofs.Stepping.{first_can, first_grows, first_names_so, first_stepped, view_few, view_meanings}
+use Rattle.engine_pools.proofs.Stepping.{first_can, first_grows, first_names_so, first_stepped, view_meanings, view_room}
 use Rattle.engine_pools.proofs.quiet_steps.first_task.Goals as goal
 
 pub run_program-requires : goal.run_program-requires
@@ -31,9 +30,7 @@ run_program-requires c =
       names = first_names_so d at at c.requires.none (Running (first_frame e)) (rest_of d e) is c.requires.quiet c.requires.safe;
       meanings = view_meanings d at c.requires.safe;
       counted = c.requires.counted;
-      room =
-          let few = view_few d (vec_capacity e.stack.tasks) at c.requires.safe in
-          omega (arith, few, tasks_counted d e.world.handlers.handlers e.stack);
+      room = view_room d e c.requires.safe;
     }
 
 pub emit_or_take-requires-clause-other : goal.emit_or_take-requires-clause-other

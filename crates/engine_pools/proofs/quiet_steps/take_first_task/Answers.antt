@@ -14,7 +14,7 @@ use Rattle.engine_world.specs.TaskView.{task_in, tasks_of}
 use Rattle.engine_pools.proofs.LeftClosings.{task_known}
 use Rattle.engine_world.proofs.Ableness.{none_stops}
 use Rattle.engine_world.specs.EngineView.{config_of}
-use Rattle.engine_world.proofs.Rooms.{tasks_counted}
+use Rattle.engine_world.proofs.Rooms.{frames_few, tasks_counted}
 use Rattle.engine_world.proofs.Counts.{config_same, taken_off, given_back, same_tasks}
 use Rattle.engine_world.specs.View.{world_of}
 use Rattle.engine_pools.proofs.Standing.{first_none}
@@ -77,7 +77,7 @@ act-requires c = record {
       let few = view_few d (vec_capacity e.stack.tasks) (config_of d e) c.requires.safe in
       let first = ap (λ (ts : List Task). length ts) (c.in-Some.ensures.tasks d hs) in
       let same = c.pop.ensures.room in
-      omega (arith, few, first, tasks_counted d hs c.pop.new.self, same);
+      (omega (arith, few.0, first, tasks_counted d hs c.pop.new.self, same), omega (arith, few.1, frames_few d hs e.stack, c.pop.ensures.frames, same));
   other = c.in-Some.ensures.frameless.program;
   begins = c.in-Some.ensures.frameless.emission;
   builds = c.in-Some.ensures.construction ∙ c.requires.builds;

@@ -14,6 +14,7 @@ use Rattle.engine_world.proofs.Signals.{bind_count, build_count}
 use Rattle.engine_world.specs.FirstConstructions.{construction_in}
 use Rattle.engine_world.specs.FirstEmissions.{emission_in}
 use Rattle.engine_world.specs.FirstPrograms.{program_in}
+use Rattle.engine_world.proofs.RoomLeft.{room_less}
 use Rattle.engine_pools.proofs.tasks.act.Goals as goal
 
 -- what was done
@@ -26,14 +27,14 @@ pub validate_and_set-requires : goal.validate_and_set-requires
 validate_and_set-requires c = record {
   able = rw c.in-Setting.is at c.requires.able;
   counted = task_counted c.args.definition.now c.args.engine.now c.args.task c.requires.counted;
-  room = let has = c.requires.room in omega (arith, has);
+  room = room_less c.args.engine.now c.requires.room;
 }
 
 pub notify-requires : goal.notify-requires
 notify-requires c = record {
   able = rw c.in-Notifying.is at c.requires.able;
   counted = task_counted c.args.definition.now c.args.engine.now c.args.task c.requires.counted;
-  room = let has = c.requires.room in omega (arith, has);
+  room = room_less c.args.engine.now c.requires.room;
 }
 
 pub begin_emission-requires-clause-able : goal.begin_emission-requires-clause-able
@@ -79,7 +80,7 @@ pub adopt_from_build-requires : goal.adopt_from_build-requires
 adopt_from_build-requires c = record {
   able = rw c.in-Adopting.is at c.requires.able;
   counted = task_counted c.args.definition.now c.args.engine.now c.args.task c.requires.counted;
-  room = let has = c.requires.room in omega (arith, has);
+  room = room_less c.args.engine.now c.requires.room;
 }
 
 pub bind_from_build-requires-clause-able : goal.bind_from_build-requires-clause-able

@@ -21,13 +21,14 @@ use Rattle.engine_world.proofs.Parts.{task_alike}
 use Rattle.engine_world.specs.Able.{Leads}
 use Rattle.engine_world.proofs.Registers.{on_ok}
 use Rattle.engine_world.proofs.Ableness.{able_as, no_arm, none_stops}
+use Rattle.engine_world.proofs.RoomLeft.{room_for_next}
 use Rattle.engine_tasks.proofs.builds.build.Goals as goal
 
 pub push_task-requires : goal.push_task-requires
 push_task-requires c = record {
   frameless = c.behind.ensures.frameless;
   begun = c.behind.ensures.begun c.args.engine.now.world.handlers.last;
-  room = let has = c.requires.room in omega (arith, has);
+  room = let has = c.requires.room in omega (arith, has.0);
   may =
       let d = c.args.definition.now in
       let e = c.args.engine.now in
@@ -83,7 +84,7 @@ make_from_build-requires c = record {
   identity =
       subst (λ (w : World). length w.objects < most_identities) (sym c.push_task.ensures.world) (c.requires.identity (c.is_object.ensures.within c.if-not-is_object.false));
   counted = still_counted c.args.definition.now c.args.engine.now c.push_task.new.engine (c.push_task.ensures.counted c.args.definition.now) c.requires.counted;
-  room = (let took = c.push_task.ensures.room in let has = c.requires.room in omega (arith, took.0, took.1, has));
+  room = room_for_next c.args.engine.now c.push_task.new.engine c.push_task.ensures.room c.requires.room;
 }
 
 pub set_forward_reference-requires-clause-names : goal.set_forward_reference-requires-clause-names

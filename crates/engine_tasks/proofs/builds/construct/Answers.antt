@@ -1,4 +1,4 @@
-use Rattle.std.proofs.Common.{◌∙◌, [], ◌∷◌, sym, ap, subst, arith}
+use Rattle.std.proofs.Common.{◌∙◌, [], ◌∷◌, sym, ap, subst}
 use Rattle.ui_machine.specs.Outcome.{Answer}
 use Rattle.ui_machine.specs.State.Config.{Config}
 use Rattle.engine_world.specs.Able.{Leads}
@@ -8,6 +8,7 @@ use Rattle.engine_world.specs.MakingView.{making_of_code}
 use Rattle.engine_world.specs.declared.task.ConstructStep.{ConstructStep}
 use Rattle.engine_world.proofs.Ableness.{able_as}
 use Rattle.engine_tasks.proofs.ConstructionPlaces.{counts_past, goes_on, lives_past}
+use Rattle.engine_world.proofs.RoomLeft.{places_kept}
 use Rattle.engine_tasks.proofs.builds.construct.Goals as goal
 
 -- no step is left
@@ -48,7 +49,7 @@ apply_construct_property-requires c =
       able = able_as on c.requires.able;
       live = lives_past d e c.requires.first s n.constructs n.construction c.never_full.ensures.dead c.requires.counted;
       counted = counts_past d e c.requires.first s n.constructs n.construction c.requires.counted;
-      room = let has = c.requires.room in let same = n.room in omega (arith, has, same.0, same.1);
+      room = places_kept 1 e.stack.tasks s.tasks n.room n.frames c.requires.room;
     }
 
 pub returns-in-Set-clause-step : goal.returns-in-Set-clause-step
@@ -74,7 +75,7 @@ run_constructed-requires c =
       able = able_as on c.requires.able;
       live = lives_past d e c.requires.first s n.constructs n.construction c.never_full.ensures.dead c.requires.counted;
       counted = counts_past d e c.requires.first s n.constructs n.construction c.requires.counted;
-      room = let has = c.requires.room in let same = n.room in omega (arith, has, same.0, same.1);
+      room = places_kept 1 e.stack.tasks s.tasks n.room n.frames c.requires.room;
     }
 
 pub returns-in-Run-clause-step : goal.returns-in-Run-clause-step
@@ -99,7 +100,7 @@ thaw_constructed-requires c =
       first = n.constructs.first;
       able = able_as on c.requires.able;
       counted = counts_past d e c.requires.first s n.constructs n.construction c.requires.counted;
-      room = let has = c.requires.room in let same = n.room in omega (arith, has, same.0, same.1);
+      room = places_kept 1 e.stack.tasks s.tasks n.room n.frames c.requires.room;
     }
 
 pub returns-in-Thaw-clause-step : goal.returns-in-Thaw-clause-step

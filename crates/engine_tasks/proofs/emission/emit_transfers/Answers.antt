@@ -10,11 +10,11 @@ use Rattle.engine_world.specs.TransferView.{due_now}
 use Rattle.engine_world.specs.View.{world_of}
 use Rattle.engine_world.proofs.Ableness.{able_as}
 use Rattle.engine_world.proofs.Named.{names_as}
-use Rattle.std.proofs.Common.{arith}
 use Rattle.engine_tasks.specs.TurnView.{RunsProgram}
 use Rattle.engine_tasks.proofs.EmissionTurns.{ready_free}
 use Rattle.engine_tasks.proofs.EmissionSteps.{behind_plain, due_of, no_due, runs_one}
 use Rattle.engine_tasks.proofs.EmissionPlaces.{counts_due, counts_on, ends_on, transfer_due, turns_on, walk_past}
+use Rattle.engine_world.proofs.RoomLeft.{places_kept}
 use Rattle.engine_tasks.proofs.emission.emit_transfers.Goals as goal
 
 -- a transfer is due
@@ -31,7 +31,7 @@ take_transfer-requires c =
       able = able_as (transfer_due d e c.requires.first s n.emits n.emission n.later t c.in-Some.ensures.next) c.requires.able;
       free = ready_free e.world.bindings.bindings (due_now (first_emitted e).transfers) t _ c.in-Some.ensures.next;
       counted = counts_due d e c.requires.first s n.emits n.emission n.later t c.in-Some.ensures.next c.requires.counted;
-      room = let has = c.requires.room in let same = n.room in omega (arith, has, same.0, same.1);
+      room = places_kept 1 e.stack.tasks s.tasks n.room n.frames c.requires.room;
     }
 
 pub returns-in-Some-clause-step : goal.returns-in-Some-clause-step
@@ -95,7 +95,7 @@ take_turn-requires c =
       names = names_as turns c.requires.names;
       runs = subst (λ (t : Turn). RunsProgram t) next.2 (runs_one w (first_emitted e).walk (first_emitted e).transfers (stack_emission s).transfers n.later c.in_default.ensures.next.0 c.in_default.ensures.next.1 last rises d next.0 next.1 plain);
       counted = counts_on d e c.requires.first s n.emits n.emission n.later c.in_default.ensures.next.0 c.in_default.ensures.next.1 u m.emits m.emission c.requires.counted;
-      room = let has = c.requires.room in let same = n.room in let again = m.room in omega (arith, has, same.0, same.1, again.0, again.1);
+      room = places_kept 1 s.tasks u.tasks m.room m.frames (places_kept 1 e.stack.tasks s.tasks n.room n.frames c.requires.room);
     }
 
 pub returns-clause-step : goal.returns-clause-step

@@ -1,7 +1,7 @@
 use Rattle.bytecode.specs.Computing.{registers_of}
 use Rattle.frames.specs.FrameView.{set_values}
 use Rattle.frames.proofs.FrameRegisters.{given_set, given_values}
-use Rattle.std.proofs.Common.{◌∷◌, [], ap, refl, sym, subst, ◌∙◌, arith}
+use Rattle.std.proofs.Common.{◌∷◌, [], ap, refl, sym, subst, ◌∙◌}
 use Rattle.ui_machine.specs.Outcome.{Answer}
 use Rattle.ui_machine.specs.Rules.MainLoop.{source_data, sourcing}
 use Rattle.ui_machine.specs.State.Config.{Config, Started}
@@ -21,6 +21,7 @@ use Rattle.engine_tasks.proofs.Sourcing.{source_absent, source_begins}
 use Rattle.engine_world.specs.Able.{Leads}
 use Rattle.engine_world.proofs.Ableness.{able_as, in_uncounted, no_arm}
 use Rattle.engine_world.proofs.Named.{begins_names, names_as}
+use Rattle.engine_world.proofs.RoomLeft.{room_for_next}
 use Rattle.engine_tasks.proofs.sources.run_source.Goals as goal
 
 pub unreachable-requires : goal.unreachable-requires
@@ -46,7 +47,7 @@ begin_program-requires c =
       able = able_as (sym begins) c.requires.able;
       set = given_set (registers_of c.give_data.new.registers.items) given c.in_ok-give_data.ensures.given;
       counted = still_counted d e b (c.push_task.ensures.counted d) c.requires.counted;
-      room = (let took = c.push_task.ensures.room in let has = c.requires.room in omega (arith, took.0, took.1, has));
+      room = room_for_next e b c.push_task.ensures.room c.requires.room;
       names = begins_names b.counted (agenda_of d b) d (world_of b.world) due.program (set_values (registers_of c.give_data.new.registers.items)) (able_as (sym begins) c.requires.able) (names_as (sym begins) c.requires.names);
     }
 

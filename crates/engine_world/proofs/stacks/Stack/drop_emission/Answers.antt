@@ -13,7 +13,7 @@ use Rattle.engine_world.specs.declared.task.Task.{Task}
 use Rattle.engine_world.specs.declared.task.Task.TheVariants as tasks
 use Rattle.engine_world.proofs.FirstEmissions.{emission_found}
 use Rattle.engine_world.proofs.FirstPrograms.{last_gives}
-use Rattle.engine_world.proofs.Vectors.{any_least, front_known, has_place, stocked_gone, stocked_less, tasks_off}
+use Rattle.engine_world.proofs.Vectors.{any_least, framed_more, front_known, has_place, stocked_gone, stocked_less, tasks_off}
 use Rattle.engine_world.proofs.stacks.Stack.drop_emission.Goals as goal
 
 pub give_back-requires : goal.give_back-requires
@@ -62,3 +62,8 @@ pub returns-clause-begun : goal.returns-clause-begun
 returns-clause-begun c last all =
     let items = c.pop.ensures.items ∙ ap (λ (o : Option Task). c.pop.new.self.items ++ option_to_list o) c.in-Some.is ∙ ap (λ (t : Task). c.pop.new.self.items ++ t ∷ []) c.in-Emitting.is in
     front_known last c.pop.new.self.items (tasks.Emitting c.in-Emitting.emission) (subst (λ (l : List Task). All (TakesKnownHandlers last) l) items all)
+
+pub returns-clause-frames : goal.returns-clause-frames
+returns-clause-frames c =
+    let items = c.pop.ensures.items ∙ ap (λ (o : Option Task). c.pop.new.self.items ++ option_to_list o) c.in-Some.is ∙ ap (λ (t : Task). c.pop.new.self.items ++ t ∷ []) c.in-Emitting.is in
+    framed_more c.pop.new.self c.args.self.now.tasks (tasks.Emitting c.in-Emitting.emission) refl items

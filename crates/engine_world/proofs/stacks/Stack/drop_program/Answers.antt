@@ -7,7 +7,7 @@ use Rattle.engine_world.specs.KnownHandlers.{TakesKnownHandlers}
 use Rattle.engine_world.specs.TaskFrames.{args_used, registers_used}
 use Rattle.engine_world.specs.declared.task.Task.{Task}
 use Rattle.engine_world.specs.declared.task.Task.TheVariants as tasks
-use Rattle.engine_world.proofs.Vectors.{any_least, front_known, has_place, stocked_gone, stocked_less, tasks_off}
+use Rattle.engine_world.proofs.Vectors.{any_least, framed_more, front_known, has_place, stocked_gone, stocked_less, tasks_off}
 use Rattle.engine_world.proofs.stacks.Stack.drop_program.Goals as goal
 
 pub give_back-requires : goal.give_back-requires
@@ -47,3 +47,8 @@ invariant_of-self-clause-above c =
     let items = c.pop.ensures.items ∙ ap (λ (o : Option Task). c.pop.new.self.items ++ option_to_list o) c.in-Some.is ∙ ap (λ (t : Task). c.pop.new.self.items ++ t ∷ []) c.in-Running.is in
     any_least s.lowest c.min-self.result c.pop.new.self.items (tasks.Running c.in-Running.frame ∷ []) (c.min-self.ensures ∙ ap (λ k. min s.lowest k) (c.len.ensures ∙ c.pop.new.self.ok.0))
     (subst (λ (l : List Task). list_any is_of_build (drop s.lowest l) ≡ false) items s.above)
+
+pub returns-clause-frames : goal.returns-clause-frames
+returns-clause-frames c =
+    let items = c.pop.ensures.items ∙ ap (λ (o : Option Task). c.pop.new.self.items ++ option_to_list o) c.in-Some.is ∙ ap (λ (t : Task). c.pop.new.self.items ++ t ∷ []) c.in-Running.is in
+    framed_more c.pop.new.self c.args.self.now.tasks (tasks.Running c.in-Running.frame) refl items

@@ -1,7 +1,7 @@
 use Rattle.engine_world.specs.TaskFrames.{args_used, registers_used}
-use Rattle.engine_world.proofs.Vectors.{stocked_set}
+use Rattle.engine_world.proofs.Vectors.{framed_set, stocked_set}
 use Rattle.frame_stacks.specs.Stocks.{is_usual}
-use Rattle.std.proofs.Common.{◌∙◌, Some, option_map, slice_get, vec_len, ap, refl, sym}
+use Rattle.std.proofs.Common.{◌∙◌, Some, option_map, slice_get, vec_len, ap, refl, sym, ◌-◌, slice_set}
 use Rattle.ui_machine.specs.State.Tasks as config
 use Rattle.frames.specs.FrameView.{at_block}
 use Rattle.engine_world.specs.declared.task.Task.TheVariants as tasks
@@ -34,3 +34,9 @@ returns-clause-jumped c =
     ap (λ (g : config.Frame). option_map (at_block c.args.to.0 g) (slice_get (program_view c.args.program.now).blocks c.args.to.0)) (frame_last s c.in-Running.frame e)
     ∙ c.jump.ensures.jumped
     ∙ ap (λ (g : config.Frame). Some g) (sym (frame_now s _ c.in-Running.frame c.jump.new.self e refl))
+
+pub returns-clause-frames : goal.returns-clause-frames
+returns-clause-frames c =
+    let s = c.args.self.now in
+    let e = ending (vec_len s.tasks) s.tasks.items (tasks.Running c.in-Running.frame) (tasks.Running c.in-Running.frame) s.tasks.ok.0 c.in-Some.ensures.item.3.0 (sym c.in-Running.is ∙ c.in-Some.ensures.item.3.1 (tasks.Running c.in-Running.frame)) in
+    framed_set s.tasks (slice_set s.tasks.items (vec_len s.tasks - 1) (tasks.Running c.jump.new.self)) (tasks.Running c.in-Running.frame) (tasks.Running c.jump.new.self) e refl refl

@@ -1,5 +1,5 @@
 use Rattle.engine_world.specs.TaskFrames.{args_used, registers_used}
-use Rattle.engine_world.proofs.Vectors.{stocked_set}
+use Rattle.engine_world.proofs.Vectors.{framed_set, stocked_set}
 use Rattle.std.proofs.Common.{◌≡◌, ◌∙◌, ◌-◌, [], ◌∷◌, Option, MatchOption, slice_set, vec_len, ap, refl, subst, sym}
 use Rattle.engine_world.specs.FirstConstructions.{Constructed, constructed_of, stack_construction}
 use Rattle.engine_world.specs.MakingView.{making_of_code}
@@ -62,3 +62,10 @@ returns-clause-step c =
     let now = c.next_step.new.self in
     let e = ending (vec_len s.tasks) s.tasks.items (tasks.Constructing was) (tasks.Constructing was) s.tasks.ok.0 c.in-Some.ensures.item.3.0 (sym c.in-Constructing.is ∙ c.in-Some.ensures.item.3.1 (tasks.Constructing was)) in
     step_of_stack s _ was now e refl c.next_step.result c.next_step.ensures.step
+
+pub returns-clause-frames : goal.returns-clause-frames
+returns-clause-frames c =
+    let s = c.args.self.now in
+    let was = c.in-Constructing.construction in
+    let e = ending (vec_len s.tasks) s.tasks.items (tasks.Constructing was) (tasks.Constructing was) s.tasks.ok.0 c.in-Some.ensures.item.3.0 (sym c.in-Constructing.is ∙ c.in-Some.ensures.item.3.1 (tasks.Constructing was)) in
+    framed_set s.tasks (slice_set s.tasks.items (vec_len s.tasks - 1) (tasks.Constructing c.next_step.new.self)) (tasks.Constructing was) (tasks.Constructing c.next_step.new.self) e refl refl

@@ -1,5 +1,5 @@
 use Rattle.engine_world.specs.TaskFrames.{args_used, registers_used}
-use Rattle.engine_world.proofs.Vectors.{stocked_set}
+use Rattle.engine_world.proofs.Vectors.{framed_set, stocked_set}
 use Rattle.frame_stacks.specs.Stocks.{is_usual}
 use Rattle.std.proofs.Common.{◌≡◌, ◌∙◌, ◌-◌, List, [], ◌∷◌, Option, MatchOption, slice_set, vec_len, ap, refl, subst, sym}
 use Rattle.engine_world.specs.FirstEmissions.{Emitted, emitted_of, stack_emission}
@@ -75,3 +75,10 @@ returns-clause-next c =
     let now = c.next_transfer.new.self in
     let e = ending (vec_len s.tasks) s.tasks.items (tasks.Emitting was) (tasks.Emitting was) s.tasks.ok.0 c.in-Some.ensures.item.3.0 (sym c.in-Emitting.is ∙ c.in-Some.ensures.item.3.1 (tasks.Emitting was)) in
     next_of_stack s _ was now e refl c.args.bindings.now.bindings c.next_transfer.result c.next_transfer.ensures.next
+
+pub returns-clause-frames : goal.returns-clause-frames
+returns-clause-frames c =
+    let s = c.args.self.now in
+    let was = c.in-Emitting.emission in
+    let e = ending (vec_len s.tasks) s.tasks.items (tasks.Emitting was) (tasks.Emitting was) s.tasks.ok.0 c.in-Some.ensures.item.3.0 (sym c.in-Emitting.is ∙ c.in-Some.ensures.item.3.1 (tasks.Emitting was)) in
+    framed_set s.tasks (slice_set s.tasks.items (vec_len s.tasks - 1) (tasks.Emitting c.next_transfer.new.self)) (tasks.Emitting was) (tasks.Emitting c.next_transfer.new.self) e refl refl

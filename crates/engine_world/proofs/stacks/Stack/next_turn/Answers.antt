@@ -1,8 +1,8 @@
 use Rattle.engine_world.specs.declared.emission_frames.EmissionFrame.{EmissionFrame}
 use Rattle.engine_world.specs.TaskFrames.{args_used, registers_used}
-use Rattle.engine_world.proofs.Vectors.{stocked_set}
+use Rattle.engine_world.proofs.Vectors.{framed_set, stocked_set}
 use Rattle.frame_stacks.specs.Stocks.{is_usual}
-use Rattle.std.proofs.Common.{◌∙◌, option_map, vec_len, ap, refl, sym}
+use Rattle.std.proofs.Common.{◌∙◌, option_map, vec_len, ap, refl, sym, ◌-◌, slice_set}
 use Rattle.engine_world.specs.FirstEmissions.{Emitted, emitted_of}
 use Rattle.engine_world.specs.declared.task.Task.TheVariants as tasks
 use Rattle.engine_world.proofs.FirstPrograms.{ending}
@@ -52,3 +52,10 @@ returns-clause-turn c =
     let e = ending (vec_len s.tasks) s.tasks.items (tasks.Emitting was) (tasks.Emitting was) s.tasks.ok.0 c.in-Some.ensures.item.3.0 (sym c.in-Emitting.is ∙ c.in-Some.ensures.item.3.1 (tasks.Emitting was)) in
     let b = emitted_last s was e in
     c.next_turn.ensures.turn ∙ ap (λ (x : Emitted). option_map (λ step. step.turn) (next_step x.walk c.args.handlers.now.handlers)) (sym b)
+
+pub returns-clause-frames : goal.returns-clause-frames
+returns-clause-frames c =
+    let s = c.args.self.now in
+    let was = c.in-Emitting.emission in
+    let e = ending (vec_len s.tasks) s.tasks.items (tasks.Emitting was) (tasks.Emitting was) s.tasks.ok.0 c.in-Some.ensures.item.3.0 (sym c.in-Emitting.is ∙ c.in-Some.ensures.item.3.1 (tasks.Emitting was)) in
+    framed_set s.tasks (slice_set s.tasks.items (vec_len s.tasks - 1) (tasks.Emitting c.next_turn.new.self)) (tasks.Emitting was) (tasks.Emitting c.next_turn.new.self) e refl refl

@@ -5,7 +5,7 @@ use Rattle.engine_world.specs.BuildTasks.{is_of_build}
 use Rattle.engine_world.specs.declared.task.Task.{Task}
 use Rattle.engine_world.specs.FirstConstructions.{construction_in}
 use Rattle.engine_world.specs.TaskFrames.{args_used, registers_used}
-use Rattle.engine_world.proofs.Vectors.{any_least, frameless_at, no_args, no_registers, popped_frameless, popped_in, popped_known, stocked_pop}
+use Rattle.engine_world.proofs.Vectors.{any_least, framed_pop, frameless_at, no_args, no_registers, popped_frameless, popped_in, popped_known, stocked_pop}
 use Rattle.engine_world.proofs.stacks.Stack.pop.Goals as goal
 
 pub invariant_of-self-clause-programs : goal.invariant_of-self-clause-programs
@@ -44,3 +44,9 @@ invariant_of-self-clause-above c =
     let p = c.pop-task in
     any_least s.lowest c.min-self.result p.new.self.items (option_to_list p.result) (c.min-self.ensures ∙ ap (λ k. min s.lowest k) (c.len.ensures ∙ p.new.self.ok.0))
     (subst (λ (l : List Task). list_any is_of_build (drop s.lowest l) ≡ false) p.ensures.items s.above)
+
+pub returns-clause-frames : goal.returns-clause-frames
+returns-clause-frames c =
+    let s = c.args.self.now in
+    let p = c.pop-task in
+    framed_pop s.tasks p.new.self p.result p.ensures.items (frameless_at s.tasks.items p.new.self.items p.result p.ensures.items c.requires.program c.requires.emission)

@@ -3,7 +3,7 @@ use Rattle.std.specs.List.{list_any}
 use Rattle.engine_world.specs.BuildTasks.{is_of_build}
 use Rattle.engine_world.specs.declared.task.Task.{Task}
 use Rattle.engine_world.specs.TaskFrames.{args_used, registers_used}
-use Rattle.engine_world.proofs.Vectors.{any_more, any_none, no_args, no_registers, stocked_plain}
+use Rattle.engine_world.proofs.Vectors.{any_more, any_none, framed_plain, no_args, no_registers, stocked_plain}
 use Rattle.engine_world.proofs.stacks.Stack.push.Goals as goal
 
 pub invariant_of-self-clause-programs : goal.invariant_of-self-clause-programs
@@ -38,3 +38,9 @@ invariant_of-self-else-is_of_build-clause-above c =
     let s = c.args.self.now in
     subst (λ (l : List Task). list_any is_of_build (drop s.lowest l) ≡ false) (sym c.push_reserved.ensures.items)
     (any_more s.lowest s.tasks.items c.args.task (sym c.is_of_build-is_of_build.ensures ∙ c.if-is_of_build.false) s.above)
+
+pub returns-then-is_of_build-clause-frames : goal.returns-then-is_of_build-clause-frames
+returns-then-is_of_build-clause-frames c = framed_plain c.args.self.now.tasks c.push_reserved.new.self c.args.task c.requires.frameless c.push_reserved.ensures.items
+
+pub returns-else-is_of_build-clause-frames : goal.returns-else-is_of_build-clause-frames
+returns-else-is_of_build-clause-frames c = framed_plain c.args.self.now.tasks c.push_reserved.new.self c.args.task c.requires.frameless c.push_reserved.ensures.items

@@ -10,7 +10,7 @@ use Rattle.engine_world.specs.declared.emission_frames.EmissionFrame.{EmissionFr
 use Rattle.engine_world.specs.declared.task.Task.{Task}
 use Rattle.engine_world.specs.declared.task.Task.TheVariants as tasks
 use Rattle.engine_world.proofs.FirstPrograms.{first_of_last}
-use Rattle.engine_world.proofs.Vectors.{any_more, args_left, known_more, stocked_more, stocked_plain}
+use Rattle.engine_world.proofs.Vectors.{any_more, args_left, framed_more, known_more, stocked_more, stocked_plain}
 use Rattle.engine_world.proofs.stacks.Stack.push_emission.Goals as goal
 
 pub keep-args-requires : goal.keep-args-requires
@@ -47,3 +47,8 @@ invariant_of-self-clause-above c =
     let s = c.args.self.now in
     let f : EmissionFrame = record { cursor = c.args.cursor; args = c.keep-args.result; by_event = c.args.by_event; transfers = c.args.transfers } in
     subst (λ (l : List Task). list_any is_of_build (drop s.lowest l) ≡ false) (sym c.push_reserved.ensures.items) (any_more s.lowest s.tasks.items (tasks.Emitting f) refl s.above)
+
+pub returns-clause-frames : goal.returns-clause-frames
+returns-clause-frames c =
+    let f : EmissionFrame = record { cursor = c.args.cursor; args = c.keep-args.result; by_event = c.args.by_event; transfers = c.args.transfers } in
+    framed_more c.args.self.now.tasks c.push_reserved.new.self (tasks.Emitting f) refl c.push_reserved.ensures.items

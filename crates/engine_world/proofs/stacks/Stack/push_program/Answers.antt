@@ -10,7 +10,7 @@ use Rattle.engine_world.specs.TaskView.{task_of, tasks_of}
 use Rattle.engine_world.specs.declared.task.Task.{Task}
 use Rattle.engine_world.specs.declared.task.Task.TheVariants as tasks
 use Rattle.engine_world.proofs.FirstPrograms.{first_of_last}
-use Rattle.engine_world.proofs.Vectors.{any_more, known_more, registers_left, stocked_more, stocked_plain}
+use Rattle.engine_world.proofs.Vectors.{any_more, framed_more, known_more, registers_left, stocked_more, stocked_plain}
 use Rattle.engine_world.proofs.stacks.Stack.push_program.Goals as goal
 
 pub keep-registers-requires : goal.keep-registers-requires
@@ -50,3 +50,6 @@ pub invariant_of-self-clause-above : goal.invariant_of-self-clause-above
 invariant_of-self-clause-above c =
     let s = c.args.self.now in
     subst (λ (l : List Task). list_any is_of_build (drop s.lowest l) ≡ false) (sym c.push_reserved.ensures.items) (any_more s.lowest s.tasks.items (tasks.Running c.new-frame.result) refl s.above)
+
+pub returns-clause-frames : goal.returns-clause-frames
+returns-clause-frames c = framed_more c.args.self.now.tasks c.push_reserved.new.self (tasks.Running c.new-frame.result) refl c.push_reserved.ensures.items

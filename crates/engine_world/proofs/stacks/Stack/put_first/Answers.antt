@@ -1,6 +1,6 @@
 use Rattle.engine_world.specs.TaskFrames.{args_used, registers_used}
-use Rattle.engine_world.proofs.Vectors.{stocked_set}
-use Rattle.std.proofs.Common.{cond, nat_eq, ◌∙◌, ◌<◌, None, length, option_map, vec_len, ap, refl, subst, sym}
+use Rattle.engine_world.proofs.Vectors.{framed_set, stocked_set}
+use Rattle.std.proofs.Common.{cond, nat_eq, ◌∙◌, ◌<◌, None, length, option_map, vec_len, ap, refl, subst, sym, ◌-◌, slice_set}
 use Rattle.ui_machine.specs.State.Tasks as config
 use Rattle.frames.specs.FrameView.{frame_view}
 use Rattle.engine_world.specs.declared.task.Task.TheVariants as tasks
@@ -50,3 +50,9 @@ returns-clause-held c =
     let s = c.args.self.now in
     let e = ending (vec_len s.tasks) s.tasks.items (tasks.Running c.in-Running.frame) (tasks.Running c.in-Running.frame) s.tasks.ok.0 c.in-Some.ensures.item.3.0 (sym c.in-Running.is ∙ c.in-Some.ensures.item.3.1 (tasks.Running c.in-Running.frame)) in
     c.put.ensures.held ∙ ap (λ (g : config.Frame). read None g.registers c.args.to.0) (sym (frame_last s c.in-Running.frame e))
+
+pub returns-clause-frames : goal.returns-clause-frames
+returns-clause-frames c =
+    let s = c.args.self.now in
+    let e = ending (vec_len s.tasks) s.tasks.items (tasks.Running c.in-Running.frame) (tasks.Running c.in-Running.frame) s.tasks.ok.0 c.in-Some.ensures.item.3.0 (sym c.in-Running.is ∙ c.in-Some.ensures.item.3.1 (tasks.Running c.in-Running.frame)) in
+    framed_set s.tasks (slice_set s.tasks.items (vec_len s.tasks - 1) (tasks.Running c.put.new.self)) (tasks.Running c.in-Running.frame) (tasks.Running c.put.new.self) e refl refl

@@ -1,7 +1,7 @@
 use Rattle.std.proofs.Common.{◌∙◌, ◌∷◌, ◌++◌, [], List, Option, ap}
 use Rattle.std.specs.Option.{option_to_list}
 use Rattle.engine_world.specs.declared.task.Task.{Task}
-use Rattle.engine_world.proofs.StopsBelow.{above_stays, args_stay, registers_stay, within_stays}
+use Rattle.engine_world.proofs.StopsBelow.{above_stays, args_stay, frames_stay, registers_stay, within_stays}
 use Rattle.engine_world.proofs.stacks.Stack.stop_below.Goals as goal
 
 pub returns-clause-stops : goal.returns-clause-stops
@@ -24,3 +24,9 @@ invariant_of-self c =
       programs = registers_stay s.tasks c.push_reserved.new.self s.registers s.programs room c.pop.new.self.items c.in-Some.first was now;
       emissions = args_stay s.tasks c.push_reserved.new.self s.args s.emissions room c.pop.new.self.items c.in-Some.first was now;
     }
+
+pub returns-clause-frames : goal.returns-clause-frames
+returns-clause-frames c =
+    frames_stay c.args.self.now.tasks c.push_reserved.new.self c.pop.new.self.items c.in-Some.first
+    (c.pop.ensures.items ∙ ap (λ (o : Option Task). c.pop.new.self.items ++ option_to_list o) c.in-Some.is)
+    (c.push_reserved.ensures.items ∙ ap (λ (l : List Task). l ++ c.in-Some.first ∷ []) c.stop_last.ensures.stopped)

@@ -1,5 +1,5 @@
 use Rattle.engine_world.specs.TaskFrames.{args_used, registers_used}
-use Rattle.engine_world.proofs.Vectors.{stocked_set}
+use Rattle.engine_world.proofs.Vectors.{framed_set, stocked_set}
 use Rattle.frame_stacks.specs.Stocks.{is_usual}
 use Rattle.std.proofs.Common.{ap, ◌≡◌, ◌∙◌, ◌-◌, Option, option_map, slice_set, vec_len, refl, subst, sym}
 use Rattle.ui_machine.specs.Definition.Programs.{Instruction, Program}
@@ -44,3 +44,9 @@ returns-clause-taken c =
     let s = c.args.self.now in
     let e = ending (vec_len s.tasks) s.tasks.items (tasks.Running c.in-Running.frame) (tasks.Running c.in-Running.frame) s.tasks.ok.0 c.in-Some.ensures.item.3.0 (sym c.in-Running.is ∙ c.in-Some.ensures.item.3.1 (tasks.Running c.in-Running.frame)) in
     taken_of_stack s _ c.in-Running.frame c.take.new.self e refl (program_view c.args.program.now) (option_map (λ i. instruction_view i.now) c.take.result) c.take.ensures.taken
+
+pub returns-clause-frames : goal.returns-clause-frames
+returns-clause-frames c =
+    let s = c.args.self.now in
+    let e = ending (vec_len s.tasks) s.tasks.items (tasks.Running c.in-Running.frame) (tasks.Running c.in-Running.frame) s.tasks.ok.0 c.in-Some.ensures.item.3.0 (sym c.in-Running.is ∙ c.in-Some.ensures.item.3.1 (tasks.Running c.in-Running.frame)) in
+    framed_set s.tasks (slice_set s.tasks.items (vec_len s.tasks - 1) (tasks.Running c.take.new.self)) (tasks.Running c.in-Running.frame) (tasks.Running c.take.new.self) e refl refl

@@ -1,6 +1,6 @@
 use Rattle.engine_world.specs.TaskFrames.{args_used, registers_used}
-use Rattle.engine_world.proofs.Vectors.{stocked_set}
-use Rattle.std.proofs.Common.{◌∙◌, option_map, vec_len, ap, refl, sym}
+use Rattle.engine_world.proofs.Vectors.{framed_set, stocked_set}
+use Rattle.std.proofs.Common.{◌∙◌, option_map, vec_len, ap, refl, sym, ◌-◌, slice_set}
 use Rattle.ui_machine.specs.State.Tasks as config
 use Rattle.engine_world.specs.declared.task.Task.TheVariants as tasks
 use Rattle.engine_world.proofs.FirstPrograms.{ending, frame_last, frame_now, kept_so, rewritten}
@@ -31,3 +31,9 @@ returns-clause-waits c =
     let e = ending (vec_len s.tasks) s.tasks.items (tasks.Running c.in-Running.frame) (tasks.Running c.in-Running.frame) s.tasks.ok.0 c.in-Some.ensures.item.3.0 (sym c.in-Running.is ∙ c.in-Some.ensures.item.3.1 (tasks.Running c.in-Running.frame)) in
     frame_now s _ c.in-Running.frame (record c.in-Running.frame { into = c.args.into }) e refl
     ∙ ap (λ (g : config.Frame). record g { into = option_map number_of c.args.into }) (sym (frame_last s c.in-Running.frame e))
+
+pub returns-clause-frames : goal.returns-clause-frames
+returns-clause-frames c =
+    let s = c.args.self.now in
+    let e = ending (vec_len s.tasks) s.tasks.items (tasks.Running c.in-Running.frame) (tasks.Running c.in-Running.frame) s.tasks.ok.0 c.in-Some.ensures.item.3.0 (sym c.in-Running.is ∙ c.in-Some.ensures.item.3.1 (tasks.Running c.in-Running.frame)) in
+    framed_set s.tasks (slice_set s.tasks.items (vec_len s.tasks - 1) (tasks.Running (record c.in-Running.frame { into = c.args.into }))) (tasks.Running c.in-Running.frame) (tasks.Running (record c.in-Running.frame { into = c.args.into })) e refl refl
