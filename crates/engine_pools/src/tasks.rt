@@ -84,59 +84,59 @@ pub(crate) fn act(
             value,
         } => {
             validate_and_set(engine, definition, object, slot, value)?;
-            return Ok(StepKind::Uncounted);
+            Ok(StepKind::Uncounted)
         }
         Task::Notifying { object, slot } => {
             notify(engine, definition, object, slot)?;
-            return Ok(StepKind::Counted);
+            Ok(StepKind::Counted)
         }
         Task::Beginning(emission) => {
             begin_emission(engine, definition, emission)?;
-            return Ok(StepKind::Counted);
+            Ok(StepKind::Counted)
         }
         Task::Emitting(_) => unreachable!(),
         Task::Transferring { number, back } => {
             transfer(engine, definition, number, back)?;
-            return Ok(StepKind::Counted);
+            Ok(StepKind::Counted)
         }
         Task::Unsetting { number } => {
             unset(engine, definition, number);
-            return Ok(StepKind::Uncounted);
+            Ok(StepKind::Uncounted)
         }
         Task::Running(_) => unreachable!(),
         Task::Thawing { object, slots } => {
             notify_thawed(engine, definition, object, slots);
-            return Ok(StepKind::Uncounted);
+            Ok(StepKind::Uncounted)
         }
         Task::Constructing(_) => unreachable!(),
         Task::Building { place, forwards } => {
             build(engine, definition, place, forwards)?;
-            return Ok(StepKind::Uncounted);
+            Ok(StepKind::Uncounted)
         }
         Task::Adopting { place, forwards } => {
             adopt_from_build(engine, definition, place, forwards)?;
-            return Ok(StepKind::Uncounted);
+            Ok(StepKind::Uncounted)
         }
         Task::Binding { number } => {
             bind_from_build(engine, definition, number)?;
-            return Ok(StepKind::Uncounted);
+            Ok(StepKind::Uncounted)
         }
         Task::Connecting { place, number } => {
             connect_from_build(engine, definition, place, number)?;
-            return Ok(StepKind::Uncounted);
+            Ok(StepKind::Uncounted)
         }
         Task::Answering { .. } => unreachable!(),
         Task::Calling(call) => {
             pass_over(engine, definition, call)?;
-            return Ok(StepKind::Uncounted);
+            Ok(StepKind::Uncounted)
         }
         Task::Due { source } => {
             run_source(engine, definition, source)?;
-            return Ok(StepKind::Uncounted);
+            Ok(StepKind::Uncounted)
         }
         Task::Handling(event) => {
             handle_event(engine, definition, event)?;
-            return Ok(StepKind::Uncounted);
+            Ok(StepKind::Uncounted)
         }
     }
 }
