@@ -8,6 +8,7 @@ pub mod PropertyView
 pub mod CreateView
 pub mod CallingView
 pub mod ClosedPeers
+pub mod InProgram
 pub use Rattle.engine_world.specs.ConnectView
 pub use Rattle.engine_world.specs.Counting
 pub use Rattle.engine_world.specs.EngineView

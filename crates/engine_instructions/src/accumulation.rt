@@ -120,8 +120,6 @@ fn give_other(engine: &mut Engine, definition: &Definition, given: Option<Value>
     ensures counted { KeepsCounts definition.now engine.old engine.new }
     ensures room { SameRoom engine.old engine.new }
 {
-    // For the proof: the clauses speak of the definition.
-    let _ = definition;
     let Some(task) = engine.stack.first() else {
         return;
     };

@@ -1,27 +1,25 @@
 //! `call`: a program calls a method of an object's peer.
 
-ghost use Rattle.std.specs.Prelude.{◌≡◌, List, Ok, IfOk, IfSome, IsSome, OnErr, OnOk, map, option_map, string_bytes};
+ghost use Rattle.std.specs.Prelude.{◌≡◌, List, Ok, IfOk, IfSome, IsSome, map, option_map, string_bytes};
 ghost use Rattle.ui_machine.specs.Definition.Types.{GType};
-ghost use Rattle.ui_machine.specs.Instructions.{in_front};
 ghost use Rattle.ui_machine.specs.Instructions.Peers.{calling};
 ghost use Rattle.ui_machine.specs.declared.arm.Arm.TheVariants as arms;
 ghost use Rattle.ui_machine.specs.Outcome.{known};
 ghost use Rattle.ui_machine.specs.Definition.Names.{place_named};
 ghost use Rattle.ui_machine.specs.State.Objects.{Object, living};
-ghost use Rattle.ui_machine.specs.Steps.{left};
 ghost use Rattle.law_typing.specs.Good.Meanings.{KeepsMeanings, class_methods};
 ghost use Rattle.linked_programs.specs.Linked.{LinksMethod};
 ghost use Rattle.bytecode.specs.View.{number_of};
-ghost use Rattle.engine_world.specs.FirstPrograms.{IsProgram, first_frame, rest_of};
+ghost use Rattle.engine_world.specs.FirstPrograms.{IsProgram, first_frame};
 ghost use Rattle.engine_world.specs.Counting.{Counts, nothing};
-ghost use Rattle.engine_world.specs.EngineView.{config_of};
-ghost use Rattle.engine_world.specs.Able.{Able, Leads, LeadsToLiving};
-ghost use Rattle.engine_world.specs.Quiet.{IsQuiet};
+ghost use Rattle.engine_world.specs.Able.{Able, LeadsToLiving};
 ghost use Rattle.engine_world.specs.SeatView.{HasKnownKinds};
-ghost use Rattle.engine_world.specs.TaskView.{agenda_of, call_of};
-ghost use Rattle.engine_world.specs.Room.{HasRoom, SameRoom};
+ghost use Rattle.engine_world.specs.TaskView.{call_of};
+ghost use Rattle.engine_world.specs.Room.{HasRoom};
 ghost use Rattle.engine_world.specs.View.{world_of};
 ghost use Rattle.engine_instructions.specs.CallingView.{called_in, called_view, due_call};
+ghost use Rattle.engine_world.specs.Executions.{Executes};
+ghost use Rattle.engine_instructions.specs.InProgram.{in_program};
 
 use crate::operands::object_in;
 use bytecode::{Call, Register};
@@ -56,8 +54,6 @@ fn method_number(
     requires link { LinksMethod definition.now engine.now.links name.now link }
     ensures { (o : Object) → living engine.now.world.table.objects object.0 ≡ Some o → result ≡ place_named (λ m. m.name) (class_methods definition.now o.class) name.now }
 {
-    // For the proof: the clauses speak of the name.
-    let _ = name;
     let class = engine.world.table.class_of(object);
     let shape = definition.shape_number(class)?;
     engine.links.method(shape, link.method())
@@ -136,19 +132,12 @@ pub(crate) fn call_from_program(
     requires first { IsProgram engine.now }
     requires link { LinksMethod definition.now engine.now.links (string_bytes call.now.method) link }
     requires meanings { KeepsMeanings definition.now (world_of engine.now.world) }
-    requires able { Able (left engine.now.counted (in_front (rest_of definition.now engine.now) (calling definition.now (world_of engine.now.world) (first_frame engine.now)
-        call.now.to.0 call.now.object.0 (string_bytes call.now.method) (map number_of call.now.args.items)))) }
-    requires names { LeadsToLiving (left engine.now.counted (in_front (rest_of definition.now engine.now) (calling definition.now (world_of engine.now.world) (first_frame engine.now)
-        call.now.to.0 call.now.object.0 (string_bytes call.now.method) (map number_of call.now.args.items)))) }
+    requires able { Able (in_program definition.now engine.now (λ w f. calling definition.now w f call.now.to.0 call.now.object.0 (string_bytes call.now.method) (map number_of call.now.args.items))) }
+    requires names { LeadsToLiving (in_program definition.now engine.now (λ w f. calling definition.now w f call.now.to.0 call.now.object.0 (string_bytes call.now.method) (map number_of call.now.args.items))) }
     requires counted { Counts definition.now nothing engine.now }
     requires room { HasRoom 1 engine.now }
-    ensures step { Leads result
-        (left engine.old.counted (in_front (rest_of definition.now engine.old) (calling definition.now (world_of engine.old.world) (first_frame engine.old)
-        call.now.to.0 call.now.object.0 (string_bytes call.now.method) (map number_of call.now.args.items))))
-        (config_of definition.now engine.new) }
-    ensures quiet { OnErr result (IsQuiet (world_of engine.old.world) (world_of engine.new.world)) }
-    ensures counted { OnOk result (Counts definition.now nothing engine.new) }
-    ensures room { SameRoom engine.old engine.new }
+    ensures { Executes result definition.now engine.old engine.new
+        (in_program definition.now engine.old (λ w f. calling definition.now w f call.now.to.0 call.now.object.0 (string_bytes call.now.method) (map number_of call.now.args.items))) }
 {
     let due = due_call(engine, definition, call, link)?;
     push_task(engine, Task::Calling(due));

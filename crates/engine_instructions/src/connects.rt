@@ -1,21 +1,17 @@
 //! `connect`: a program connects a handler (GObject manual, Signals: `g_signal_connect_data`).
 
-ghost use Rattle.std.specs.Prelude.{◌≡◌, true, IfOk, Ok, OnOk, OnErr};
-ghost use Rattle.ui_machine.specs.Instructions.{in_front};
+ghost use Rattle.std.specs.Prelude.{◌≡◌, true, IfOk, Ok};
 ghost use Rattle.ui_machine.specs.Instructions.Signals.{connecting};
-ghost use Rattle.ui_machine.specs.Steps.{left};
 ghost use Rattle.engine_world.specs.FirstPrograms.{IsProgram, first_frame, rest_of};
 ghost use Rattle.bytecode.specs.View.{connect_view};
 ghost use Rattle.signal_core.specs.Connected.{connection_of};
 ghost use Rattle.engine_world.specs.ConnectView.{connection_in};
 ghost use Rattle.engine_world.specs.Counting.{Counts, nothing};
-ghost use Rattle.engine_world.specs.EngineView.{config_of};
-ghost use Rattle.engine_world.specs.Able.{Able, Leads};
+ghost use Rattle.engine_world.specs.Able.{Able};
 ghost use Rattle.linked_programs.specs.Linked.{LinksConnection};
-ghost use Rattle.engine_world.specs.Quiet.{IsQuiet};
-ghost use Rattle.engine_world.specs.TaskView.{agenda_of};
-ghost use Rattle.engine_world.specs.Room.{HasRoom, SameRoom};
 ghost use Rattle.engine_world.specs.View.{world_of};
+ghost use Rattle.engine_world.specs.Executions.{Executes};
+ghost use Rattle.engine_instructions.specs.InProgram.{in_program};
 
 use crate::details::detail_in;
 use crate::emits::signal_in;
@@ -82,16 +78,10 @@ pub(crate) fn connect_from_program(
 ) -> Result<(), AllocError>
     requires first { IsProgram engine.now }
     requires link { LinksConnection definition.now engine.now.links (connect_view connect.now) link }
-    requires able { Able (left engine.now.counted (in_front (rest_of definition.now engine.now)
-        (connecting definition.now (world_of engine.now.world) (rest_of definition.now engine.now) (first_frame engine.now) to.0 object.0 (connect_view connect.now)))) }
+    requires able { Able (in_program definition.now engine.now (λ w f. connecting definition.now w (rest_of definition.now engine.now) f to.0 object.0 (connect_view connect.now))) }
     requires counted { Counts definition.now nothing engine.now }
-    ensures step { Leads result
-        (left engine.old.counted (in_front (rest_of definition.now engine.old)
-        (connecting definition.now (world_of engine.old.world) (rest_of definition.now engine.old) (first_frame engine.old) to.0 object.0 (connect_view connect.now))))
-        (config_of definition.now engine.new) }
-    ensures quiet { OnErr result (IsQuiet (world_of engine.old.world) (world_of engine.new.world)) }
-    ensures counted { OnOk result (Counts definition.now nothing engine.new) }
-    ensures room { SameRoom engine.old engine.new }
+    ensures { Executes result definition.now engine.old engine.new
+        (in_program definition.now engine.old (λ w f. connecting definition.now w (rest_of definition.now engine.old) f to.0 object.0 (connect_view connect.now))) }
 {
     let connection = new_connection(engine, definition, object, connect, link)?;
     let outcome = connect_handler(engine, definition, connection)?;

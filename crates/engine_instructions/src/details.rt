@@ -29,8 +29,6 @@ fn property_named(
     requires link { IsDetail definition.now engine.now.links (Some detail.now) (linked.detail_in link) }
     ensures { IfOk result (λ text. detail_named definition.now class detail.now ≡ Ok (string_bytes text)) }
 {
-    // For the proof: the clauses speak of the definition, of the class and of the detail.
-    let (_, _, _) = (definition, class, detail);
     let Some(at) = link.detail() else {
         unreachable!()
     };

@@ -1,20 +1,18 @@
 //! `emit`: a program emits a signal (GObject manual, Signals: `g_signal_emit`).
 
-ghost use Rattle.std.specs.Prelude.{◌≡◌, [], IfOk, Ok, OnOk, OnErr};
-ghost use Rattle.ui_machine.specs.Instructions.{in_front};
+ghost use Rattle.std.specs.Prelude.{◌≡◌, [], IfOk, Ok};
 ghost use Rattle.ui_machine.specs.Instructions.Signals.{emitting, signal_in};
-ghost use Rattle.ui_machine.specs.Steps.{left};
-ghost use Rattle.engine_world.specs.FirstPrograms.{IsProgram, first_frame, rest_of};
+ghost use Rattle.engine_world.specs.FirstPrograms.{IsProgram, first_frame};
 ghost use Rattle.engine_world.specs.Counting.{Counts, nothing};
-ghost use Rattle.engine_world.specs.EngineView.{config_of};
 ghost use Rattle.engine_instructions.specs.EmitView.{emission_by_code, emit_of};
-ghost use Rattle.engine_world.specs.Able.{Able, Leads, LeadsToLiving};
+ghost use Rattle.engine_world.specs.Able.{Able, LeadsToLiving};
 ghost use Rattle.linked_programs.specs.Linked.{IsSignal, LinksEmission};
 ghost use Rattle.linked_programs.specs.Linked as linked;
-ghost use Rattle.engine_world.specs.Quiet.{IsQuiet};
-ghost use Rattle.engine_world.specs.TaskView.{agenda_of, new_of};
-ghost use Rattle.engine_world.specs.Room.{HasRoom, SameRoom};
+ghost use Rattle.engine_world.specs.TaskView.{new_of};
+ghost use Rattle.engine_world.specs.Room.{HasRoom};
 ghost use Rattle.engine_world.specs.View.{world_of};
+ghost use Rattle.engine_world.specs.Executions.{Executes};
+ghost use Rattle.engine_instructions.specs.InProgram.{in_program};
 
 use crate::details::shared_detail_in;
 use crate::operands::object_in;
@@ -55,8 +53,6 @@ pub(crate) fn signal_in(
     requires link { IsSignal definition.now engine.now.links name.now (linked.signal_in link) }
     ensures { signal_in definition.now (world_of engine.now.world) object.0 name.now ≡ Ok result }
 {
-    // For the proof: the clauses speak of the definition, and of the name.
-    let (_, _) = (definition, name);
     let class = engine.world.table.class_of(object);
     let Some(number) = engine.links.signal(class, link.signal()) else {
         unreachable!()
@@ -101,16 +97,12 @@ pub(crate) fn emit_from_program(
 ) -> Result<(), AllocError>
     requires first { IsProgram engine.now }
     requires link { LinksEmission definition.now engine.now.links emit.signal.now (emit_of emit).detail emit.link }
-    requires able { Able (left engine.now.counted (in_front (rest_of definition.now engine.now) (emitting definition.now (world_of engine.now.world) (first_frame engine.now) object.0 (emit_of emit)))) }
-    requires names { LeadsToLiving (left engine.now.counted (in_front (rest_of definition.now engine.now) (emitting definition.now (world_of engine.now.world) (first_frame engine.now) object.0 (emit_of emit)))) }
+    requires able { Able (in_program definition.now engine.now (λ w f. emitting definition.now w f object.0 (emit_of emit))) }
+    requires names { LeadsToLiving (in_program definition.now engine.now (λ w f. emitting definition.now w f object.0 (emit_of emit))) }
     requires counted { Counts definition.now nothing engine.now }
     requires room { HasRoom 1 engine.now }
-    ensures step { Leads result
-        (left engine.old.counted (in_front (rest_of definition.now engine.old) (emitting definition.now (world_of engine.old.world) (first_frame engine.old) object.0 (emit_of emit.entry))))
-        (config_of definition.now engine.new) }
-    ensures quiet { OnErr result (IsQuiet (world_of engine.old.world) (world_of engine.new.world)) }
-    ensures counted { OnOk result (Counts definition.now nothing engine.new) }
-    ensures room { SameRoom engine.old engine.new }
+    ensures { Executes result definition.now engine.old engine.new
+        (in_program definition.now engine.old (λ w f. emitting definition.now w f object.0 (emit_of emit.entry))) }
 {
     let args = engine.spare_args.take_for(engine.alloc, emit.args.len());
     let emission = new_emission(engine, definition, object, emit, args)?;

@@ -1,23 +1,20 @@
 //! The execution of an instruction, by its sort.
 
-ghost use Rattle.std.specs.Prelude.{◌≡◌, ◌-◌, Some, IfSome, OnOk, OnErr};
+ghost use Rattle.std.specs.Prelude.{◌≡◌, ◌-◌, Some, IfSome, OnOk};
 ghost use Rattle.ui_machine.specs.Definition.Lookups.{program_at};
-ghost use Rattle.ui_machine.specs.Instructions.{instruction_step};
-ghost use Rattle.ui_machine.specs.Steps.{left};
 ghost use Rattle.g_values.specs.View.{IsKnown};
 ghost use Rattle.law_typing.specs.Good.Meanings.{KeepsMeanings};
-ghost use Rattle.engine_world.specs.FirstPrograms.{IsProgram, first_frame, rest_of};
+ghost use Rattle.engine_world.specs.FirstPrograms.{IsProgram, first_frame};
 ghost use Rattle.bytecode.specs.Known.{HasKnownKinds};
 ghost use Rattle.bytecode.specs.View.{control_view, instruction_view, object_instruction_view, program_view, property_instruction_view, signal_instruction_view, source_instruction_view};
-ghost use Rattle.engine_world.specs.Quiet.{IsQuiet};
-ghost use Rattle.engine_world.specs.Room.{HasRoom, SameRoom};
+ghost use Rattle.engine_world.specs.Room.{HasRoom};
 ghost use Rattle.engine_world.specs.View.{world_of};
-ghost use Rattle.engine_world.specs.TaskView.{agenda_of};
 ghost use Rattle.engine_world.specs.Counting.{Counts, nothing};
-ghost use Rattle.engine_world.specs.EngineView.{config_of};
-ghost use Rattle.engine_world.specs.Able.{Able, Leads, LeadsToLiving, LeadsWithoutGone};
+ghost use Rattle.engine_world.specs.Able.{Able, LeadsToLiving};
 ghost use Rattle.engine_instructions.specs.ClosedPeers.{LeavesClosed};
 ghost use Rattle.linked_programs.specs.Linked.{AreLinked, IsLink, instruction_at};
+ghost use Rattle.engine_world.specs.Executions.{Executes, ExecutesWithoutGone};
+ghost use Rattle.engine_instructions.specs.InProgram.{executed};
 
 use crate::calls::call_from_program;
 use crate::connects::connect_from_program;
@@ -51,8 +48,6 @@ fn link_of(engine: &Engine, definition: &Definition, instruction: &Instruction) 
     requires taken { instruction_at definition.now (first_frame engine.now).program (first_frame engine.now).block ((first_frame engine.now).at - 1) ≡ Some (instruction_view instruction.now) }
     ensures { IsLink definition.now engine.now.links (instruction_view instruction.now) result }
 {
-    // For the proof: the clauses speak of the definition, and of the instruction.
-    let (_, _) = (definition, instruction);
     let frame = first_frame(engine);
     let at = frame.at.saturating_sub(1);
     engine.links.link(frame.program, frame.block, at)
@@ -71,8 +66,8 @@ pub fn execute(
     instruction: &Instruction,
 ) -> Result<(), AllocError>
     requires first { IsProgram engine.now }
-    requires able { Able (left engine.now.counted (instruction_step definition.now (world_of engine.now.world) (rest_of definition.now engine.now) (first_frame engine.now) (instruction_view instruction.now))) }
-    requires names { LeadsToLiving (left engine.now.counted (instruction_step definition.now (world_of engine.now.world) (rest_of definition.now engine.now) (first_frame engine.now) (instruction_view instruction.now))) }
+    requires able { Able (executed definition.now engine.now (instruction_view instruction.now)) }
+    requires names { LeadsToLiving (executed definition.now engine.now (instruction_view instruction.now)) }
     requires program { program_at definition.now (first_frame engine.now).program ≡ Some (program_view program.now) }
     requires taken { instruction_at definition.now (first_frame engine.now).program (first_frame engine.now).block ((first_frame engine.now).at - 1) ≡ Some (instruction_view instruction.now) }
     requires known { HasKnownKinds definition.now.types instruction.now }
@@ -80,13 +75,9 @@ pub fn execute(
     requires result { IfSome program.now.result (IsKnown definition.now.types) }
     requires counted { Counts definition.now nothing engine.now }
     requires room { HasRoom 1 engine.now }
-    ensures step { LeadsWithoutGone result
-        (left engine.old.counted (instruction_step definition.now (world_of engine.old.world) (rest_of definition.now engine.old) (first_frame engine.old) (instruction_view instruction.now)))
-        (config_of definition.now engine.new) }
-    ensures quiet { OnErr result (IsQuiet (world_of engine.old.world) (world_of engine.new.world)) }
+    ensures executes { ExecutesWithoutGone result definition.now engine.old engine.new nothing
+        (executed definition.now engine.old (instruction_view instruction.now)) }
     ensures closing { OnOk result (LeavesClosed (instruction_view instruction.now) (world_of engine.old.world) (first_frame engine.old) engine.old.closing engine.new.closing) }
-    ensures counted { OnOk result (Counts definition.now nothing engine.new) }
-    ensures room { SameRoom engine.old engine.new }
 {
     match instruction {
         Instruction::Compute { to, computation } => {
@@ -124,16 +115,11 @@ fn execute_control(
     instruction: &ControlInstruction,
 ) -> Result<(), AllocError>
     requires first { IsProgram engine.now }
-    requires able { Able (left engine.now.counted (instruction_step definition.now (world_of engine.now.world) (rest_of definition.now engine.now) (first_frame engine.now) (control_view instruction.now))) }
+    requires able { Able (executed definition.now engine.now (control_view instruction.now)) }
     requires program { program_at definition.now (first_frame engine.now).program ≡ Some (program_view program.now) }
     requires result { IfSome program.now.result (IsKnown definition.now.types) }
     requires counted { Counts definition.now nothing engine.now }
-    ensures step { Leads result
-        (left engine.old.counted (instruction_step definition.now (world_of engine.old.world) (rest_of definition.now engine.old) (first_frame engine.old) (control_view instruction.now)))
-        (config_of definition.now engine.new) }
-    ensures quiet { OnErr result (IsQuiet (world_of engine.old.world) (world_of engine.new.world)) }
-    ensures counted { OnOk result (Counts definition.now nothing engine.new) }
-    ensures room { SameRoom engine.old engine.new }
+    ensures { Executes result definition.now engine.old engine.new (executed definition.now engine.old (control_view instruction.now)) }
 {
     match instruction {
         ControlInstruction::Jump(to) => jump(engine, definition, program, *to),
@@ -163,16 +149,12 @@ fn execute_on_properties(
 ) -> Result<(), AllocError>
     requires first { IsProgram engine.now }
     requires link { IsLink definition.now engine.now.links (property_instruction_view instruction.now) link }
-    requires able { Able (left engine.now.counted (instruction_step definition.now (world_of engine.now.world) (rest_of definition.now engine.now) (first_frame engine.now) (property_instruction_view instruction.now))) }
-    requires names { LeadsToLiving (left engine.now.counted (instruction_step definition.now (world_of engine.now.world) (rest_of definition.now engine.now) (first_frame engine.now) (property_instruction_view instruction.now))) }
+    requires able { Able (executed definition.now engine.now (property_instruction_view instruction.now)) }
+    requires names { LeadsToLiving (executed definition.now engine.now (property_instruction_view instruction.now)) }
     requires counted { Counts definition.now nothing engine.now }
     requires room { HasRoom 1 engine.now }
-    ensures step { Leads result
-        (left engine.old.counted (instruction_step definition.now (world_of engine.old.world) (rest_of definition.now engine.old) (first_frame engine.old) (property_instruction_view instruction.now)))
-        (config_of definition.now engine.new) }
-    ensures quiet { OnErr result (IsQuiet (world_of engine.old.world) (world_of engine.new.world)) }
-    ensures counted { OnOk result (Counts definition.now nothing engine.new) }
-    ensures room { SameRoom engine.old engine.new }
+    ensures { Executes result definition.now engine.old engine.new
+        (executed definition.now engine.old (property_instruction_view instruction.now)) }
 {
     match instruction {
         PropertyInstruction::Get {
@@ -203,17 +185,13 @@ fn execute_on_objects(
 ) -> Result<(), AllocError>
     requires first { IsProgram engine.now }
     requires link { IsLink definition.now engine.now.links (object_instruction_view instruction.now) link }
-    requires able { Able (left engine.now.counted (instruction_step definition.now (world_of engine.now.world) (rest_of definition.now engine.now) (first_frame engine.now) (object_instruction_view instruction.now))) }
-    requires names { LeadsToLiving (left engine.now.counted (instruction_step definition.now (world_of engine.now.world) (rest_of definition.now engine.now) (first_frame engine.now) (object_instruction_view instruction.now))) }
+    requires able { Able (executed definition.now engine.now (object_instruction_view instruction.now)) }
+    requires names { LeadsToLiving (executed definition.now engine.now (object_instruction_view instruction.now)) }
     requires counted { Counts definition.now nothing engine.now }
     requires room { HasRoom 1 engine.now }
-    ensures step { LeadsWithoutGone result
-        (left engine.old.counted (instruction_step definition.now (world_of engine.old.world) (rest_of definition.now engine.old) (first_frame engine.old) (object_instruction_view instruction.now)))
-        (config_of definition.now engine.new) }
-    ensures quiet { OnErr result (IsQuiet (world_of engine.old.world) (world_of engine.new.world)) }
+    ensures executes { ExecutesWithoutGone result definition.now engine.old engine.new nothing
+        (executed definition.now engine.old (object_instruction_view instruction.now)) }
     ensures closing { OnOk result (LeavesClosed (object_instruction_view instruction.now) (world_of engine.old.world) (first_frame engine.old) engine.old.closing engine.new.closing) }
-    ensures counted { OnOk result (Counts definition.now nothing engine.new) }
-    ensures room { SameRoom engine.old engine.new }
 {
     match instruction {
         ObjectInstruction::LookUp { to, id } => {
@@ -239,16 +217,12 @@ fn execute_on_signals(
 ) -> Result<(), AllocError>
     requires first { IsProgram engine.now }
     requires link { IsLink definition.now engine.now.links (signal_instruction_view instruction.now) link }
-    requires able { Able (left engine.now.counted (instruction_step definition.now (world_of engine.now.world) (rest_of definition.now engine.now) (first_frame engine.now) (signal_instruction_view instruction.now))) }
-    requires names { LeadsToLiving (left engine.now.counted (instruction_step definition.now (world_of engine.now.world) (rest_of definition.now engine.now) (first_frame engine.now) (signal_instruction_view instruction.now))) }
+    requires able { Able (executed definition.now engine.now (signal_instruction_view instruction.now)) }
+    requires names { LeadsToLiving (executed definition.now engine.now (signal_instruction_view instruction.now)) }
     requires counted { Counts definition.now nothing engine.now }
     requires room { HasRoom 1 engine.now }
-    ensures step { LeadsWithoutGone result
-        (left engine.old.counted (instruction_step definition.now (world_of engine.old.world) (rest_of definition.now engine.old) (first_frame engine.old) (signal_instruction_view instruction.now)))
-        (config_of definition.now engine.new) }
-    ensures quiet { OnErr result (IsQuiet (world_of engine.old.world) (world_of engine.new.world)) }
-    ensures counted { OnOk result (Counts definition.now nothing engine.new) }
-    ensures room { SameRoom engine.old engine.new }
+    ensures { ExecutesWithoutGone result definition.now engine.old engine.new nothing
+        (executed definition.now engine.old (signal_instruction_view instruction.now)) }
 {
     match instruction {
         SignalInstruction::Emit {
@@ -296,14 +270,10 @@ fn execute_on_sources(
     requires first { IsProgram engine.now }
     requires link { IsLink definition.now engine.now.links (source_instruction_view instruction.now) link }
     requires meanings { KeepsMeanings definition.now (world_of engine.now.world) }
-    requires able { Able (left engine.now.counted (instruction_step definition.now (world_of engine.now.world) (rest_of definition.now engine.now) (first_frame engine.now) (source_instruction_view instruction.now))) }
+    requires able { Able (executed definition.now engine.now (source_instruction_view instruction.now)) }
     requires counted { Counts definition.now nothing engine.now }
-    ensures step { Leads result
-        (left engine.old.counted (instruction_step definition.now (world_of engine.old.world) (rest_of definition.now engine.old) (first_frame engine.old) (source_instruction_view instruction.now)))
-        (config_of definition.now engine.new) }
-    ensures quiet { OnErr result (IsQuiet (world_of engine.old.world) (world_of engine.new.world)) }
-    ensures counted { OnOk result (Counts definition.now nothing engine.new) }
-    ensures room { SameRoom engine.old engine.new }
+    ensures { Executes result definition.now engine.old engine.new
+        (executed definition.now engine.old (source_instruction_view instruction.now)) }
 {
     match instruction {
         SourceInstruction::Unbind(name) => {

@@ -1,23 +1,18 @@
 //! Jumps and branches, which set the block where a program goes on.
 
-ghost use Rattle.std.specs.Prelude.{◌≡◌, None, Some, OnOk, OnErr};
+ghost use Rattle.std.specs.Prelude.{◌≡◌, None, Some};
 ghost use Rattle.ui_machine.specs.Definition.Lookups.{program_at};
-ghost use Rattle.ui_machine.specs.Instructions.{in_front};
 ghost use Rattle.ui_machine.specs.Instructions.Jumps.{branching, branching_null, jumping};
 ghost use Rattle.ui_machine.specs.Seq.{read};
-ghost use Rattle.ui_machine.specs.Steps.{left};
 ghost use Rattle.bytecode.specs.Computing.{registers_of};
 ghost use Rattle.frames.specs.Computing.{of_one};
-ghost use Rattle.engine_world.specs.FirstPrograms.{IsProgram, first_frame, rest_of};
+ghost use Rattle.engine_world.specs.FirstPrograms.{IsProgram, first_frame};
 ghost use Rattle.bytecode.specs.View.{program_view};
-ghost use Rattle.engine_world.specs.Able.{Able, Leads};
-ghost use Rattle.engine_world.specs.Quiet.{IsQuiet};
-ghost use Rattle.engine_world.specs.Room.{HasRoom, SameRoom};
-ghost use Rattle.engine_world.specs.View.{world_of};
-ghost use Rattle.engine_world.specs.TaskView.{agenda_of};
+ghost use Rattle.engine_world.specs.Able.{Able};
 ghost use Rattle.engine_world.specs.Counting.{Counts, nothing};
-ghost use Rattle.engine_world.specs.EngineView.{config_of};
 ghost use Rattle.engine_instructions.specs.JumpView.{is_null};
+ghost use Rattle.engine_world.specs.Executions.{Executes};
+ghost use Rattle.engine_instructions.specs.InProgram.{in_program};
 
 use bytecode::{BlockNumber, Program, Register};
 use definitions::Definition;
@@ -41,16 +36,12 @@ fn null_at(registers: &[Option<Value>], at: Register) -> Option<bool>
 /// Makes the program go on at a block.
 pub(crate) fn jump(engine: &mut Engine, definition: &Definition, program: &Program, to: BlockNumber)
     requires first { IsProgram engine.now }
-    requires able { Able (left engine.now.counted (in_front (rest_of definition.now engine.now) (jumping definition.now (world_of engine.now.world) (first_frame engine.now) to.0))) }
+    requires able { Able (in_program definition.now engine.now (λ w f. jumping definition.now w f to.0)) }
     requires program { program_at definition.now (first_frame engine.now).program ≡ Some (program_view program.now) }
     requires counted { Counts definition.now nothing engine.now }
-    ensures step { left engine.old.counted (in_front (rest_of definition.now engine.old) (jumping definition.now (world_of engine.old.world) (first_frame engine.old) to.0))
-        ≡ Ok (config_of definition.now engine.new) }
-    ensures counted { Counts definition.now nothing engine.new }
-    ensures room { SameRoom engine.old engine.new }
+    ensures { Executes (Ok result) definition.now engine.old engine.new
+        (in_program definition.now engine.old (λ w f. jumping definition.now w f to.0)) }
 {
-    // For the proof: the clauses speak of the definition.
-    let _ = definition;
     engine.stack.jump_first(program, to);
 }
 
@@ -64,13 +55,11 @@ pub(crate) fn branch(
     else_to: BlockNumber,
 )
     requires first { IsProgram engine.now }
-    requires able { Able (left engine.now.counted (in_front (rest_of definition.now engine.now) (branching definition.now (world_of engine.now.world) (first_frame engine.now) on.0 then_to.0 else_to.0))) }
+    requires able { Able (in_program definition.now engine.now (λ w f. branching definition.now w f on.0 then_to.0 else_to.0)) }
     requires program { program_at definition.now (first_frame engine.now).program ≡ Some (program_view program.now) }
     requires counted { Counts definition.now nothing engine.now }
-    ensures step { left engine.old.counted (in_front (rest_of definition.now engine.old) (branching definition.now (world_of engine.old.world) (first_frame engine.old) on.0 then_to.0 else_to.0))
-        ≡ Ok (config_of definition.now engine.new) }
-    ensures counted { Counts definition.now nothing engine.new }
-    ensures room { SameRoom engine.old engine.new }
+    ensures { Executes (Ok result) definition.now engine.old engine.new
+        (in_program definition.now engine.old (λ w f. branching definition.now w f on.0 then_to.0 else_to.0)) }
 {
     let Some(truth) = truth_at(first_registers(engine), on) else {
         unreachable!()
@@ -91,13 +80,11 @@ pub(crate) fn branch_null(
     else_to: BlockNumber,
 )
     requires first { IsProgram engine.now }
-    requires able { Able (left engine.now.counted (in_front (rest_of definition.now engine.now) (branching_null definition.now (world_of engine.now.world) (first_frame engine.now) on.0 then_to.0 else_to.0))) }
+    requires able { Able (in_program definition.now engine.now (λ w f. branching_null definition.now w f on.0 then_to.0 else_to.0)) }
     requires program { program_at definition.now (first_frame engine.now).program ≡ Some (program_view program.now) }
     requires counted { Counts definition.now nothing engine.now }
-    ensures step { left engine.old.counted (in_front (rest_of definition.now engine.old) (branching_null definition.now (world_of engine.old.world) (first_frame engine.old) on.0 then_to.0 else_to.0))
-        ≡ Ok (config_of definition.now engine.new) }
-    ensures counted { Counts definition.now nothing engine.new }
-    ensures room { SameRoom engine.old engine.new }
+    ensures { Executes (Ok result) definition.now engine.old engine.new
+        (in_program definition.now engine.old (λ w f. branching_null definition.now w f on.0 then_to.0 else_to.0)) }
 {
     let Some(is_null) = null_at(first_registers(engine), on) else {
         unreachable!()

@@ -1,23 +1,20 @@
 //! Instructions on handlers (GObject manual, Signals: `g_signal_connect_data`, `g_signal_handlers_disconnect_matched`,
 //! `g_signal_handlers_block_matched`).
 
-ghost use Rattle.std.specs.Prelude.{◌≡◌, Ok, map, OnOk, OnErr};
-ghost use Rattle.ui_machine.specs.Instructions.{in_front};
+ghost use Rattle.std.specs.Prelude.{◌≡◌, Ok, map};
 ghost use Rattle.ui_machine.specs.Instructions.Signals.{blocking, disconnecting, unblocking};
 ghost use Rattle.ui_machine.specs.Rules.Connections.{blocked, disconnected, unblocked, with_handlers_on};
-ghost use Rattle.ui_machine.specs.Steps.{left};
-ghost use Rattle.engine_world.specs.FirstPrograms.{IsProgram, first_frame, rest_of};
+ghost use Rattle.engine_world.specs.FirstPrograms.{IsProgram, first_frame};
 ghost use Rattle.machine_laws.specs.GoneLaws.{pruned};
 ghost use Rattle.engine_world.specs.Counting.{Counts, KeepsCounts, nothing};
-ghost use Rattle.engine_world.specs.EngineView.{config_of};
 ghost use Rattle.engine_instructions.specs.HandlersView.{matched_in, matched_of};
-ghost use Rattle.engine_world.specs.Able.{Able, ComesWithoutGone};
+ghost use Rattle.engine_world.specs.Able.{Able};
 ghost use Rattle.linked_programs.specs.Linked.{LinksProgram};
-ghost use Rattle.engine_world.specs.Quiet.{IsQuiet};
 ghost use Rattle.engine_world.specs.Standing.{gone_handlers};
 ghost use Rattle.engine_world.specs.TaskView.{agenda_of};
-ghost use Rattle.engine_world.specs.Room.{HasRoom, SameRoom};
 ghost use Rattle.engine_world.specs.View.{world_of};
+ghost use Rattle.engine_world.specs.Executions.{Executes, ExecutesWithoutGone};
+ghost use Rattle.engine_instructions.specs.InProgram.{in_program};
 
 use crate::operands::{object_in, program_named};
 use bytecode::Register;
@@ -60,8 +57,7 @@ fn disconnect(engine: &mut Engine, definition: &Definition, matched: Matched)
     ensures counted { KeepsCounts definition.now engine.old engine.new }
     ensures stack { engine.new.stack ≡ engine.old.stack }
 {
-    // For the proof: the clauses speak of the definition, and of the numbers of handlers.
-    let _ = definition;
+    // For the proof: what is known of the numbers of handlers.
     let _last = engine.world.handlers.last();
     engine
         .world
@@ -77,8 +73,6 @@ fn block(engine: &mut Engine, definition: &Definition, matched: Matched)
     ensures counted { KeepsCounts definition.now engine.old engine.new }
     ensures stack { engine.new.stack ≡ engine.old.stack }
 {
-    // For the proof: the clauses speak of the definition.
-    let _ = definition;
     engine
         .world
         .handlers
@@ -93,8 +87,6 @@ fn unblock(engine: &mut Engine, definition: &Definition, matched: Matched)
     ensures counted { KeepsCounts definition.now engine.old engine.new }
     ensures stack { engine.new.stack ≡ engine.old.stack }
 {
-    // For the proof: the clauses speak of the definition.
-    let _ = definition;
     engine
         .world
         .handlers
@@ -111,13 +103,10 @@ pub(crate) fn disconnect_matched(
 )
     requires first { IsProgram engine.now }
     requires link { LinksProgram definition.now program.now link }
-    requires able { Able (left engine.now.counted (in_front (rest_of definition.now engine.now) (disconnecting definition.now (world_of engine.now.world) (first_frame engine.now) object.0 program.now))) }
+    requires able { Able (in_program definition.now engine.now (λ w f. disconnecting definition.now w f object.0 program.now)) }
     requires counted { Counts definition.now nothing engine.now }
-    ensures step { ComesWithoutGone
-        (left engine.old.counted (in_front (rest_of definition.now engine.old) (disconnecting definition.now (world_of engine.old.world) (first_frame engine.old) object.0 program.now)))
-        (config_of definition.now engine.new) }
-    ensures counted { Counts definition.now nothing engine.new }
-    ensures room { SameRoom engine.old engine.new }
+    ensures { ExecutesWithoutGone (Ok result) definition.now engine.old engine.new nothing
+        (in_program definition.now engine.old (λ w f. disconnecting definition.now w f object.0 program.now)) }
 {
     let matched = matched_in(engine, definition, object, program, link);
     disconnect(engine, definition, matched);
@@ -133,12 +122,10 @@ pub(crate) fn block_matched(
 )
     requires first { IsProgram engine.now }
     requires link { LinksProgram definition.now program.now link }
-    requires able { Able (left engine.now.counted (in_front (rest_of definition.now engine.now) (blocking definition.now (world_of engine.now.world) (first_frame engine.now) object.0 program.now))) }
+    requires able { Able (in_program definition.now engine.now (λ w f. blocking definition.now w f object.0 program.now)) }
     requires counted { Counts definition.now nothing engine.now }
-    ensures step { left engine.old.counted (in_front (rest_of definition.now engine.old) (blocking definition.now (world_of engine.old.world) (first_frame engine.old) object.0 program.now))
-        ≡ Ok (config_of definition.now engine.new) }
-    ensures counted { Counts definition.now nothing engine.new }
-    ensures room { SameRoom engine.old engine.new }
+    ensures { Executes (Ok result) definition.now engine.old engine.new
+        (in_program definition.now engine.old (λ w f. blocking definition.now w f object.0 program.now)) }
 {
     let matched = matched_in(engine, definition, object, program, link);
     block(engine, definition, matched);
@@ -154,12 +141,10 @@ pub(crate) fn unblock_matched(
 )
     requires first { IsProgram engine.now }
     requires link { LinksProgram definition.now program.now link }
-    requires able { Able (left engine.now.counted (in_front (rest_of definition.now engine.now) (unblocking definition.now (world_of engine.now.world) (first_frame engine.now) object.0 program.now))) }
+    requires able { Able (in_program definition.now engine.now (λ w f. unblocking definition.now w f object.0 program.now)) }
     requires counted { Counts definition.now nothing engine.now }
-    ensures step { left engine.old.counted (in_front (rest_of definition.now engine.old) (unblocking definition.now (world_of engine.old.world) (first_frame engine.old) object.0 program.now))
-        ≡ Ok (config_of definition.now engine.new) }
-    ensures counted { Counts definition.now nothing engine.new }
-    ensures room { SameRoom engine.old engine.new }
+    ensures { Executes (Ok result) definition.now engine.old engine.new
+        (in_program definition.now engine.old (λ w f. unblocking definition.now w f object.0 program.now)) }
 {
     let matched = matched_in(engine, definition, object, program, link);
     unblock(engine, definition, matched);

@@ -1,27 +1,25 @@
 //! `new`: a program makes an object of a prototype (GObject manual, GObject: `g_object_new`).
 
-ghost use Rattle.std.specs.Prelude.{◌≡◌, ◌<◌, ◌-◌, ◌&&◌, List, Some, min, length, slice_get, IfSome, OnOk, OnErr, option_map};
-ghost use Rattle.ui_machine.specs.Instructions.{in_front};
+ghost use Rattle.std.specs.Prelude.{◌≡◌, ◌<◌, ◌-◌, ◌&&◌, List, Some, min, length, slice_get, IfSome, option_map};
 ghost use Rattle.ui_machine.specs.Instructions.Objects.{creating};
 ghost use Rattle.ui_machine.specs.Outcome.{known};
 ghost use Rattle.ui_machine.specs.declared.arm.Arm.TheVariants as arms;
 ghost use Rattle.ui_machine.specs.Rules.Build.{is_making, of_items, to_make};
 ghost use Rattle.ui_machine.specs.State.Handlers.{Handler};
 ghost use Rattle.ui_machine.specs.State.Objects.{most_identities};
-ghost use Rattle.ui_machine.specs.Steps.{left};
 ghost use Rattle.definition_format.specs.Meaning.{object_count};
-ghost use Rattle.engine_world.specs.FirstPrograms.{IsProgram, first_frame, rest_of};
+ghost use Rattle.engine_world.specs.FirstPrograms.{IsProgram, rest_of};
 ghost use Rattle.engine_world.specs.Counting.{Counts, nothing};
 ghost use Rattle.definitions.specs.EntryView.{entry_view};
 ghost use Rattle.engine_instructions.specs.CreateView.{created, has_room, prototype_named, prototype_of};
-ghost use Rattle.engine_world.specs.EngineView.{config_of};
 ghost use Rattle.engine_world.specs.PeerPlaces.{is_there};
-ghost use Rattle.engine_world.specs.Able.{Able, Leads};
+ghost use Rattle.engine_world.specs.Able.{Able};
 ghost use Rattle.linked_programs.specs.Linked.{LinksPlace};
-ghost use Rattle.engine_world.specs.Quiet.{IsQuiet};
 ghost use Rattle.engine_world.specs.TaskView.{agenda_of, task_of};
-ghost use Rattle.engine_world.specs.Room.{HasRoom, SameRoom};
+ghost use Rattle.engine_world.specs.Room.{HasRoom};
 ghost use Rattle.engine_world.specs.View.{world_of};
+ghost use Rattle.engine_world.specs.Executions.{Executes};
+ghost use Rattle.engine_instructions.specs.InProgram.{in_program};
 
 use crate::registers::{write_null_and_say_limit, write_register};
 use bytecode::Register;
@@ -49,8 +47,6 @@ fn prototype_named<'a>(definition: &'a Definition, id: &str, link: Link) -> Opti
     ensures named { known arms.Code (option_map prototype_of result) ≡ prototype_named definition.now id.now }
     ensures at { IfSome result (λ p. slice_get definition.now.places p.place.0 ≡ Some (entry_view p.entry)) }
 {
-    // For the proof: the clauses speak of the id.
-    let _ = id;
     let Some(place) = link.place() else {
         return None;
     };
@@ -126,17 +122,13 @@ fn create_at(
     peer: Option<usize>,
 ) -> Result<(), AllocError>
     requires first { IsProgram engine.now }
-    requires able { Able (left engine.now.counted (in_front (rest_of definition.now engine.now) (created definition.now (world_of engine.now.world) (first_frame engine.now) to.0 place.0 peer))) }
+    requires able { Able (in_program definition.now engine.now (λ w f. created definition.now w f to.0 place.0 peer)) }
     requires peer { IfSome peer (λ number. number < length engine.now.world.seats) }
     requires identity { length (world_of engine.now.world).objects < most_identities }
     requires counted { Counts definition.now nothing engine.now }
     requires room { HasRoom 1 engine.now }
-    ensures step { Leads result
-        (left engine.old.counted (in_front (rest_of definition.now engine.old) (created definition.now (world_of engine.old.world) (first_frame engine.old) to.0 place.0 peer)))
-        (config_of definition.now engine.new) }
-    ensures quiet { OnErr result (IsQuiet (world_of engine.old.world) (world_of engine.new.world)) }
-    ensures counted { OnOk result (Counts definition.now nothing engine.new) }
-    ensures room { SameRoom engine.old engine.new }
+    ensures { Executes result definition.now engine.old engine.new
+        (in_program definition.now engine.old (λ w f. created definition.now w f to.0 place.0 peer)) }
 {
     let new = make(engine, definition, place, peer)?;
     write_register(engine, definition, to, Some(object_value(new.object)));
@@ -156,17 +148,11 @@ pub(crate) fn create(
 ) -> Result<(), AllocError>
     requires first { IsProgram engine.now }
     requires link { LinksPlace definition.now id.now link }
-    requires able { Able (left engine.now.counted (in_front (rest_of definition.now engine.now)
-        (creating definition.now (world_of engine.now.world) (rest_of definition.now engine.now) (first_frame engine.now) to.0 id.now))) }
+    requires able { Able (in_program definition.now engine.now (λ w f. creating definition.now w (rest_of definition.now engine.now) f to.0 id.now)) }
     requires counted { Counts definition.now nothing engine.now }
     requires room { HasRoom 1 engine.now }
-    ensures step { Leads result
-        (left engine.old.counted (in_front (rest_of definition.now engine.old)
-        (creating definition.now (world_of engine.old.world) (rest_of definition.now engine.old) (first_frame engine.old) to.0 id.now)))
-        (config_of definition.now engine.new) }
-    ensures quiet { OnErr result (IsQuiet (world_of engine.old.world) (world_of engine.new.world)) }
-    ensures counted { OnOk result (Counts definition.now nothing engine.new) }
-    ensures room { SameRoom engine.old engine.new }
+    ensures { Executes result definition.now engine.old engine.new
+        (in_program definition.now engine.old (λ w f. creating definition.now w (rest_of definition.now engine.old) f to.0 id.now)) }
 {
     // For the proof: what is known of a definition's places.
     let _types = definition.types();

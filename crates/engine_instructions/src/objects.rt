@@ -1,19 +1,16 @@
 //! Instructions on objects: `object`, `sink`, `orphan`, `adopt`, `dispose`, `freeze` and `thaw`.
 
 ghost use Rattle.std.specs.Prelude.{◌≡◌, map, IsSome, OnOk, OnErr};
-ghost use Rattle.ui_machine.specs.Instructions.{in_front};
 ghost use Rattle.ui_machine.specs.Instructions.Objects.{adopting, disposing, freezing, look_up_object, orphaning, sinking, thaw_notify};
 ghost use Rattle.ui_machine.specs.Instructions.Registers.{operand_in};
 ghost use Rattle.ui_machine.specs.Rules.Children.{orphaned};
 ghost use Rattle.ui_machine.specs.Rules.Disposal.{disposed};
-ghost use Rattle.ui_machine.specs.Rules.Sets.{is_disposed};
 ghost use Rattle.ui_machine.specs.State.Objects.{living};
-ghost use Rattle.ui_machine.specs.Steps.{left};
-ghost use Rattle.engine_world.specs.FirstPrograms.{IsProgram, first_frame, rest_of};
+ghost use Rattle.engine_world.specs.FirstPrograms.{IsProgram, first_frame};
 ghost use Rattle.instance_tables.specs.Family.{parent_in};
 ghost use Rattle.instance_tables.specs.Weak.{Knows};
 ghost use Rattle.machine_laws.specs.GoneLaws.{pruned};
-ghost use Rattle.engine_world.specs.Able.{Able, Leads, LeadsToLiving, LeadsWithoutGone};
+ghost use Rattle.engine_world.specs.Able.{Able, Leads, LeadsToLiving};
 ghost use Rattle.linked_programs.specs.Linked.{LinksPlace};
 ghost use Rattle.engine_world.specs.Quiet.{IsQuiet};
 ghost use Rattle.engine_world.specs.Room.{HasRoom, SameRoom};
@@ -21,9 +18,10 @@ ghost use Rattle.engine_world.specs.View.{world_of};
 ghost use Rattle.engine_world.specs.TaskView.{agenda_of};
 ghost use Rattle.engine_world.specs.ClosingView.{closed_with, or_number};
 ghost use Rattle.engine_world.specs.Counting.{Counts, KeepsCounts, nothing};
-ghost use Rattle.engine_world.specs.EngineView.{config_of};
 ghost use Rattle.engine_world.specs.Standing.{gone_handlers};
 ghost use Rattle.engine_instructions.specs.ClosedPeers.{closed_in};
+ghost use Rattle.engine_world.specs.Executions.{Executes, ExecutesWithoutGone};
+ghost use Rattle.engine_instructions.specs.InProgram.{in_program};
 
 use crate::operands::object_in;
 use crate::registers::write_register;
@@ -51,16 +49,12 @@ pub(crate) fn look_up_object(
 )
     requires first { IsProgram engine.now }
     requires link { LinksPlace definition.now id.now link }
-    requires able { Able (left engine.now.counted (in_front (rest_of definition.now engine.now) (look_up_object definition.now (world_of engine.now.world) (first_frame engine.now) to.0 id.now))) }
-    requires names { LeadsToLiving (left engine.now.counted (in_front (rest_of definition.now engine.now) (look_up_object definition.now (world_of engine.now.world) (first_frame engine.now) to.0 id.now))) }
+    requires able { Able (in_program definition.now engine.now (λ w f. look_up_object definition.now w f to.0 id.now)) }
+    requires names { LeadsToLiving (in_program definition.now engine.now (λ w f. look_up_object definition.now w f to.0 id.now)) }
     requires counted { Counts definition.now nothing engine.now }
-    ensures step { left engine.old.counted (in_front (rest_of definition.now engine.old) (look_up_object definition.now (world_of engine.old.world) (first_frame engine.old) to.0 id.now))
-        ≡ Ok (config_of definition.now engine.new) }
-    ensures counted { Counts definition.now nothing engine.new }
-    ensures room { SameRoom engine.old engine.new }
+    ensures { Executes (Ok result) definition.now engine.old engine.new
+        (in_program definition.now engine.old (λ w f. look_up_object definition.now w f to.0 id.now)) }
 {
-    // For the proof: the clauses speak of the id.
-    let _ = id;
     let Some(place) = link.place() else {
         unreachable!()
     };
@@ -71,15 +65,11 @@ pub(crate) fn look_up_object(
 /// Sinks an object, which floats no longer.
 pub(crate) fn sink(engine: &mut Engine, definition: &Definition, object: Register)
     requires first { IsProgram engine.now }
-    requires able { Able (left engine.now.counted (in_front (rest_of definition.now engine.now) (sinking (world_of engine.now.world) (first_frame engine.now) object.0))) }
+    requires able { Able (in_program definition.now engine.now (λ w f. sinking w f object.0)) }
     requires counted { Counts definition.now nothing engine.now }
-    ensures step { left engine.old.counted (in_front (rest_of definition.now engine.old) (sinking (world_of engine.old.world) (first_frame engine.old) object.0))
-        ≡ Ok (config_of definition.now engine.new) }
-    ensures counted { Counts definition.now nothing engine.new }
-    ensures room { SameRoom engine.old engine.new }
+    ensures { Executes (Ok result) definition.now engine.old engine.new
+        (in_program definition.now engine.old (λ w f. sinking w f object.0)) }
 {
-    // For the proof: the clauses speak of the definition.
-    let _ = definition;
     let object = object_in(engine, object);
     engine.world.table.sink(object);
 }
@@ -87,15 +77,11 @@ pub(crate) fn sink(engine: &mut Engine, definition: &Definition, object: Registe
 /// Freezes the notifications of an object, which wait from then on.
 pub(crate) fn freeze_notify(engine: &mut Engine, definition: &Definition, object: Register)
     requires first { IsProgram engine.now }
-    requires able { Able (left engine.now.counted (in_front (rest_of definition.now engine.now) (freezing (world_of engine.now.world) (first_frame engine.now) object.0))) }
+    requires able { Able (in_program definition.now engine.now (λ w f. freezing w f object.0)) }
     requires counted { Counts definition.now nothing engine.now }
-    ensures step { left engine.old.counted (in_front (rest_of definition.now engine.old) (freezing (world_of engine.old.world) (first_frame engine.old) object.0))
-        ≡ Ok (config_of definition.now engine.new) }
-    ensures counted { Counts definition.now nothing engine.new }
-    ensures room { SameRoom engine.old engine.new }
+    ensures { Executes (Ok result) definition.now engine.old engine.new
+        (in_program definition.now engine.old (λ w f. freezing w f object.0)) }
 {
-    // For the proof: the clauses speak of the definition.
-    let _ = definition;
     let object = object_in(engine, object);
     engine.world.table.freeze(object);
 }
@@ -103,16 +89,12 @@ pub(crate) fn freeze_notify(engine: &mut Engine, definition: &Definition, object
 /// Takes one freeze of an object off. If it was the last one, the properties that wait are notified before the program goes on.
 pub(crate) fn thaw_notify(engine: &mut Engine, definition: &Definition, object: Register)
     requires first { IsProgram engine.now }
-    requires able { Able (left engine.now.counted (in_front (rest_of definition.now engine.now) (thaw_notify (world_of engine.now.world) (first_frame engine.now) object.0))) }
+    requires able { Able (in_program definition.now engine.now (λ w f. thaw_notify w f object.0)) }
     requires counted { Counts definition.now nothing engine.now }
     requires room { HasRoom 1 engine.now }
-    ensures step { left engine.old.counted (in_front (rest_of definition.now engine.old) (thaw_notify (world_of engine.old.world) (first_frame engine.old) object.0))
-        ≡ Ok (config_of definition.now engine.new) }
-    ensures counted { Counts definition.now nothing engine.new }
-    ensures room { SameRoom engine.old engine.new }
+    ensures { Executes (Ok result) definition.now engine.old engine.new
+        (in_program definition.now engine.old (λ w f. thaw_notify w f object.0)) }
 {
-    // For the proof: the clauses speak of the definition.
-    let _ = definition;
     let object = object_in(engine, object);
     let slots = engine.world.table.thaw(object);
     push_task(
@@ -148,14 +130,10 @@ pub(crate) fn orphan(
     object: Register,
 ) -> Result<(), AllocError>
     requires first { IsProgram engine.now }
-    requires able { Able (left engine.now.counted (in_front (rest_of definition.now engine.now) (orphaning definition.now (world_of engine.now.world) (first_frame engine.now) object.0))) }
+    requires able { Able (in_program definition.now engine.now (λ w f. orphaning definition.now w f object.0)) }
     requires counted { Counts definition.now nothing engine.now }
-    ensures step { Leads result
-        (left engine.old.counted (in_front (rest_of definition.now engine.old) (orphaning definition.now (world_of engine.old.world) (first_frame engine.old) object.0)))
-        (config_of definition.now engine.new) }
-    ensures quiet { OnErr result (IsQuiet (world_of engine.old.world) (world_of engine.new.world)) }
-    ensures counted { OnOk result (Counts definition.now nothing engine.new) }
-    ensures room { SameRoom engine.old engine.new }
+    ensures { Executes result definition.now engine.old engine.new
+        (in_program definition.now engine.old (λ w f. orphaning definition.now w f object.0)) }
 {
     let object = object_in(engine, object);
     leave(engine, definition, object)?;
@@ -171,14 +149,10 @@ pub(crate) fn adopt_from_program(
     child: Register,
 ) -> Result<(), AllocError>
     requires first { IsProgram engine.now }
-    requires able { Able (left engine.now.counted (in_front (rest_of definition.now engine.now) (adopting definition.now (world_of engine.now.world) (first_frame engine.now) to.0 parent.0 child.0))) }
+    requires able { Able (in_program definition.now engine.now (λ w f. adopting definition.now w f to.0 parent.0 child.0)) }
     requires counted { Counts definition.now nothing engine.now }
-    ensures step { Leads result
-        (left engine.old.counted (in_front (rest_of definition.now engine.old) (adopting definition.now (world_of engine.old.world) (first_frame engine.old) to.0 parent.0 child.0)))
-        (config_of definition.now engine.new) }
-    ensures quiet { OnErr result (IsQuiet (world_of engine.old.world) (world_of engine.new.world)) }
-    ensures counted { OnOk result (Counts definition.now nothing engine.new) }
-    ensures room { SameRoom engine.old engine.new }
+    ensures { Executes result definition.now engine.old engine.new
+        (in_program definition.now engine.old (λ w f. adopting definition.now w f to.0 parent.0 child.0)) }
 {
     let parent = object_in(engine, parent);
     let child = object_in(engine, child);
@@ -220,16 +194,12 @@ pub(crate) fn run_dispose(
     object: Register,
 ) -> Result<(), AllocError>
     requires first { IsProgram engine.now }
-    requires able { Able (left engine.now.counted (in_front (rest_of definition.now engine.now) (disposing definition.now (world_of engine.now.world) (first_frame engine.now) object.0))) }
+    requires able { Able (in_program definition.now engine.now (λ w f. disposing definition.now w f object.0)) }
     requires counted { Counts definition.now nothing engine.now }
-    ensures step { LeadsWithoutGone result
-        (left engine.old.counted (in_front (rest_of definition.now engine.old) (disposing definition.now (world_of engine.old.world) (first_frame engine.old) object.0)))
-        (config_of definition.now engine.new) }
-    ensures quiet { OnErr result (IsQuiet (world_of engine.old.world) (world_of engine.new.world)) }
+    ensures executes { ExecutesWithoutGone result definition.now engine.old engine.new nothing
+        (in_program definition.now engine.old (λ w f. disposing definition.now w f object.0)) }
     ensures closing { OnOk result (engine.new.closing
         ≡ or_number (closed_in (world_of engine.old.world) (operand_in (world_of engine.old.world) (first_frame engine.old) object.0)) engine.old.closing) }
-    ensures counted { OnOk result (Counts definition.now nothing engine.new) }
-    ensures room { SameRoom engine.old engine.new }
 {
     let object = object_in(engine, object);
     if engine.world.table.is_disposed(object) {

@@ -45,8 +45,6 @@ pub(crate) fn program_named(definition: &Definition, name: &str, link: Link) -> 
     requires link { LinksProgram definition.now name.now link }
     ensures { program_of definition.now name.now ≡ Some result }
 {
-    // For the proof: the clauses speak of the definition, and of the name.
-    let (_, _) = (definition, name);
     let Some(number) = link.program() else {
         unreachable!()
     };

@@ -1,22 +1,19 @@
 //! Instructions on properties: `get`, `set` and `notify`.
 
-ghost use Rattle.std.specs.Prelude.{◌≡◌, IfOk, Ok, OnOk, OnErr};
-ghost use Rattle.ui_machine.specs.Instructions.{in_front};
+ghost use Rattle.std.specs.Prelude.{◌≡◌, IfOk, Ok};
 ghost use Rattle.ui_machine.specs.Instructions.Properties.{set_property, get_property, slot_at, notify_from_program};
 ghost use Rattle.ui_machine.specs.Instructions.Registers.{value_in};
 ghost use Rattle.ui_machine.specs.Rules.Sets.{raising};
-ghost use Rattle.ui_machine.specs.Steps.{left, uncounted};
 ghost use Rattle.g_values.specs.View.{value_view};
-ghost use Rattle.engine_world.specs.FirstPrograms.{IsProgram, first_frame, rest_of};
-ghost use Rattle.engine_world.specs.Able.{Able, Leads, LeadsToLiving};
+ghost use Rattle.engine_world.specs.FirstPrograms.{IsProgram, first_frame};
+ghost use Rattle.engine_world.specs.Able.{Able, LeadsToLiving};
 ghost use Rattle.linked_programs.specs.Linked.{LinksProperty};
-ghost use Rattle.engine_world.specs.Quiet.{IsQuiet};
-ghost use Rattle.engine_world.specs.Room.{HasRoom, SameRoom};
+ghost use Rattle.engine_world.specs.Room.{HasRoom};
 ghost use Rattle.engine_world.specs.View.{world_of};
 ghost use Rattle.engine_instructions.specs.PropertyView.{readable_value};
-ghost use Rattle.engine_world.specs.TaskView.{agenda_of};
-ghost use Rattle.engine_world.specs.Counting.{Counts, IsCounted, KeepsCounts, nothing};
-ghost use Rattle.engine_world.specs.EngineView.{config_of};
+ghost use Rattle.engine_world.specs.Counting.{Counts, IsCounted, nothing};
+ghost use Rattle.engine_world.specs.Executions.{Acts, Executes, uncounted_step};
+ghost use Rattle.engine_instructions.specs.InProgram.{in_program};
 
 use crate::operands::object_in;
 use crate::registers::write_register;
@@ -58,8 +55,6 @@ fn slot_at(
     requires link { LinksProperty definition.now engine.now.links property.now link }
     ensures { slot_at definition.now (world_of engine.now.world) object.0 property.now ≡ Ok result }
 {
-    // For the proof: the clauses speak of the definition, and of the name.
-    let (_, _) = (definition, property);
     let class = engine.world.table.class_of(object);
     let Some(slot) = engine.links.slot(class, link.property()) else {
         unreachable!()
@@ -93,16 +88,12 @@ pub(crate) fn get_property(
     link: Link,
 ) -> Result<(), AllocError>
     requires first { IsProgram engine.now }
-    requires able { Able (left engine.now.counted (in_front (rest_of definition.now engine.now) (get_property definition.now (world_of engine.now.world) (first_frame engine.now) to.0 object.0 property.now))) }
-    requires names { LeadsToLiving (left engine.now.counted (in_front (rest_of definition.now engine.now) (get_property definition.now (world_of engine.now.world) (first_frame engine.now) to.0 object.0 property.now))) }
+    requires able { Able (in_program definition.now engine.now (λ w f. get_property definition.now w f to.0 object.0 property.now)) }
+    requires names { LeadsToLiving (in_program definition.now engine.now (λ w f. get_property definition.now w f to.0 object.0 property.now)) }
     requires link { LinksProperty definition.now engine.now.links property.now link }
     requires counted { Counts definition.now nothing engine.now }
-    ensures step { Leads result
-        (left engine.old.counted (in_front (rest_of definition.now engine.old) (get_property definition.now (world_of engine.old.world) (first_frame engine.old) to.0 object.0 property.now)))
-        (config_of definition.now engine.new) }
-    ensures quiet { OnErr result (IsQuiet (world_of engine.old.world) (world_of engine.new.world)) }
-    ensures counted { OnOk result (Counts definition.now nothing engine.new) }
-    ensures room { SameRoom engine.old engine.new }
+    ensures { Executes result definition.now engine.old engine.new
+        (in_program definition.now engine.old (λ w f. get_property definition.now w f to.0 object.0 property.now)) }
 {
     let object = object_in(engine, object);
     let value = readable_value(engine, definition, object, property, link)?;
@@ -120,16 +111,12 @@ pub(crate) fn set_property(
     link: Link,
 ) -> Result<(), AllocError>
     requires first { IsProgram engine.now }
-    requires able { Able (left engine.now.counted (in_front (rest_of definition.now engine.now) (set_property definition.now (world_of engine.now.world) (first_frame engine.now) object.0 property.now from.0))) }
+    requires able { Able (in_program definition.now engine.now (λ w f. set_property definition.now w f object.0 property.now from.0)) }
     requires link { LinksProperty definition.now engine.now.links property.now link }
     requires counted { Counts definition.now nothing engine.now }
     requires room { HasRoom 1 engine.now }
-    ensures step { Leads result
-        (left engine.old.counted (in_front (rest_of definition.now engine.old) (set_property definition.now (world_of engine.old.world) (first_frame engine.old) object.0 property.now from.0)))
-        (config_of definition.now engine.new) }
-    ensures quiet { OnErr result (IsQuiet (world_of engine.old.world) (world_of engine.new.world)) }
-    ensures counted { OnOk result (Counts definition.now nothing engine.new) }
-    ensures room { SameRoom engine.old engine.new }
+    ensures { Executes result definition.now engine.old engine.new
+        (in_program definition.now engine.old (λ w f. set_property definition.now w f object.0 property.now from.0)) }
 {
     let object = object_in(engine, object);
     let slot = slot_at(engine, definition, object, property, link);
@@ -153,18 +140,12 @@ fn raise(
     object: ObjectId,
     slot: Slot,
 ) -> Result<(), AllocError>
-    requires able { Able (uncounted (agenda_of definition.now engine.now) engine.now.counted (raising (world_of engine.now.world) object.0 slot)) }
+    requires able { Able (uncounted_step definition.now engine.now (λ w. raising w object.0 slot)) }
     requires counted { IsCounted definition.now engine.now }
     requires room { HasRoom 1 engine.now }
-    ensures step { Leads result
-        (uncounted (agenda_of definition.now engine.old) engine.old.counted (raising (world_of engine.old.world) object.0 slot))
-        (config_of definition.now engine.new) }
-    ensures quiet { OnErr result (IsQuiet (world_of engine.old.world) (world_of engine.new.world)) }
-    ensures counted { OnOk result (KeepsCounts definition.now engine.old engine.new) }
-    ensures room { SameRoom engine.old engine.new }
+    ensures { Acts result definition.now engine.old engine.new
+        (uncounted_step definition.now engine.old (λ w. raising w object.0 slot)) }
 {
-    // For the proof: the clauses speak of the definition.
-    let _ = definition;
     if engine.world.table.add(object, slot)? {
         push_task(engine, Task::Notifying { object, slot });
     }
@@ -180,16 +161,12 @@ pub(crate) fn notify_from_program(
     link: Link,
 ) -> Result<(), AllocError>
     requires first { IsProgram engine.now }
-    requires able { Able (left engine.now.counted (in_front (rest_of definition.now engine.now) (notify_from_program definition.now (world_of engine.now.world) (first_frame engine.now) object.0 property.now))) }
+    requires able { Able (in_program definition.now engine.now (λ w f. notify_from_program definition.now w f object.0 property.now)) }
     requires link { LinksProperty definition.now engine.now.links property.now link }
     requires counted { Counts definition.now nothing engine.now }
     requires room { HasRoom 1 engine.now }
-    ensures step { Leads result
-        (left engine.old.counted (in_front (rest_of definition.now engine.old) (notify_from_program definition.now (world_of engine.old.world) (first_frame engine.old) object.0 property.now)))
-        (config_of definition.now engine.new) }
-    ensures quiet { OnErr result (IsQuiet (world_of engine.old.world) (world_of engine.new.world)) }
-    ensures counted { OnOk result (Counts definition.now nothing engine.new) }
-    ensures room { SameRoom engine.old engine.new }
+    ensures { Executes result definition.now engine.old engine.new
+        (in_program definition.now engine.old (λ w f. notify_from_program definition.now w f object.0 property.now)) }
 {
     let object = object_in(engine, object);
     let slot = slot_at(engine, definition, object, property, link);

@@ -1,22 +1,19 @@
 //! Instructions that touch registers alone.
 
-ghost use Rattle.std.specs.Prelude.{◌≡◌, Ok, Some, option_map, IfSome, OnOk, OnErr};
-ghost use Rattle.ui_machine.specs.Instructions.{in_front, instruction_step};
+ghost use Rattle.std.specs.Prelude.{Ok, Some, option_map, IfSome};
 ghost use Rattle.ui_machine.specs.Instructions.Registers.{written_to};
 ghost use Rattle.ui_machine.specs.Output.Lines as lines;
 ghost use Rattle.ui_machine.specs.State.Config.{said};
-ghost use Rattle.ui_machine.specs.Steps.{left};
 ghost use Rattle.law_typing.specs.Good.Living.{NamesLiving};
 ghost use Rattle.g_values.specs.View.{value_view};
 ghost use Rattle.bytecode.specs.Computing.{HasKnownKind, instruction_of};
-ghost use Rattle.engine_world.specs.FirstPrograms.{IsProgram, first_frame, rest_of};
-ghost use Rattle.engine_world.specs.Able.{Able, Leads, LeadsToLiving};
-ghost use Rattle.engine_world.specs.Quiet.{IsQuiet};
-ghost use Rattle.engine_world.specs.Room.{HasRoom, SameRoom, TakesRoom};
+ghost use Rattle.engine_world.specs.FirstPrograms.{IsProgram};
+ghost use Rattle.engine_world.specs.Able.{Able, LeadsToLiving};
+ghost use Rattle.engine_world.specs.Room.{TakesRoom};
 ghost use Rattle.engine_world.specs.View.{world_of};
-ghost use Rattle.engine_world.specs.TaskView.{agenda_of};
 ghost use Rattle.engine_world.specs.Counting.{Counts, nothing};
-ghost use Rattle.engine_world.specs.EngineView.{config_of};
+ghost use Rattle.engine_world.specs.Executions.{Executes};
+ghost use Rattle.engine_instructions.specs.InProgram.{executed, in_program};
 
 use bytecode::{Computation, Computed, Register};
 use definitions::Definition;
@@ -37,12 +34,11 @@ pub(crate) fn write_register(
     value: Option<Value>,
 )
     requires first { IsProgram engine.now }
-    requires able { Able (left engine.now.counted (in_front (rest_of definition.now engine.now) (written_to (world_of engine.now.world) to.0 (option_map value_view value) (first_frame engine.now)))) }
+    requires able { Able (in_program definition.now engine.now (λ w f. written_to w to.0 (option_map value_view value) f)) }
     requires names { IfSome (option_map value_view value) (NamesLiving (world_of engine.now.world)) }
     requires counted { Counts definition.now nothing engine.now }
-    ensures step { left engine.old.counted (in_front (rest_of definition.now engine.old) (written_to (world_of engine.old.world) to.0 (option_map value_view value) (first_frame engine.old)))
-        ≡ Ok (config_of definition.now engine.new) }
-    ensures counted { Counts definition.now nothing engine.new }
+    ensures executes { Executes (Ok result) definition.now engine.old engine.new
+        (in_program definition.now engine.old (λ w f. written_to w to.0 (option_map value_view value) f)) }
     ensures room { TakesRoom 0 engine.old engine.new }
 {
     // For the proof: what lives may be held once more.
@@ -59,17 +55,11 @@ pub(crate) fn write_null_and_say_limit(
     word: &str,
 ) -> Result<(), AllocError>
     requires first { IsProgram engine.now }
-    requires able { Able (left engine.now.counted (in_front (rest_of definition.now engine.now)
-        (written_to (said definition.now (world_of engine.now.world) (lines.limit word.now)) to.0 (Some (value_view value)) (first_frame engine.now)))) }
+    requires able { Able (in_program definition.now engine.now (λ w f. written_to (said definition.now w (lines.limit word.now)) to.0 (Some (value_view value)) f)) }
     requires names { NamesLiving (world_of engine.now.world) (value_view value) }
     requires counted { Counts definition.now nothing engine.now }
-    ensures step { Leads result
-        (left engine.old.counted (in_front (rest_of definition.now engine.old)
-        (written_to (said definition.now (world_of engine.old.world) (lines.limit word.now)) to.0 (Some (value_view value)) (first_frame engine.old))))
-        (config_of definition.now engine.new) }
-    ensures quiet { OnErr result (IsQuiet (world_of engine.old.world) (world_of engine.new.world)) }
-    ensures counted { OnOk result (Counts definition.now nothing engine.new) }
-    ensures room { SameRoom engine.old engine.new }
+    ensures { Executes result definition.now engine.old engine.new
+        (in_program definition.now engine.old (λ w f. written_to (said definition.now w (lines.limit word.now)) to.0 (Some (value_view value)) f)) }
 {
     // For the proof: what lives may be held once more.
     never_full(engine);
@@ -86,16 +76,12 @@ pub(crate) fn compute_register(
     computation: &Computation,
 ) -> Result<(), AllocError>
     requires first { IsProgram engine.now }
-    requires able { Able (left engine.now.counted (instruction_step definition.now (world_of engine.now.world) (rest_of definition.now engine.now) (first_frame engine.now) (instruction_of computation.now to.0))) }
-    requires names { LeadsToLiving (left engine.now.counted (instruction_step definition.now (world_of engine.now.world) (rest_of definition.now engine.now) (first_frame engine.now) (instruction_of computation.now to.0))) }
+    requires able { Able (executed definition.now engine.now (instruction_of computation.now to.0)) }
+    requires names { LeadsToLiving (executed definition.now engine.now (instruction_of computation.now to.0)) }
     requires known { HasKnownKind definition.now.types computation.now }
     requires counted { Counts definition.now nothing engine.now }
-    ensures step { Leads result
-        (left engine.old.counted (instruction_step definition.now (world_of engine.old.world) (rest_of definition.now engine.old) (first_frame engine.old) (instruction_of computation.now to.0)))
-        (config_of definition.now engine.new) }
-    ensures quiet { OnErr result (IsQuiet (world_of engine.old.world) (world_of engine.new.world)) }
-    ensures counted { OnOk result (Counts definition.now nothing engine.new) }
-    ensures room { SameRoom engine.old engine.new }
+    ensures { Executes result definition.now engine.old engine.new
+        (executed definition.now engine.old (instruction_of computation.now to.0)) }
 {
     let types = definition.types();
     let registers = first_registers(engine);

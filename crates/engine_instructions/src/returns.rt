@@ -1,6 +1,6 @@
 //! `return`: a program ends and gives a value to the task below it.
 
-ghost use Rattle.std.specs.Prelude.{◌≡◌, Ok, Some, option_map, IfOk, IfSome, OnOk, OnErr};
+ghost use Rattle.std.specs.Prelude.{◌≡◌, Ok, Some, option_map, IfOk, IfSome};
 ghost use Rattle.ui_machine.specs.Definition.Lookups.{program_at};
 ghost use Rattle.ui_machine.specs.Instructions.Jumps.{given_by, returning};
 ghost use Rattle.ui_machine.specs.Steps.{left};
@@ -8,11 +8,9 @@ ghost use Rattle.g_values.specs.View.{IsKnown, value_view};
 ghost use Rattle.engine_world.specs.FirstPrograms.{IsProgram, first_frame, rest_of};
 ghost use Rattle.bytecode.specs.View.{number_of, program_view};
 ghost use Rattle.engine_world.specs.Counting.{Counts, nothing};
-ghost use Rattle.engine_world.specs.EngineView.{config_of};
-ghost use Rattle.engine_world.specs.Able.{Able, Leads};
-ghost use Rattle.engine_world.specs.Quiet.{IsQuiet};
-ghost use Rattle.engine_world.specs.Room.{SameRoom};
+ghost use Rattle.engine_world.specs.Able.{Able};
 ghost use Rattle.engine_world.specs.View.{world_of};
+ghost use Rattle.engine_world.specs.Executions.{Executes};
 
 use crate::accumulation::give_down;
 use crate::properties::value_in;
@@ -48,12 +46,8 @@ pub(crate) fn return_from_program(
     requires program { program_at definition.now (first_frame engine.now).program ≡ Some (program_view program.now) }
     requires known { IfSome program.now.result (IsKnown definition.now.types) }
     requires counted { Counts definition.now nothing engine.now }
-    ensures step { Leads result
-        (left engine.old.counted (returning definition.now (world_of engine.old.world) (first_frame engine.old) (rest_of definition.now engine.old) (option_map number_of from)))
-        (config_of definition.now engine.new) }
-    ensures quiet { OnErr result (IsQuiet (world_of engine.old.world) (world_of engine.new.world)) }
-    ensures counted { OnOk result (Counts definition.now nothing engine.new) }
-    ensures room { SameRoom engine.old engine.new }
+    ensures { Executes result definition.now engine.old engine.new
+        (left engine.old.counted (returning definition.now (world_of engine.old.world) (first_frame engine.old) (rest_of definition.now engine.old) (option_map number_of from))) }
 {
     let given = given_by(engine, from)?;
     // For the proof: what the registers name lives, and may be held once more.

@@ -1,22 +1,17 @@
 //! `idle`, `timeout` and `remove`: a program attaches or removes sources of the main context (GLib manual, The Main Event Loop).
 
-ghost use Rattle.std.specs.Prelude.{◌≡◌, OnOk, OnErr};
-ghost use Rattle.ui_machine.specs.Instructions.{in_front};
+ghost use Rattle.std.specs.Prelude.{◌≡◌};
 ghost use Rattle.ui_machine.specs.Instructions.Sources.{attaching, removing, with_source};
 ghost use Rattle.ui_machine.specs.State.Config.{World};
 ghost use Rattle.instance_tables.specs.Store.{id_of};
-ghost use Rattle.engine_world.specs.Able.{Able, Leads};
+ghost use Rattle.engine_world.specs.Able.{Able};
 ghost use Rattle.linked_programs.specs.Linked.{LinksProgram};
-ghost use Rattle.engine_world.specs.Quiet.{IsQuiet};
 ghost use Rattle.engine_world.specs.SourceView.{with_new_source};
-ghost use Rattle.ui_machine.specs.Steps.{left};
-ghost use Rattle.engine_world.specs.FirstPrograms.{IsProgram, first_frame, rest_of};
-ghost use Rattle.engine_world.specs.Room.{HasRoom, SameRoom};
-ghost use Rattle.engine_world.specs.View.{world_of};
-ghost use Rattle.engine_world.specs.TaskView.{agenda_of};
+ghost use Rattle.engine_world.specs.FirstPrograms.{IsProgram};
 ghost use Rattle.engine_world.specs.Counting.{Counts, nothing};
-ghost use Rattle.engine_world.specs.EngineView.{config_of};
 ghost use Rattle.engine_instructions.specs.AttachView.{attach_of};
+ghost use Rattle.engine_world.specs.Executions.{Executes};
+ghost use Rattle.engine_instructions.specs.InProgram.{in_program};
 
 use crate::operands::{data_in, program_named};
 use crate::registers::{write_null_and_say_limit, write_register};
@@ -68,14 +63,10 @@ pub(crate) fn attach_from_program(
 ) -> Result<(), AllocError>
     requires first { IsProgram engine.now }
     requires link { LinksProgram definition.now attach.program.now attach.link }
-    requires able { Able (left engine.now.counted (in_front (rest_of definition.now engine.now) (attaching definition.now (world_of engine.now.world) (first_frame engine.now) to.0 (attach_of attach)))) }
+    requires able { Able (in_program definition.now engine.now (λ w f. attaching definition.now w f to.0 (attach_of attach))) }
     requires counted { Counts definition.now nothing engine.now }
-    ensures step { Leads result
-        (left engine.old.counted (in_front (rest_of definition.now engine.old) (attaching definition.now (world_of engine.old.world) (first_frame engine.old) to.0 (attach_of attach.entry))))
-        (config_of definition.now engine.new) }
-    ensures quiet { OnErr result (IsQuiet (world_of engine.old.world) (world_of engine.new.world)) }
-    ensures counted { OnOk result (Counts definition.now nothing engine.new) }
-    ensures room { SameRoom engine.old engine.new }
+    ensures { Executes result definition.now engine.old engine.new
+        (in_program definition.now engine.old (λ w f. attaching definition.now w f to.0 (attach_of attach.entry))) }
 {
     let program = program_named(definition, attach.program, attach.link);
     let arg = data_in(engine, attach.with);
@@ -98,12 +89,10 @@ pub(crate) fn remove_from_program(
 )
     requires first { IsProgram engine.now }
     requires link { LinksProgram definition.now program.now link }
-    requires able { Able (left engine.now.counted (in_front (rest_of definition.now engine.now) (removing definition.now (world_of engine.now.world) (first_frame engine.now) program.now))) }
+    requires able { Able (in_program definition.now engine.now (λ w f. removing definition.now w f program.now)) }
     requires counted { Counts definition.now nothing engine.now }
-    ensures step { left engine.old.counted (in_front (rest_of definition.now engine.old) (removing definition.now (world_of engine.old.world) (first_frame engine.old) program.now))
-        ≡ Ok (config_of definition.now engine.new) }
-    ensures counted { Counts definition.now nothing engine.new }
-    ensures room { SameRoom engine.old engine.new }
+    ensures { Executes (Ok result) definition.now engine.old engine.new
+        (in_program definition.now engine.old (λ w f. removing definition.now w f program.now)) }
 {
     let number = program_named(definition, program, link);
     remove_sources(engine, number);

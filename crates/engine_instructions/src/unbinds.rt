@@ -2,20 +2,17 @@
 
 ghost use Rattle.std.specs.Prelude.{◌≡◌, Ok};
 ghost use Rattle.ui_machine.specs.Definition as machine;
-ghost use Rattle.ui_machine.specs.Instructions.{in_front};
 ghost use Rattle.ui_machine.specs.Instructions.Signals.{unbinding};
 ghost use Rattle.ui_machine.specs.State.Bindings.{bindings_without};
-ghost use Rattle.ui_machine.specs.Steps.{left};
-ghost use Rattle.engine_world.specs.FirstPrograms.{IsProgram, first_frame, rest_of};
+ghost use Rattle.engine_world.specs.FirstPrograms.{IsProgram};
 ghost use Rattle.engine_world.specs.Counting.{Counts, KeepsCounts, nothing};
-ghost use Rattle.engine_world.specs.EngineView.{config_of};
 ghost use Rattle.engine_world.specs.Able.{Able};
-ghost use Rattle.engine_world.specs.TaskView.{agenda_of};
-ghost use Rattle.engine_world.specs.Room.{HasRoom, SameRoom};
 ghost use Rattle.engine_world.specs.View.{world_of};
 ghost use Rattle.engine_instructions.specs.UnbindView.{without_numbers};
 ghost use Rattle.law_typing.specs.Good.Meanings.{KeepsMeanings};
 ghost use Rattle.linked_programs.specs.Linked.{LinksBindings};
+ghost use Rattle.engine_world.specs.Executions.{Executes};
+ghost use Rattle.engine_instructions.specs.InProgram.{in_program};
 
 use bindings::Bindings;
 use definitions::Definition;
@@ -40,8 +37,6 @@ fn unbind(engine: &mut Engine, definition: &Definition, name: &str, link: Link)
     ensures handlers { engine.new.world.handlers ≡ engine.old.world.handlers }
     ensures counted { (d : machine.Definition) → KeepsCounts d engine.old engine.new }
 {
-    // For the proof: the clauses speak of the definition, and of the name.
-    let (_, _) = (definition, name);
     let numbers = engine.links.bindings(link.bindings());
     unbind_numbered(&mut engine.world.bindings, numbers);
 }
@@ -56,12 +51,10 @@ pub(crate) fn unbind_from_program(
     requires first { IsProgram engine.now }
     requires link { LinksBindings definition.now engine.now.links name.now link }
     requires meanings { KeepsMeanings definition.now (world_of engine.now.world) }
-    requires able { Able (left engine.now.counted (in_front (rest_of definition.now engine.now) (unbinding definition.now (world_of engine.now.world) (first_frame engine.now) name.now))) }
+    requires able { Able (in_program definition.now engine.now (λ w f. unbinding definition.now w f name.now)) }
     requires counted { Counts definition.now nothing engine.now }
-    ensures step { left engine.old.counted (in_front (rest_of definition.now engine.old) (unbinding definition.now (world_of engine.old.world) (first_frame engine.old) name.now))
-        ≡ Ok (config_of definition.now engine.new) }
-    ensures counted { Counts definition.now nothing engine.new }
-    ensures room { SameRoom engine.old engine.new }
+    ensures { Executes (Ok result) definition.now engine.old engine.new
+        (in_program definition.now engine.old (λ w f. unbinding definition.now w f name.now)) }
 {
     unbind(engine, definition, name, link);
 }

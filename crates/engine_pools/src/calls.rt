@@ -59,8 +59,6 @@ fn asks(engine: &Engine, definition: &Definition) -> bool
     requires counted { Counts definition.now nothing engine.now }
     ensures { result ≡ is_some (question definition.now (config_of definition.now engine.now)) }
 {
-    // For the proof: the clauses speak of the definition.
-    let _ = definition;
     match engine.world.table.next_unheld() {
         Some(_) => false,
         None => question(engine).is_some(),

@@ -65,8 +65,6 @@ pub fn begin_dispatch(engine: &mut Engine, definition: &Definition, task: Task)
     ensures ok { config_of definition.now engine.new ≡ beginning (world_of engine.old.world) (task_in definition.now engine.old task) }
     ensures room { SameRoom engine.old engine.new }
 {
-    // For the proof: the clauses speak of the definition.
-    let _ = definition;
     engine.world.result = None;
     engine.counted = 0;
     push_task(engine, task);

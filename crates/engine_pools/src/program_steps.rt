@@ -1,18 +1,17 @@
 //! The step in which the program that is the first task takes its next instruction.
 
-ghost use Rattle.std.specs.Prelude.{OnOk, OnErr};
+ghost use Rattle.std.specs.Prelude.{OnOk};
 ghost use Rattle.ui_machine.specs.Definition.Lookups.{program_at};
 ghost use Rattle.ui_machine.specs.Instructions.{running};
 ghost use Rattle.ui_machine.specs.Steps.{counted_left};
 ghost use Rattle.law_typing.specs.Good.Meanings.{KeepsMeanings};
 ghost use Rattle.engine_world.specs.FirstPrograms.{IsProgram, first_frame, rest_of};
-ghost use Rattle.engine_world.specs.Quiet.{IsQuiet};
-ghost use Rattle.engine_world.specs.Room.{HasRoom, SameRoom};
+ghost use Rattle.engine_world.specs.Room.{HasRoom};
 ghost use Rattle.engine_world.specs.View.{world_of};
 ghost use Rattle.engine_world.specs.Counting.{Counts, nothing};
-ghost use Rattle.engine_world.specs.EngineView.{config_of};
-ghost use Rattle.engine_world.specs.Able.{Able, LeadsToLiving, LeadsWithoutGone};
+ghost use Rattle.engine_world.specs.Able.{Able, LeadsToLiving};
 ghost use Rattle.engine_pools.specs.TaskClosings.{ProgramLeaves};
+ghost use Rattle.engine_world.specs.Executions.{ExecutesWithoutGone};
 
 use definitions::Definition;
 use engine_instructions::execution::execute;
@@ -34,13 +33,9 @@ pub(crate) fn run_program(engine: &mut Engine, definition: &Definition) -> Resul
     requires meanings { KeepsMeanings definition.now (world_of engine.now.world) }
     requires counted { Counts definition.now nothing engine.now }
     requires room { HasRoom 1 engine.now }
-    ensures step { LeadsWithoutGone result
-        (counted_left engine.old.counted (running definition.now (world_of engine.old.world) (rest_of definition.now engine.old) (first_frame engine.old)))
-        (config_of definition.now engine.new) }
-    ensures quiet { OnErr result (IsQuiet (world_of engine.old.world) (world_of engine.new.world)) }
+    ensures executes { ExecutesWithoutGone result definition.now engine.old engine.new nothing
+        (counted_left engine.old.counted (running definition.now (world_of engine.old.world) (rest_of definition.now engine.old) (first_frame engine.old))) }
     ensures closing { OnOk result (ProgramLeaves (world_of engine.old.world) (first_frame engine.old) (program_at definition.now (first_frame engine.old).program) engine.old.closing engine.new.closing) }
-    ensures counted { OnOk result (Counts definition.now nothing engine.new) }
-    ensures room { SameRoom engine.old engine.new }
 {
     count(engine);
     let number = first_frame(engine).program;

@@ -1,7 +1,6 @@
 //! Steps in which no peer is asked.
 
-ghost use Rattle.std.specs.Prelude.{◌≡◌, [], None, Ok, OnOk, vec_capacity};
-ghost use Rattle.ui_machine.specs.Prefix.{IsPrefix};
+ghost use Rattle.std.specs.Prelude.{◌≡◌, [], None, Ok, vec_capacity};
 ghost use Rattle.ui_machine.specs.Steps.{asked_first, question};
 ghost use Rattle.engine_world.specs.Counting.{Counts, nothing};
 ghost use Rattle.engine_world.specs.EngineView.{config_of};
@@ -12,7 +11,7 @@ ghost use Rattle.engine_world.specs.Quiet.{IsQuiet};
 ghost use Rattle.engine_world.specs.TaskView.{agenda_of};
 ghost use Rattle.engine_world.specs.Room.{SameRoom};
 ghost use Rattle.engine_world.specs.View.{world_of};
-ghost use Rattle.engine_pools.specs.QuietSteps.{IsSafeView, LeavesKnown, QuietlyStepped};
+ghost use Rattle.engine_pools.specs.QuietSteps.{IsSafeView, LeavesKnown, QuietlyStepped, StepsQuietly};
 ghost use Rattle.engine_pools.specs.Safety.{NoneUnheld};
 
 use crate::program_steps::run_program;
@@ -36,8 +35,6 @@ fn sink_first_floating(engine: &mut Engine, definition: &Definition) -> StepKind
     ensures known { LeavesKnown (world_of engine.old.world) (world_of engine.new.world) engine.new.closing }
     ensures room { SameRoom engine.old engine.new }
 {
-    // For the proof: the clauses speak of the definition.
-    let _ = definition;
     let Some(object) = engine.world.table.first_floating() else {
         return StepKind::Nothing;
     };
@@ -55,11 +52,7 @@ fn take_first_task(engine: &mut Engine, definition: &Definition) -> Result<StepK
     requires other { first_program engine.now.stack.tasks.items ≡ None }
     requires begins { first_emission engine.now.stack.tasks.items ≡ None }
     requires builds { first_construction engine.now.stack.tasks.items ≡ None }
-    ensures counted { OnOk result (Counts definition.now nothing engine.new) }
-    ensures stepped { QuietlyStepped result definition.now (config_of definition.now engine.old) (config_of definition.now engine.new) }
-    ensures known { OnOk result (LeavesKnown (world_of engine.old.world) (world_of engine.new.world) engine.new.closing) }
-    ensures grows { IsPrefix (world_of engine.old.world).transcript (world_of engine.new.world).transcript }
-    ensures room { SameRoom engine.old engine.new }
+    ensures { StepsQuietly result definition.now engine.old engine.new }
 {
     // For the proof: what is known of a definition's types.
     let _types = definition.types();
@@ -81,11 +74,7 @@ fn construct_or_take(engine: &mut Engine, definition: &Definition) -> Result<Ste
     requires counted { Counts definition.now nothing engine.now }
     requires other { first_program engine.now.stack.tasks.items ≡ None }
     requires begins { first_emission engine.now.stack.tasks.items ≡ None }
-    ensures counted { OnOk result (Counts definition.now nothing engine.new) }
-    ensures stepped { QuietlyStepped result definition.now (config_of definition.now engine.old) (config_of definition.now engine.new) }
-    ensures known { OnOk result (LeavesKnown (world_of engine.old.world) (world_of engine.new.world) engine.new.closing) }
-    ensures grows { IsPrefix (world_of engine.old.world).transcript (world_of engine.new.world).transcript }
-    ensures room { SameRoom engine.old engine.new }
+    ensures { StepsQuietly result definition.now engine.old engine.new }
 {
     if engine.stack.first_construction().is_none() {
         return take_first_task(engine, definition);
@@ -101,11 +90,7 @@ fn emit_or_take(engine: &mut Engine, definition: &Definition) -> Result<StepKind
     requires quiet { asked_first (world_of engine.now.world) (agenda_of definition.now engine.now) ≡ None }
     requires counted { Counts definition.now nothing engine.now }
     requires other { first_program engine.now.stack.tasks.items ≡ None }
-    ensures counted { OnOk result (Counts definition.now nothing engine.new) }
-    ensures stepped { QuietlyStepped result definition.now (config_of definition.now engine.old) (config_of definition.now engine.new) }
-    ensures known { OnOk result (LeavesKnown (world_of engine.old.world) (world_of engine.new.world) engine.new.closing) }
-    ensures grows { IsPrefix (world_of engine.old.world).transcript (world_of engine.new.world).transcript }
-    ensures room { SameRoom engine.old engine.new }
+    ensures { StepsQuietly result definition.now engine.old engine.new }
 {
     if engine.stack.first_emission().is_none() {
         return construct_or_take(engine, definition);
@@ -121,11 +106,7 @@ fn first_task(engine: &mut Engine, definition: &Definition) -> Result<StepKind, 
     requires none { NoneUnheld definition.now (config_of definition.now engine.now) }
     requires quiet { asked_first (world_of engine.now.world) (agenda_of definition.now engine.now) ≡ None }
     requires counted { Counts definition.now nothing engine.now }
-    ensures counted { OnOk result (Counts definition.now nothing engine.new) }
-    ensures stepped { QuietlyStepped result definition.now (config_of definition.now engine.old) (config_of definition.now engine.new) }
-    ensures known { OnOk result (LeavesKnown (world_of engine.old.world) (world_of engine.new.world) engine.new.closing) }
-    ensures grows { IsPrefix (world_of engine.old.world).transcript (world_of engine.new.world).transcript }
-    ensures room { SameRoom engine.old engine.new }
+    ensures { StepsQuietly result definition.now engine.old engine.new }
 {
     if engine.stack.first_program().is_none() {
         return emit_or_take(engine, definition);
@@ -147,11 +128,7 @@ pub(crate) fn step_quietly(
     requires safe { IsSafeView definition.now (vec_capacity engine.now.stack.tasks) (config_of definition.now engine.now) }
     requires quiet { question definition.now (config_of definition.now engine.now) ≡ None }
     requires counted { Counts definition.now nothing engine.now }
-    ensures counted { OnOk result (Counts definition.now nothing engine.new) }
-    ensures stepped { QuietlyStepped result definition.now (config_of definition.now engine.old) (config_of definition.now engine.new) }
-    ensures known { OnOk result (LeavesKnown (world_of engine.old.world) (world_of engine.new.world) engine.new.closing) }
-    ensures grows { IsPrefix (world_of engine.old.world).transcript (world_of engine.new.world).transcript }
-    ensures room { SameRoom engine.old engine.new }
+    ensures { StepsQuietly result definition.now engine.old engine.new }
 {
     let Some(object) = engine.world.table.next_unheld() else {
         return first_task(engine, definition);

@@ -1,6 +1,6 @@
 //! The step of each task, as the machine makes it.
 
-ghost use Rattle.std.specs.Prelude.{◌≡◌, ◌+◌, ◌≤◌, ◌∷◌, None, length, OnOk, OnErr, IfOk};
+ghost use Rattle.std.specs.Prelude.{◌≡◌, ◌+◌, ◌≤◌, ◌∷◌, None, length, OnOk, IfOk};
 ghost use Rattle.ui_machine.specs.Rules.Build.{to_connect, to_make};
 ghost use Rattle.ui_machine.specs.Rules.Connections.{greatest_handler};
 ghost use Rattle.ui_machine.specs.State.Objects.{most_identities};
@@ -11,15 +11,15 @@ ghost use Rattle.engine_world.specs.FirstConstructions.{construction_in};
 ghost use Rattle.engine_world.specs.FirstEmissions.{emission_in};
 ghost use Rattle.engine_world.specs.FirstPrograms.{program_in};
 ghost use Rattle.engine_world.specs.KnownHandlers.{TakesKnownHandlers};
-ghost use Rattle.engine_world.specs.Quiet.{IsQuiet};
-ghost use Rattle.engine_world.specs.Room.{HasRoom, SameRoom};
+ghost use Rattle.engine_world.specs.Room.{HasRoom};
 ghost use Rattle.engine_world.specs.View.{world_of};
 ghost use Rattle.engine_world.specs.TaskView.{task_in, agenda_of};
 ghost use Rattle.engine_world.specs.Counting.{Counts, in_subject};
-ghost use Rattle.engine_world.specs.EngineView.{config_of, IsOfKind};
-ghost use Rattle.engine_world.specs.Able.{Able, LeadsToLiving, LeadsWithoutGone};
+ghost use Rattle.engine_world.specs.EngineView.{IsOfKind};
+ghost use Rattle.engine_world.specs.Able.{Able, LeadsToLiving};
 ghost use Rattle.engine_world.specs.Standing.{past_turns};
 ghost use Rattle.engine_pools.specs.TaskClosings.{TaskLeaves};
+ghost use Rattle.engine_world.specs.Executions.{ExecutesWithoutGone};
 
 use definitions::Definition;
 use engine_tasks::binds::bind_from_build;
@@ -64,15 +64,10 @@ pub(crate) fn act(
     requires other { program_in task ≡ None }
     requires begins { emission_in task ≡ None }
     requires builds { construction_in task ≡ None }
-    ensures step { LeadsWithoutGone result
-        (act definition.now (world_of engine.old.world) None
-        (past_turns (world_of engine.old.world) (task_in definition.now engine.old task) ∷ agenda_of definition.now engine.old) engine.old.counted)
-        (config_of definition.now engine.new) }
-    ensures quiet { OnErr result (IsQuiet (world_of engine.old.world) (world_of engine.new.world)) }
-    ensures counted { OnOk result (Counts definition.now (λ o. in_subject o (task_in definition.now engine.old task)) engine.new) }
+    ensures executes { ExecutesWithoutGone result definition.now engine.old engine.new (λ o. in_subject o (task_in definition.now engine.old task))
+        (act definition.now (world_of engine.old.world) None (past_turns (world_of engine.old.world) (task_in definition.now engine.old task) ∷ agenda_of definition.now engine.old) engine.old.counted) }
     ensures closing { OnOk result (TaskLeaves definition.now (world_of engine.old.world) (task_in definition.now engine.old task) engine.old.closing engine.new.closing) }
     ensures made { IfOk result (λ made. IsOfKind made (task_in definition.now engine.old task)) }
-    ensures room { SameRoom engine.old engine.new }
 {
     // For the proof: what a task holds lives, and what is known of a definition's places.
     never_full(engine);

@@ -1,23 +1,22 @@
 //! The bindings of the definition, which are made once all objects are there (GTK manual, GtkBuilder: the attribute `bind-source`).
 
-ghost use Rattle.std.specs.Prelude.{◌≡◌, ◌<◌, ◌≤◌, ◌+◌, ◌||◌, ◌++◌, ℕ, Ok, false, option_map, string_bytes, IfOk, OnOk, OnErr};
+ghost use Rattle.std.specs.Prelude.{◌≡◌, ◌<◌, ◌≤◌, ◌+◌, ◌||◌, ◌++◌, ℕ, Ok, false, option_map, string_bytes, IfOk, OnOk};
 ghost use Rattle.ui_machine.specs.Definition as machine;
 ghost use Rattle.ui_machine.specs.Rules.Build.{building, first_transfer, is_connecting, new_binding, with_binding};
 ghost use Rattle.ui_machine.specs.Rules.Connections.{greatest_handler};
 ghost use Rattle.ui_machine.specs.Seq.{total};
 ghost use Rattle.ui_machine.specs.Rules.Sets.{is_disposed};
 ghost use Rattle.ui_machine.specs.State.Objects.{living};
-ghost use Rattle.ui_machine.specs.Steps.{uncounted};
 ghost use Rattle.bindings.specs.Made.{binding_of};
 ghost use Rattle.definition_format.specs.Meaning.{bind_view};
 ghost use Rattle.engine_world.specs.Counting.{Connects, KeepsCounts};
-ghost use Rattle.engine_world.specs.EngineView.{config_of};
-ghost use Rattle.engine_world.specs.Able.{Able, Leads};
+ghost use Rattle.engine_world.specs.Able.{Able};
 ghost use Rattle.engine_world.specs.Quiet.{IsQuiet};
 ghost use Rattle.engine_world.specs.TaskView.{agenda_of, binds_from, connects_from};
 ghost use Rattle.engine_world.specs.Room.{HasRoom, SameRoom};
 ghost use Rattle.engine_world.specs.View.{world_of};
 ghost use Rattle.engine_tasks.specs.BindView.{ends_at, ends_of};
+ghost use Rattle.engine_world.specs.Executions.{Acts, uncounted_step};
 
 use crate::signals::connect_from_build;
 use bindings::{BindError, Binding, BindingFlags};
@@ -119,8 +118,6 @@ fn bind(
     ensures handlers { engine.new.world.handlers ≡ engine.old.world.handlers }
     ensures counted { KeepsCounts definition.now engine.old engine.new }
 {
-    // For the proof: the clauses speak of the definition.
-    let _ = definition;
     let binding = new_binding(engine.alloc, bind, ends)?;
     match engine.world.bindings.bind_as(number as u64, binding) {
         Ok(()) => return Ok(()),
@@ -141,16 +138,12 @@ pub fn bind_from_build(
     definition: &Definition,
     number: usize,
 ) -> Result<(), AllocError>
-    requires able { Able (uncounted (agenda_of definition.now engine.now) engine.now.counted (building definition.now (world_of engine.now.world) (binds_from definition.now number))) }
+    requires able { Able (uncounted_step definition.now engine.now (λ w. building definition.now w (binds_from definition.now number))) }
     requires connects { Connects definition.now engine.now }
     requires numbers { (world_of engine.now.world).last_handler + total is_connecting (connects_from definition.now 0 0) ≤ greatest_handler }
     requires room { HasRoom 2 engine.now }
-    ensures step { Leads result
-        (uncounted (agenda_of definition.now engine.old) engine.old.counted (building definition.now (world_of engine.old.world) (binds_from definition.now number)))
-        (config_of definition.now engine.new) }
-    ensures quiet { OnErr result (IsQuiet (world_of engine.old.world) (world_of engine.new.world)) }
-    ensures counted { OnOk result (KeepsCounts definition.now engine.old engine.new) }
-    ensures room { SameRoom engine.old engine.new }
+    ensures { Acts result definition.now engine.old engine.new
+        (uncounted_step definition.now engine.old (λ w. building definition.now w (binds_from definition.now number))) }
 {
     if number >= definition.binding_count() {
         return connect_from_build(engine, definition, FIRST_PLACE, 0);

@@ -1,6 +1,6 @@
 //! The build, which makes the objects one after the other, and the steps and the end of their construction.
 
-ghost use Rattle.std.specs.Prelude.{◌≡◌, ◌<◌, ◌≤◌, ◌+◌, List, true, ℕ, Some, [], ◌∷◌, IfSome, OnOk, OnErr, length, IsSome};
+ghost use Rattle.std.specs.Prelude.{◌≡◌, ◌<◌, ◌≤◌, ◌+◌, List, true, ℕ, Some, [], ◌∷◌, IfSome, length, IsSome};
 ghost use Rattle.ui_machine.specs.Definition.Values as machine_values;
 ghost use Rattle.ui_machine.specs.Rules.Programs.{program_before};
 ghost use Rattle.ui_machine.specs.Definition as definition;
@@ -16,16 +16,15 @@ ghost use Rattle.ui_machine.specs.Seq.{total};
 ghost use Rattle.ui_machine.specs.State.Objects.{living, most_identities};
 ghost use Rattle.g_values.specs.View.{value_view};
 ghost use Rattle.definition_format.specs.Meaning.{object_count};
-ghost use Rattle.engine_world.specs.Able.{Able, Leads, LeadsToLiving};
-ghost use Rattle.engine_world.specs.Quiet.{IsQuiet};
-ghost use Rattle.engine_world.specs.Room.{HasRoom, SameRoom};
+ghost use Rattle.engine_world.specs.Able.{Able, LeadsToLiving};
+ghost use Rattle.engine_world.specs.Room.{HasRoom};
 ghost use Rattle.engine_world.specs.View.{world_of};
 ghost use Rattle.engine_world.specs.TaskFrames.{IsFrameless};
-ghost use Rattle.engine_world.specs.TaskView.{task_of, agenda_of, build_from, build_behind, connects_from};
-ghost use Rattle.engine_world.specs.Counting.{Connects, Counts, IsCounted, KeepsCounts, nothing};
-ghost use Rattle.engine_world.specs.EngineView.{config_of};
+ghost use Rattle.engine_world.specs.TaskView.{task_of, build_from, build_behind, connects_from};
+ghost use Rattle.engine_world.specs.Counting.{Connects, Counts, IsCounted, nothing};
 ghost use Rattle.engine_world.specs.FirstConstructions.{IsConstruction, constructing_task, first_constructed};
 ghost use Rattle.engine_world.specs.FirstPrograms.{rest_of};
+ghost use Rattle.engine_world.specs.Executions.{Acts, Executes, uncounted_step};
 
 use crate::forward_references::set_forward_reference;
 use crate::programs::begin_program;
@@ -50,17 +49,12 @@ fn hold_made(
     definition: &Definition,
     object: ObjectId,
 ) -> Result<(), AllocError>
-    requires able { Able (uncounted (agenda_of definition.now engine.now) engine.now.counted (constructed (world_of engine.now.world) object.0 true)) }
+    requires able { Able (uncounted_step definition.now engine.now (λ w. constructed w object.0 true)) }
     requires counted { IsCounted definition.now engine.now }
-    ensures step { Leads result
-        (uncounted (agenda_of definition.now engine.old) engine.old.counted (constructed (world_of engine.old.world) object.0 true))
-        (config_of definition.now engine.new) }
-    ensures quiet { OnErr result (IsQuiet (world_of engine.old.world) (world_of engine.new.world)) }
-    ensures counted { OnOk result (KeepsCounts definition.now engine.old engine.new) }
-    ensures room { SameRoom engine.old engine.new }
+    ensures { Acts result definition.now engine.old engine.new
+        (uncounted_step definition.now engine.old (λ w. constructed w object.0 true)) }
 {
-    // For the proof: the clauses speak of the definition, and what lives may be held once more.
-    let _ = definition;
+    // For the proof: what lives may be held once more.
     never_full(engine);
     let place = engine.world.table.place_of(object);
     set_builder_entry(
@@ -81,14 +75,10 @@ fn hold_made_if(
     object: ObjectId,
     held: bool,
 ) -> Result<(), AllocError>
-    requires able { Able (uncounted (agenda_of definition.now engine.now) engine.now.counted (constructed (world_of engine.now.world) object.0 held)) }
+    requires able { Able (uncounted_step definition.now engine.now (λ w. constructed w object.0 held)) }
     requires counted { IsCounted definition.now engine.now }
-    ensures step { Leads result
-        (uncounted (agenda_of definition.now engine.old) engine.old.counted (constructed (world_of engine.old.world) object.0 held))
-        (config_of definition.now engine.new) }
-    ensures quiet { OnErr result (IsQuiet (world_of engine.old.world) (world_of engine.new.world)) }
-    ensures counted { OnOk result (KeepsCounts definition.now engine.old engine.new) }
-    ensures room { SameRoom engine.old engine.new }
+    ensures { Acts result definition.now engine.old engine.new
+        (uncounted_step definition.now engine.old (λ w. constructed w object.0 held)) }
 {
     if held {
         return hold_made(engine, definition, object);
@@ -103,14 +93,10 @@ fn end_construction(
     definition: &Definition,
     rest: ConstructionFrame,
 ) -> Result<(), AllocError>
-    requires able { Able (uncounted (agenda_of definition.now engine.now) engine.now.counted (constructed (world_of engine.now.world) rest.object.0 rest.held)) }
+    requires able { Able (uncounted_step definition.now engine.now (λ w. constructed w rest.object.0 rest.held)) }
     requires counted { Counts definition.now (λ o. same o rest.object.0) engine.now }
-    ensures step { Leads result
-        (uncounted (agenda_of definition.now engine.old) engine.old.counted (constructed (world_of engine.old.world) rest.object.0 rest.held))
-        (config_of definition.now engine.new) }
-    ensures quiet { OnErr result (IsQuiet (world_of engine.old.world) (world_of engine.new.world)) }
-    ensures counted { OnOk result (Counts definition.now nothing engine.new) }
-    ensures room { SameRoom engine.old engine.new }
+    ensures { Executes result definition.now engine.old engine.new
+        (uncounted_step definition.now engine.old (λ w. constructed w rest.object.0 rest.held)) }
 {
     let ConstructionFrame {
         object,
@@ -129,13 +115,8 @@ fn end_first(engine: &mut Engine, definition: &Definition) -> Result<(), AllocEr
     requires able { Able (uncounted (rest_of definition.now engine.now) engine.now.counted
         (constructed (world_of engine.now.world) (first_constructed engine.now).object (first_constructed engine.now).held)) }
     requires counted { Counts definition.now nothing engine.now }
-    ensures step { Leads result
-        (uncounted (rest_of definition.now engine.old) engine.old.counted
-        (constructed (world_of engine.old.world) (first_constructed engine.old).object (first_constructed engine.old).held))
-        (config_of definition.now engine.new) }
-    ensures quiet { OnErr result (IsQuiet (world_of engine.old.world) (world_of engine.new.world)) }
-    ensures counted { OnOk result (Counts definition.now nothing engine.new) }
-    ensures room { SameRoom engine.old engine.new }
+    ensures { Executes result definition.now engine.old engine.new
+        (uncounted (rest_of definition.now engine.old) engine.old.counted (constructed (world_of engine.old.world) (first_constructed engine.old).object (first_constructed engine.old).held)) }
 {
     let Some(task) = engine.stack.pop() else {
         unreachable!()
@@ -166,14 +147,9 @@ fn thaw_constructed(engine: &mut Engine, definition: &Definition)
         (thawing_made (world_of engine.now.world) (first_constructed engine.now).object (first_constructed engine.now).steps (first_constructed engine.now).held)) }
     requires counted { Counts definition.now nothing engine.now }
     requires room { HasRoom 1 engine.now }
-    ensures step { uncounted (rest_of definition.now engine.old) engine.old.counted
-        (thawing_made (world_of engine.old.world) (first_constructed engine.old).object (first_constructed engine.old).steps (first_constructed engine.old).held)
-        ≡ Ok (config_of definition.now engine.new) }
-    ensures counted { Counts definition.now nothing engine.new }
-    ensures room { SameRoom engine.old engine.new }
+    ensures { Executes (Ok result) definition.now engine.old engine.new
+        (uncounted (rest_of definition.now engine.old) engine.old.counted (thawing_made (world_of engine.old.world) (first_constructed engine.old).object (first_constructed engine.old).steps (first_constructed engine.old).held)) }
 {
-    // For the proof: the clauses speak of the definition.
-    let _ = definition;
     let object = first_object(engine);
     let slots = engine.world.table.thaw(object);
     push_task(
@@ -194,14 +170,9 @@ fn apply_construct_property(engine: &mut Engine, definition: &Definition, slot: 
     requires live { IsSome (living engine.now.world.table.objects (first_constructed engine.now).object) }
     requires counted { Counts definition.now nothing engine.now }
     requires room { HasRoom 1 engine.now }
-    ensures step { uncounted (rest_of definition.now engine.old) engine.old.counted
-        (apply_construct_property definition.now (world_of engine.old.world) (first_constructed engine.old).object slot (value_view value) (constructing_task (first_constructed engine.old) ∷ []))
-        ≡ Ok (config_of definition.now engine.new) }
-    ensures counted { Counts definition.now nothing engine.new }
-    ensures room { SameRoom engine.old engine.new }
+    ensures { Executes (Ok result) definition.now engine.old engine.new
+        (uncounted (rest_of definition.now engine.old) engine.old.counted (apply_construct_property definition.now (world_of engine.old.world) (first_constructed engine.old).object slot (value_view value) (constructing_task (first_constructed engine.old) ∷ []))) }
 {
-    // For the proof: the clauses speak of the definition.
-    let _ = definition;
     let object = first_object(engine);
     push_task(
         engine,
@@ -225,13 +196,8 @@ fn run_constructed(
     requires live { IsSome (living engine.now.world.table.objects (first_constructed engine.now).object) }
     requires counted { Counts definition.now nothing engine.now }
     requires room { HasRoom 1 engine.now }
-    ensures step { Leads result
-        (uncounted (rest_of definition.now engine.old) engine.old.counted
-        (program_before definition.now (world_of engine.old.world) program (machine_values.object (Some (first_constructed engine.old).object) ∷ []) (constructing_task (first_constructed engine.old) ∷ [])))
-        (config_of definition.now engine.new) }
-    ensures quiet { OnErr result (IsQuiet (world_of engine.old.world) (world_of engine.new.world)) }
-    ensures counted { OnOk result (Counts definition.now nothing engine.new) }
-    ensures room { SameRoom engine.old engine.new }
+    ensures { Executes result definition.now engine.old engine.new
+        (uncounted (rest_of definition.now engine.old) engine.old.counted (program_before definition.now (world_of engine.old.world) program (machine_values.object (Some (first_constructed engine.old).object) ∷ []) (constructing_task (first_constructed engine.old) ∷ []))) }
 {
     let object = first_object(engine);
     let mut registers = engine.spare_registers.take(engine.alloc);
@@ -251,13 +217,8 @@ pub fn construct(engine: &mut Engine, definition: &Definition) -> Result<(), All
         (constructing definition.now (world_of engine.now.world) (first_constructed engine.now).object (first_constructed engine.now).steps (first_constructed engine.now).held)) }
     requires counted { Counts definition.now nothing engine.now }
     requires room { HasRoom 1 engine.now }
-    ensures step { Leads result
-        (uncounted (rest_of definition.now engine.old) engine.old.counted
-        (constructing definition.now (world_of engine.old.world) (first_constructed engine.old).object (first_constructed engine.old).steps (first_constructed engine.old).held))
-        (config_of definition.now engine.new) }
-    ensures quiet { OnErr result (IsQuiet (world_of engine.old.world) (world_of engine.new.world)) }
-    ensures counted { OnOk result (Counts definition.now nothing engine.new) }
-    ensures room { SameRoom engine.old engine.new }
+    ensures { Executes result definition.now engine.old engine.new
+        (uncounted (rest_of definition.now engine.old) engine.old.counted (constructing definition.now (world_of engine.old.world) (first_constructed engine.old).object (first_constructed engine.old).steps (first_constructed engine.old).held)) }
 {
     // For the proof: what a task holds lives.
     never_full(engine);
@@ -284,17 +245,13 @@ fn make_from_build(
     place: Place,
     peer: Option<usize>,
 ) -> Result<(), AllocError>
-    requires able { Able (uncounted (agenda_of definition.now engine.now) engine.now.counted (making definition.now (world_of engine.now.world) place.0 peer true)) }
+    requires able { Able (uncounted_step definition.now engine.now (λ w. making definition.now w place.0 peer true)) }
     requires counted { IsCounted definition.now engine.now }
     requires peer { IfSome peer (λ number. number < length engine.now.world.seats) }
     requires identity { length (world_of engine.now.world).objects < most_identities }
     requires room { HasRoom 1 engine.now }
-    ensures step { Leads result
-        (uncounted (agenda_of definition.now engine.old) engine.old.counted (making definition.now (world_of engine.old.world) place.0 peer true))
-        (config_of definition.now engine.new) }
-    ensures quiet { OnErr result (IsQuiet (world_of engine.old.world) (world_of engine.new.world)) }
-    ensures counted { OnOk result (KeepsCounts definition.now engine.old engine.new) }
-    ensures room { SameRoom engine.old engine.new }
+    ensures { Acts result definition.now engine.old engine.new
+        (uncounted_step definition.now engine.old (λ w. making definition.now w place.0 peer true)) }
 {
     let new = make(engine, definition, place, peer)?;
     begin_construction(engine, new, true)?;
@@ -313,19 +270,15 @@ pub fn build(
     place: Place,
     forwards: ForwardReferences,
 ) -> Result<(), AllocError>
-    requires able { Able (uncounted (agenda_of definition.now engine.now) engine.now.counted (building definition.now (world_of engine.now.world) (build_from definition.now place.0 forwards))) }
-    requires names { LeadsToLiving (uncounted (agenda_of definition.now engine.now) engine.now.counted (building definition.now (world_of engine.now.world) (build_from definition.now place.0 forwards))) }
+    requires able { Able (uncounted_step definition.now engine.now (λ w. building definition.now w (build_from definition.now place.0 forwards))) }
+    requires names { LeadsToLiving (uncounted_step definition.now engine.now (λ w. building definition.now w (build_from definition.now place.0 forwards))) }
     requires counted { IsCounted definition.now engine.now }
     requires connects { Connects definition.now engine.now }
     requires identity { place.0 < object_count definition.now → length (world_of engine.now.world).objects < most_identities }
     requires numbers { (world_of engine.now.world).last_handler + total is_connecting (connects_from definition.now 0 0) ≤ greatest_handler }
     requires room { HasRoom 2 engine.now }
-    ensures step { Leads result
-        (uncounted (agenda_of definition.now engine.old) engine.old.counted (building definition.now (world_of engine.old.world) (build_from definition.now place.0 forwards)))
-        (config_of definition.now engine.new) }
-    ensures quiet { OnErr result (IsQuiet (world_of engine.old.world) (world_of engine.new.world)) }
-    ensures counted { OnOk result (KeepsCounts definition.now engine.old engine.new) }
-    ensures room { SameRoom engine.old engine.new }
+    ensures { Acts result definition.now engine.old engine.new
+        (uncounted_step definition.now engine.old (λ w. building definition.now w (build_from definition.now place.0 forwards))) }
 {
     // For the proof: what is known of a definition's types.
     let _types = definition.types();

@@ -1,6 +1,6 @@
 //! The calls of peers: the question to a peer that is open, and the conclusion from its answer. A peer that is closed is not called.
 
-ghost use Rattle.std.specs.Prelude.{◌≡◌, List, None, Ok, Option, Some, IfOk, IfSome, OnErr, OnOk, false, option_map, string_bytes};
+ghost use Rattle.std.specs.Prelude.{◌≡◌, List, None, Ok, Option, Some, IfOk, IfSome, false, option_map, string_bytes};
 ghost use Rattle.ui_machine.specs.Definition as machine;
 ghost use Rattle.ui_machine.specs.Definition.Types.{GType};
 ghost use Rattle.ui_machine.specs.Instructions.Peers.{calling_on, left_with};
@@ -15,12 +15,11 @@ ghost use Rattle.g_values.specs.View.{value_view};
 ghost use Rattle.engine_world.specs.Counting.{Counts};
 ghost use Rattle.engine_world.specs.EngineView.{config_of};
 ghost use Rattle.engine_world.specs.Able.{Able, Leads, LeadsToLiving};
-ghost use Rattle.engine_world.specs.Quiet.{IsQuiet};
 ghost use Rattle.engine_world.specs.SeatView.{HasKnownKinds};
 ghost use Rattle.engine_world.specs.TaskView.{agenda_of, call_of};
-ghost use Rattle.engine_world.specs.Room.{SameRoom};
 ghost use Rattle.engine_world.specs.View.{with_line, world_of};
 ghost use Rattle.engine_tasks.specs.CallView.{answered, conclusion_view, method_called, named_view, question_view, reply_of, unanswered};
+ghost use Rattle.engine_world.specs.Executions.{ExecutesHolding};
 
 use definitions::Definition;
 use engine_world::engine::Engine;
@@ -174,12 +173,8 @@ fn conclude(
     requires able { Able (left engine.now.counted (left_with (with_line (string_bytes conclusion.line) (world_of engine.now.world)) (agenda_of definition.now engine.now) call.to.0 (value_view conclusion.value))) }
     requires names { LeadsToLiving (left engine.now.counted (left_with (with_line (string_bytes conclusion.line) (world_of engine.now.world)) (agenda_of definition.now engine.now) call.to.0 (value_view conclusion.value))) }
     requires counted { Counts definition.now (λ o. in_task o (Calling (call_of call))) engine.now }
-    ensures step { Leads result
-        (left engine.old.counted (left_with (with_line (string_bytes conclusion.line) (world_of engine.old.world)) (agenda_of definition.now engine.old) call.to.0 (value_view conclusion.value)))
-        (config_of definition.now engine.new) }
-    ensures quiet { OnErr result (IsQuiet (world_of engine.old.world) (world_of engine.new.world)) }
-    ensures counted { OnOk result (Counts definition.now (λ o. same o call.object.0) engine.new) }
-    ensures room { SameRoom engine.old engine.new }
+    ensures { ExecutesHolding result definition.now engine.old engine.new (λ o. same o call.object.0)
+        (left engine.old.counted (left_with (with_line (string_bytes conclusion.line) (world_of engine.old.world)) (agenda_of definition.now engine.old) call.to.0 (value_view conclusion.value))) }
 {
     // For the proof: what lives may be held once more.
     never_full(engine);
@@ -207,13 +202,8 @@ pub fn answer(
     requires names { LeadsToLiving (left engine.now.counted (calling_on definition.now (world_of engine.now.world) (call_of call) (agenda_of definition.now engine.now)
         (Some (reply_of (world_of engine.now.world) (call_of call) (option_map value_view answer))))) }
     requires counted { Counts definition.now (λ o. in_task o (Calling (call_of call))) engine.now }
-    ensures step { Leads result
-        (left engine.old.counted (calling_on definition.now (world_of engine.old.world) (call_of call) (agenda_of definition.now engine.old)
-        (Some (reply_of (world_of engine.old.world) (call_of call) (option_map value_view answer)))))
-        (config_of definition.now engine.new) }
-    ensures quiet { OnErr result (IsQuiet (world_of engine.old.world) (world_of engine.new.world)) }
-    ensures counted { OnOk result (Counts definition.now (λ o. same o call.object.0) engine.new) }
-    ensures room { SameRoom engine.old engine.new }
+    ensures { ExecutesHolding result definition.now engine.old engine.new (λ o. same o call.object.0)
+        (left engine.old.counted (calling_on definition.now (world_of engine.old.world) (call_of call) (agenda_of definition.now engine.old) (Some (reply_of (world_of engine.old.world) (call_of call) (option_map value_view answer))))) }
 {
     if !is_asked(engine, call.peer) {
         return pass_over(engine, definition, call);
@@ -235,15 +225,11 @@ pub fn pass_over(
     requires able { Able (left engine.now.counted (calling_on definition.now (world_of engine.now.world) (call_of call) (agenda_of definition.now engine.now) None)) }
     requires names { LeadsToLiving (left engine.now.counted (calling_on definition.now (world_of engine.now.world) (call_of call) (agenda_of definition.now engine.now) None)) }
     requires counted { Counts definition.now (λ o. in_task o (Calling (call_of call))) engine.now }
-    ensures step { Leads result
-        (left engine.old.counted (calling_on definition.now (world_of engine.old.world) (call_of call) (agenda_of definition.now engine.old) None))
-        (config_of definition.now engine.new) }
+    ensures executes { ExecutesHolding result definition.now engine.old engine.new (λ o. same o call.object.0)
+        (left engine.old.counted (calling_on definition.now (world_of engine.old.world) (call_of call) (agenda_of definition.now engine.old) None)) }
     ensures closed { is_asked (world_of engine.old.world) call.peer ≡ false → (reply : Option Reply) → Leads result
         (left engine.old.counted (calling_on definition.now (world_of engine.old.world) (call_of call) (agenda_of definition.now engine.old) reply))
         (config_of definition.now engine.new) }
-    ensures quiet { OnErr result (IsQuiet (world_of engine.old.world) (world_of engine.new.world)) }
-    ensures counted { OnOk result (Counts definition.now (λ o. same o call.object.0) engine.new) }
-    ensures room { SameRoom engine.old engine.new }
 {
     let conclusion = unanswered(engine, definition, &call)?;
     conclude(engine, definition, call, conclusion)

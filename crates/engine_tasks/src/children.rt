@@ -1,16 +1,14 @@
 //! The adoption of objects by their parents as the build makes them.
 
-ghost use Rattle.std.specs.Prelude.{◌≡◌, Ok, suc, OnOk, OnErr};
-ghost use Rattle.ui_machine.specs.Steps.{uncounted};
+ghost use Rattle.std.specs.Prelude.{◌≡◌, Ok, suc};
 ghost use Rattle.ui_machine.specs.Rules.Build.{building_child};
-ghost use Rattle.engine_world.specs.Able.{Able, Leads};
-ghost use Rattle.engine_world.specs.Quiet.{IsQuiet};
-ghost use Rattle.engine_world.specs.Room.{HasRoom, SameRoom};
+ghost use Rattle.engine_world.specs.Able.{Able};
+ghost use Rattle.engine_world.specs.Room.{HasRoom};
 ghost use Rattle.engine_world.specs.View.{world_of};
 ghost use Rattle.engine_world.specs.KinView.{kin_of, kin_at};
-ghost use Rattle.engine_world.specs.TaskView.{agenda_of, build_from};
-ghost use Rattle.engine_world.specs.Counting.{IsCounted, KeepsCounts};
-ghost use Rattle.engine_world.specs.EngineView.{config_of};
+ghost use Rattle.engine_world.specs.TaskView.{build_from};
+ghost use Rattle.engine_world.specs.Counting.{IsCounted};
+ghost use Rattle.engine_world.specs.Executions.{Acts, uncounted_step};
 
 use definitions::Definition;
 use engine_world::children::{Kin, join};
@@ -49,15 +47,11 @@ pub fn adopt_from_build(
     place: Place,
     forwards: ForwardReferences,
 ) -> Result<(), AllocError>
-    requires able { Able (uncounted (agenda_of definition.now engine.now) engine.now.counted (building_child definition.now (world_of engine.now.world) place.0 (build_from definition.now (suc place.0) forwards))) }
+    requires able { Able (uncounted_step definition.now engine.now (λ w. building_child definition.now w place.0 (build_from definition.now (suc place.0) forwards))) }
     requires counted { IsCounted definition.now engine.now }
     requires room { HasRoom 1 engine.now }
-    ensures step { Leads result
-        (uncounted (agenda_of definition.now engine.old) engine.old.counted (building_child definition.now (world_of engine.old.world) place.0 (build_from definition.now (suc place.0) forwards)))
-        (config_of definition.now engine.new) }
-    ensures quiet { OnErr result (IsQuiet (world_of engine.old.world) (world_of engine.new.world)) }
-    ensures counted { OnOk result (KeepsCounts definition.now engine.old engine.new) }
-    ensures room { SameRoom engine.old engine.new }
+    ensures { Acts result definition.now engine.old engine.new
+        (uncounted_step definition.now engine.old (λ w. building_child definition.now w place.0 (build_from definition.now (suc place.0) forwards))) }
 {
     // For the proof: what is known of a definition's places.
     let _types = definition.types();

@@ -11,25 +11,25 @@ ghost use Rattle.ui_machine.specs.Rules.Programs.{beginning_program};
 ghost use Rattle.ui_machine.specs.State.Bindings.{binding_of};
 ghost use Rattle.ui_machine.specs.State.References.{in_register, in_task, in_value, same};
 ghost use Rattle.ui_machine.specs.State.Tasks.{Beginning, Emitting};
-ghost use Rattle.ui_machine.specs.Steps.{act, counted, left, uncounted};
+ghost use Rattle.ui_machine.specs.Steps.{act, counted, left};
 ghost use Rattle.bindings.specs.Due.{entry_of, is_free};
 ghost use Rattle.signal_core.specs.Emission.{begun};
 ghost use Rattle.signal_core.specs.declared.stage.Stage.TheVariants as stages;
 ghost use Rattle.bytecode.specs.Computing.{registers_of};
 ghost use Rattle.g_values.specs.View.{kind_view, value_view};
 ghost use Rattle.definition_format.specs.Meaning.{IsKnownKind};
-ghost use Rattle.engine_world.specs.Able.{Able, Leads, LeadsToLiving};
+ghost use Rattle.engine_world.specs.Able.{Able, LeadsToLiving};
 ghost use Rattle.engine_world.specs.Quiet.{IsQuiet};
 ghost use Rattle.engine_world.specs.Room.{HasRoom, SameRoom};
 ghost use Rattle.engine_world.specs.View.{world_of, with_line};
 ghost use Rattle.engine_world.specs.TaskView.{new_of, emission_of, entries_to_come, agenda_of};
 ghost use Rattle.engine_world.specs.TransferView.{due_later};
 ghost use Rattle.engine_world.specs.Counting.{Counts, KeepsCounts, MayBeHeld, nothing};
-ghost use Rattle.engine_world.specs.EngineView.{config_of};
 ghost use Rattle.engine_world.specs.FirstEmissions.{IsEmission, emission_view, emitted_of, entries_left, first_emitted, first_emitting};
 ghost use Rattle.engine_world.specs.FirstPrograms.{rest_of};
 ghost use Rattle.engine_world.specs.Standing.{past_turns};
 ghost use Rattle.engine_tasks.specs.TurnView.{RunsProgram, given_around, given_by, program_of_turn};
+ghost use Rattle.engine_world.specs.Executions.{Executes, ExecutesHolding, counted_step, uncounted_step};
 
 use crate::programs::begin_program;
 use crate::turns::Invocation;
@@ -125,15 +125,11 @@ pub fn begin_emission(
     definition: &Definition,
     emission: NewEmission,
 ) -> Result<(), AllocError>
-    requires able { Able (counted (agenda_of definition.now engine.now) engine.now.counted (beginning_emission definition.now (world_of engine.now.world) (new_of emission))) }
+    requires able { Able (counted_step definition.now engine.now (λ w. beginning_emission definition.now w (new_of emission))) }
     requires counted { Counts definition.now (λ o. in_task o (Beginning (new_of emission))) engine.now }
     requires room { HasRoom 1 engine.now }
-    ensures step { Leads result
-        (counted (agenda_of definition.now engine.old) engine.old.counted (beginning_emission definition.now (world_of engine.old.world) (new_of emission)))
-        (config_of definition.now engine.new) }
-    ensures quiet { OnErr result (IsQuiet (world_of engine.old.world) (world_of engine.new.world)) }
-    ensures counted { OnOk result (Counts definition.now (λ o. same o emission.object.0) engine.new) }
-    ensures room { SameRoom engine.old engine.new }
+    ensures { ExecutesHolding result definition.now engine.old engine.new (λ o. same o emission.object.0)
+        (counted_step definition.now engine.old (λ w. beginning_emission definition.now w (new_of emission))) }
 {
     // For the proof: what is known of the numbers of handlers.
     let _last = engine.world.handlers.last();
@@ -220,12 +216,8 @@ fn end_emission(
 ) -> Result<(), AllocError>
     requires able { Able (left engine.now.counted (ending definition.now (world_of engine.now.world) (emission_view (emitted_of rest)) (agenda_of definition.now engine.now))) }
     requires counted { Counts definition.now (λ o. same o rest.cursor.object + in_register o rest.cursor.value) engine.now }
-    ensures step { Leads result
-        (left engine.old.counted (ending definition.now (world_of engine.old.world) (emission_view (emitted_of rest)) (agenda_of definition.now engine.old)))
-        (config_of definition.now engine.new) }
-    ensures quiet { OnErr result (IsQuiet (world_of engine.old.world) (world_of engine.new.world)) }
-    ensures counted { OnOk result (Counts definition.now nothing engine.new) }
-    ensures room { SameRoom engine.old engine.new }
+    ensures { Executes result definition.now engine.old engine.new
+        (left engine.old.counted (ending definition.now (world_of engine.old.world) (emission_view (emitted_of rest)) (agenda_of definition.now engine.old))) }
 {
     // For the proof: what is known of a definition's signals, and that what is held lives and may be held once more.
     let _types = definition.types();
@@ -258,12 +250,8 @@ fn end_first(engine: &mut Engine, definition: &Definition) -> Result<(), AllocEr
     requires first { IsEmission engine.now }
     requires able { Able (left engine.now.counted (ending definition.now (world_of engine.now.world) (emission_view (first_emitted engine.now)) (rest_of definition.now engine.now))) }
     requires counted { Counts definition.now nothing engine.now }
-    ensures step { Leads result
-        (left engine.old.counted (ending definition.now (world_of engine.old.world) (emission_view (first_emitted engine.old)) (rest_of definition.now engine.old)))
-        (config_of definition.now engine.new) }
-    ensures quiet { OnErr result (IsQuiet (world_of engine.old.world) (world_of engine.new.world)) }
-    ensures counted { OnOk result (Counts definition.now nothing engine.new) }
-    ensures room { SameRoom engine.old engine.new }
+    ensures { Executes result definition.now engine.old engine.new
+        (left engine.old.counted (ending definition.now (world_of engine.old.world) (emission_view (first_emitted engine.old)) (rest_of definition.now engine.old))) }
 {
     let rest = drop_emission(engine);
     end_emission(engine, definition, rest)
@@ -286,20 +274,13 @@ fn turn_registers(engine: &mut Engine, runs: Invocation) -> Result<Vec<Option<Va
 // Begins the program of a turn, before the rest of the emission.
 fn take_turn(engine: &mut Engine, definition: &Definition, turn: Turn) -> Result<(), AllocError>
     requires first { IsEmission engine.now }
-    requires able { Able (uncounted (agenda_of definition.now engine.now) engine.now.counted
-        (beginning_program definition.now (world_of engine.now.world) (program_of_turn turn) (given_by (emission_view (first_emitted engine.now)) turn))) }
-    requires names { LeadsToLiving (uncounted (agenda_of definition.now engine.now) engine.now.counted
-        (beginning_program definition.now (world_of engine.now.world) (program_of_turn turn) (given_by (emission_view (first_emitted engine.now)) turn))) }
+    requires able { Able (uncounted_step definition.now engine.now (λ w. beginning_program definition.now w (program_of_turn turn) (given_by (emission_view (first_emitted engine.now)) turn))) }
+    requires names { LeadsToLiving (uncounted_step definition.now engine.now (λ w. beginning_program definition.now w (program_of_turn turn) (given_by (emission_view (first_emitted engine.now)) turn))) }
     requires runs { RunsProgram turn }
     requires counted { Counts definition.now nothing engine.now }
     requires room { HasRoom 1 engine.now }
-    ensures step { Leads result
-        (uncounted (agenda_of definition.now engine.old) engine.old.counted
-        (beginning_program definition.now (world_of engine.old.world) (program_of_turn turn) (given_by (emission_view (first_emitted engine.old)) turn)))
-        (config_of definition.now engine.new) }
-    ensures quiet { OnErr result (IsQuiet (world_of engine.old.world) (world_of engine.new.world)) }
-    ensures counted { OnOk result (Counts definition.now nothing engine.new) }
-    ensures room { SameRoom engine.old engine.new }
+    ensures { Executes result definition.now engine.old engine.new
+        (uncounted_step definition.now engine.old (λ w. beginning_program definition.now w (program_of_turn turn) (given_by (emission_view (first_emitted engine.old)) turn))) }
 {
     let Some(emission) = engine.stack.first_emission() else {
         unreachable!()
@@ -317,14 +298,9 @@ fn take_transfer(engine: &mut Engine, definition: &Definition, due: DueTransfer)
     requires free { is_free (binding_of due.number engine.now.world.bindings.bindings) ≡ true }
     requires counted { Counts definition.now nothing engine.now }
     requires room { HasRoom 1 engine.now }
-    ensures step { act definition.now (world_of engine.old.world) None
-        (Emitting (emission_view (first_emitted engine.old)) (entry_of due ∷ entries_left (first_emitted engine.old) engine.old.world.handlers.handlers) ∷ rest_of definition.now engine.old) engine.old.counted
-        ≡ Ok (config_of definition.now engine.new) }
-    ensures counted { Counts definition.now nothing engine.new }
-    ensures room { SameRoom engine.old engine.new }
+    ensures { Executes (Ok result) definition.now engine.old engine.new
+        (act definition.now (world_of engine.old.world) None (Emitting (emission_view (first_emitted engine.old)) (entry_of due ∷ entries_left (first_emitted engine.old) engine.old.world.handlers.handlers) ∷ rest_of definition.now engine.old) engine.old.counted) }
 {
-    // For the proof: the clauses speak of the definition.
-    let _ = definition;
     push_task(
         engine,
         Task::Transferring {
@@ -346,13 +322,8 @@ fn emit_transfers(engine: &mut Engine, definition: &Definition) -> Result<(), Al
     requires later { due_later (first_emitted engine.now).transfers ≡ [] }
     requires counted { Counts definition.now nothing engine.now }
     requires room { HasRoom 1 engine.now }
-    ensures step { Leads result
-        (act definition.now (world_of engine.old.world) None
-        (past_turns (world_of engine.old.world) (first_emitting engine.old) ∷ rest_of definition.now engine.old) engine.old.counted)
-        (config_of definition.now engine.new) }
-    ensures quiet { OnErr result (IsQuiet (world_of engine.old.world) (world_of engine.new.world)) }
-    ensures counted { OnOk result (Counts definition.now nothing engine.new) }
-    ensures room { SameRoom engine.old engine.new }
+    ensures { Executes result definition.now engine.old engine.new
+        (act definition.now (world_of engine.old.world) None (past_turns (world_of engine.old.world) (first_emitting engine.old) ∷ rest_of definition.now engine.old) engine.old.counted) }
 {
     // For the proof: what is known of the numbers of handlers.
     let _last = engine.world.handlers.last();
@@ -380,13 +351,8 @@ pub fn emit(engine: &mut Engine, definition: &Definition) -> Result<(), AllocErr
         (past_turns (world_of engine.now.world) (first_emitting engine.now) ∷ rest_of definition.now engine.now) engine.now.counted) }
     requires counted { Counts definition.now nothing engine.now }
     requires room { HasRoom 1 engine.now }
-    ensures step { Leads result
-        (act definition.now (world_of engine.old.world) None
-        (past_turns (world_of engine.old.world) (first_emitting engine.old) ∷ rest_of definition.now engine.old) engine.old.counted)
-        (config_of definition.now engine.new) }
-    ensures quiet { OnErr result (IsQuiet (world_of engine.old.world) (world_of engine.new.world)) }
-    ensures counted { OnOk result (Counts definition.now nothing engine.new) }
-    ensures room { SameRoom engine.old engine.new }
+    ensures { Executes result definition.now engine.old engine.new
+        (act definition.now (world_of engine.old.world) None (past_turns (world_of engine.old.world) (first_emitting engine.old) ∷ rest_of definition.now engine.old) engine.old.counted) }
 {
     // For the proof: what is known of the numbers of handlers.
     let _last = engine.world.handlers.last();

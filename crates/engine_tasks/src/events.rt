@@ -1,17 +1,13 @@
 //! The requests of events: sets, gets, emissions and releases.
 
-ghost use Rattle.std.specs.Prelude.{map, option_map, OnOk, OnErr, ◌≡◌, Ok};
-ghost use Rattle.ui_machine.specs.Steps.{uncounted};
+ghost use Rattle.std.specs.Prelude.{map, Ok};
 ghost use Rattle.ui_machine.specs.Rules.Events.{request_step, set_from_event, get_from_event, emit_from_event, release_from_event};
 ghost use Rattle.definition_format.specs.Meaning.{given_view, request_of};
-ghost use Rattle.engine_world.specs.Able.{Able, Leads, LeadsToLiving};
+ghost use Rattle.engine_world.specs.Able.{Able, LeadsToLiving};
 ghost use Rattle.engine_world.specs.GivenView.{shared_detail_of};
-ghost use Rattle.engine_world.specs.Quiet.{IsQuiet};
-ghost use Rattle.engine_world.specs.Room.{HasRoom, SameRoom};
-ghost use Rattle.engine_world.specs.View.{world_of};
-ghost use Rattle.engine_world.specs.TaskView.{agenda_of};
-ghost use Rattle.engine_world.specs.Counting.{HoldsBuilt, IsCounted, KeepsCounts};
-ghost use Rattle.engine_world.specs.EngineView.{config_of};
+ghost use Rattle.engine_world.specs.Room.{HasRoom};
+ghost use Rattle.engine_world.specs.Counting.{HoldsBuilt, IsCounted};
+ghost use Rattle.engine_world.specs.Executions.{Acts, uncounted_step};
 
 use definition_format::{Given, Request};
 use definitions::Definition;
@@ -37,14 +33,12 @@ fn set_from_event(
     slot: Slot,
     given: Given,
 )
-    requires able { Able (uncounted (agenda_of definition.now engine.now) engine.now.counted (set_from_event definition.now (world_of engine.now.world) place.0 slot (given_view given))) }
-    requires names { LeadsToLiving (uncounted (agenda_of definition.now engine.now) engine.now.counted (set_from_event definition.now (world_of engine.now.world) place.0 slot (given_view given))) }
+    requires able { Able (uncounted_step definition.now engine.now (λ w. set_from_event definition.now w place.0 slot (given_view given))) }
+    requires names { LeadsToLiving (uncounted_step definition.now engine.now (λ w. set_from_event definition.now w place.0 slot (given_view given))) }
     requires counted { IsCounted definition.now engine.now }
     requires room { HasRoom 1 engine.now }
-    ensures step { uncounted (agenda_of definition.now engine.old) engine.old.counted (set_from_event definition.now (world_of engine.old.world) place.0 slot (given_view given))
-        ≡ Ok (config_of definition.now engine.new) }
-    ensures counted { KeepsCounts definition.now engine.old engine.new }
-    ensures room { SameRoom engine.old engine.new }
+    ensures { Acts (Ok result) definition.now engine.old engine.new
+        (uncounted_step definition.now engine.old (λ w. set_from_event definition.now w place.0 slot (given_view given))) }
 {
     let object = held_object(engine, place);
     let value = operand(engine, given);
@@ -66,13 +60,9 @@ fn get_from_event(
     place: Place,
     slot: Slot,
 ) -> Result<(), AllocError>
-    requires able { Able (uncounted (agenda_of definition.now engine.now) engine.now.counted (get_from_event definition.now (world_of engine.now.world) place.0 slot)) }
-    ensures step { Leads result
-        (uncounted (agenda_of definition.now engine.old) engine.old.counted (get_from_event definition.now (world_of engine.old.world) place.0 slot))
-        (config_of definition.now engine.new) }
-    ensures quiet { OnErr result (IsQuiet (world_of engine.old.world) (world_of engine.new.world)) }
-    ensures counted { OnOk result (KeepsCounts definition.now engine.old engine.new) }
-    ensures room { SameRoom engine.old engine.new }
+    requires able { Able (uncounted_step definition.now engine.now (λ w. get_from_event definition.now w place.0 slot)) }
+    ensures { Acts result definition.now engine.old engine.new
+        (uncounted_step definition.now engine.old (λ w. get_from_event definition.now w place.0 slot)) }
 {
     let object = held_object(engine, place);
     let spec = spec_of(engine, definition, object, slot);
@@ -98,16 +88,12 @@ fn emit_from_event(
     args: &[Given],
     detail: &Option<RcStr>,
 ) -> Result<(), AllocError>
-    requires able { Able (uncounted (agenda_of definition.now engine.now) engine.now.counted (emit_from_event definition.now (world_of engine.now.world) place.0 signal (map given_view args.now) (shared_detail_of detail.now))) }
-    requires names { LeadsToLiving (uncounted (agenda_of definition.now engine.now) engine.now.counted (emit_from_event definition.now (world_of engine.now.world) place.0 signal (map given_view args.now) (shared_detail_of detail.now))) }
+    requires able { Able (uncounted_step definition.now engine.now (λ w. emit_from_event definition.now w place.0 signal (map given_view args.now) (shared_detail_of detail.now))) }
+    requires names { LeadsToLiving (uncounted_step definition.now engine.now (λ w. emit_from_event definition.now w place.0 signal (map given_view args.now) (shared_detail_of detail.now))) }
     requires counted { IsCounted definition.now engine.now }
     requires room { HasRoom 1 engine.now }
-    ensures step { Leads result
-        (uncounted (agenda_of definition.now engine.old) engine.old.counted (emit_from_event definition.now (world_of engine.old.world) place.0 signal (map given_view args.now) (shared_detail_of detail.now)))
-        (config_of definition.now engine.new) }
-    ensures quiet { OnErr result (IsQuiet (world_of engine.old.world) (world_of engine.new.world)) }
-    ensures counted { OnOk result (KeepsCounts definition.now engine.old engine.new) }
-    ensures room { SameRoom engine.old engine.new }
+    ensures { Acts result definition.now engine.old engine.new
+        (uncounted_step definition.now engine.old (λ w. emit_from_event definition.now w place.0 signal (map given_view args.now) (shared_detail_of detail.now))) }
 {
     let object = held_object(engine, place);
     let detail = shared_detail_in(engine, definition, object, signal, detail)?;
@@ -133,14 +119,10 @@ fn release_from_event(
     definition: &Definition,
     place: Place,
 ) -> Result<(), AllocError>
-    requires able { Able (uncounted (agenda_of definition.now engine.now) engine.now.counted (release_from_event definition.now (world_of engine.now.world) place.0)) }
+    requires able { Able (uncounted_step definition.now engine.now (λ w. release_from_event definition.now w place.0)) }
     requires holds { HoldsBuilt engine.now }
-    ensures step { Leads result
-        (uncounted (agenda_of definition.now engine.old) engine.old.counted (release_from_event definition.now (world_of engine.old.world) place.0))
-        (config_of definition.now engine.new) }
-    ensures quiet { OnErr result (IsQuiet (world_of engine.old.world) (world_of engine.new.world)) }
-    ensures counted { OnOk result (KeepsCounts definition.now engine.old engine.new) }
-    ensures room { SameRoom engine.old engine.new }
+    ensures { Acts result definition.now engine.old engine.new
+        (uncounted_step definition.now engine.old (λ w. release_from_event definition.now w place.0)) }
 {
     let Some(entry) = entry_at(definition, place) else {
         unreachable!()
@@ -163,17 +145,13 @@ pub fn handle_event(
     definition: &Definition,
     request: Request,
 ) -> Result<(), AllocError>
-    requires able { Able (uncounted (agenda_of definition.now engine.now) engine.now.counted (request_step definition.now (world_of engine.now.world) (request_of request))) }
-    requires names { LeadsToLiving (uncounted (agenda_of definition.now engine.now) engine.now.counted (request_step definition.now (world_of engine.now.world) (request_of request))) }
+    requires able { Able (uncounted_step definition.now engine.now (λ w. request_step definition.now w (request_of request))) }
+    requires names { LeadsToLiving (uncounted_step definition.now engine.now (λ w. request_step definition.now w (request_of request))) }
     requires counted { IsCounted definition.now engine.now }
     requires holds { HoldsBuilt engine.now }
     requires room { HasRoom 1 engine.now }
-    ensures step { Leads result
-        (uncounted (agenda_of definition.now engine.old) engine.old.counted (request_step definition.now (world_of engine.old.world) (request_of request)))
-        (config_of definition.now engine.new) }
-    ensures quiet { OnErr result (IsQuiet (world_of engine.old.world) (world_of engine.new.world)) }
-    ensures counted { OnOk result (KeepsCounts definition.now engine.old engine.new) }
-    ensures room { SameRoom engine.old engine.new }
+    ensures { Acts result definition.now engine.old engine.new
+        (uncounted_step definition.now engine.old (λ w. request_step definition.now w (request_of request))) }
 {
     match request {
         Request::Set { place, slot, given } => {

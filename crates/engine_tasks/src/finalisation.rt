@@ -16,6 +16,7 @@ ghost use Rattle.engine_world.specs.View.{world_of};
 ghost use Rattle.engine_world.specs.TaskView.{agenda_of};
 ghost use Rattle.engine_world.specs.Counting.{KeepsCounts};
 ghost use Rattle.engine_world.specs.Standing.{gone_handlers};
+ghost use Rattle.engine_world.specs.Executions.{counted_step};
 
 use definitions::Definition;
 use engine_world::closings::{closing_with, dispose_line, say_and_close};
@@ -37,7 +38,7 @@ pub fn finalise(
     definition: &Definition,
     object: ObjectId,
 ) -> Result<(), AllocError>
-    requires able { Able (counted (agenda_of definition.now engine.now) engine.now.counted (finalising definition.now (world_of engine.now.world) object.0)) }
+    requires able { Able (counted_step definition.now engine.now (λ w. finalising definition.now w object.0)) }
     requires live { IsSome (living engine.now.world.table.objects object.0) }
     requires unheld { count_of engine.now.world.table.counts object.0 ≡ 0 }
     requires knows { Knows definition.now engine.now.world.weak }

@@ -1,19 +1,17 @@
 //! Forward references, which give an object to a property before the object is built. They are set once all objects are made.
 
-ghost use Rattle.std.specs.Prelude.{◌≡◌, ◌≤◌, ◌+◌, ◌++◌, map, OnOk, OnErr, IfOk};
+ghost use Rattle.std.specs.Prelude.{◌≡◌, ◌≤◌, ◌+◌, ◌++◌, map, OnOk, IfOk};
 ghost use Rattle.std.specs.List.{flat_map};
 ghost use Rattle.ui_machine.specs.Rules.Build.{building, forward_of, forward_items, is_connecting};
 ghost use Rattle.ui_machine.specs.Rules.Connections.{greatest_handler};
 ghost use Rattle.ui_machine.specs.Seq.{total};
-ghost use Rattle.ui_machine.specs.Steps.{uncounted};
 ghost use Rattle.definition_format.specs.Meaning.{given_property, object_count};
-ghost use Rattle.engine_world.specs.Able.{Able, Leads, LeadsToLiving};
-ghost use Rattle.engine_world.specs.Quiet.{IsQuiet};
-ghost use Rattle.engine_world.specs.Room.{HasRoom, SameRoom};
+ghost use Rattle.engine_world.specs.Able.{Able, LeadsToLiving};
+ghost use Rattle.engine_world.specs.Room.{HasRoom};
 ghost use Rattle.engine_world.specs.View.{world_of};
-ghost use Rattle.engine_world.specs.TaskView.{agenda_of, connects_from, item_of, items_of, forwards_at, build_end};
-ghost use Rattle.engine_world.specs.Counting.{Connects, IsCounted, KeepsCounts};
-ghost use Rattle.engine_world.specs.EngineView.{config_of};
+ghost use Rattle.engine_world.specs.TaskView.{connects_from, item_of, items_of, forwards_at, build_end};
+ghost use Rattle.engine_world.specs.Counting.{Connects, IsCounted};
+ghost use Rattle.engine_world.specs.Executions.{Acts, uncounted_step};
 
 use crate::binds::bind_from_build;
 use definition_format::{Given, GivenValue};
@@ -108,19 +106,15 @@ pub(crate) fn set_forward_reference(
     place: Place,
     mut forwards: ForwardReferences,
 ) -> Result<(), AllocError>
-    requires able { Able (uncounted (agenda_of definition.now engine.now) engine.now.counted (building definition.now (world_of engine.now.world) (build_end definition.now forwards))) }
-    requires names { LeadsToLiving (uncounted (agenda_of definition.now engine.now) engine.now.counted (building definition.now (world_of engine.now.world) (build_end definition.now forwards))) }
+    requires able { Able (uncounted_step definition.now engine.now (λ w. building definition.now w (build_end definition.now forwards))) }
+    requires names { LeadsToLiving (uncounted_step definition.now engine.now (λ w. building definition.now w (build_end definition.now forwards))) }
     requires counted { IsCounted definition.now engine.now }
     requires past { object_count definition.now ≤ place.0 }
     requires connects { Connects definition.now engine.now }
     requires numbers { (world_of engine.now.world).last_handler + total is_connecting (connects_from definition.now 0 0) ≤ greatest_handler }
     requires room { HasRoom 2 engine.now }
-    ensures step { Leads result
-        (uncounted (agenda_of definition.now engine.old) engine.old.counted (building definition.now (world_of engine.old.world) (build_end definition.now forwards)))
-        (config_of definition.now engine.new) }
-    ensures quiet { OnErr result (IsQuiet (world_of engine.old.world) (world_of engine.new.world)) }
-    ensures counted { OnOk result (KeepsCounts definition.now engine.old engine.new) }
-    ensures room { SameRoom engine.old engine.new }
+    ensures { Acts result definition.now engine.old engine.new
+        (uncounted_step definition.now engine.old (λ w. building definition.now w (build_end definition.now forwards))) }
 {
     // For the proof: what is known of a definition's places.
     let _types = definition.types();

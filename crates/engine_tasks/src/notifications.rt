@@ -1,19 +1,16 @@
 //! The beginning of a notification, and the notifications of a thaw.
 
-ghost use Rattle.std.specs.Prelude.{IfOk, OnOk, OnErr, IsSome, ◌≡◌, Ok, map};
+ghost use Rattle.std.specs.Prelude.{IfOk, IsSome, ◌≡◌, Ok, map};
 ghost use Rattle.ui_machine.specs.Rules.EmissionPlan.{notifying};
-ghost use Rattle.ui_machine.specs.Steps.{counted, uncounted};
+ghost use Rattle.ui_machine.specs.Steps.{counted};
 ghost use Rattle.ui_machine.specs.Rules.NotifyQueue.{thawing};
 ghost use Rattle.ui_machine.specs.State.Bindings.{transfers};
 ghost use Rattle.ui_machine.specs.State.Objects.{living};
 ghost use Rattle.bindings.specs.Due.{entry_of};
-ghost use Rattle.engine_world.specs.Able.{Able, Leads};
-ghost use Rattle.engine_world.specs.Quiet.{IsQuiet};
-ghost use Rattle.engine_world.specs.Room.{HasRoom, SameRoom};
-ghost use Rattle.engine_world.specs.View.{world_of};
-ghost use Rattle.engine_world.specs.TaskView.{agenda_of};
-ghost use Rattle.engine_world.specs.Counting.{IsCounted, KeepsCounts};
-ghost use Rattle.engine_world.specs.EngineView.{config_of};
+ghost use Rattle.engine_world.specs.Able.{Able};
+ghost use Rattle.engine_world.specs.Room.{HasRoom};
+ghost use Rattle.engine_world.specs.Counting.{IsCounted};
+ghost use Rattle.engine_world.specs.Executions.{Acts, counted_step, uncounted_step};
 
 use crate::emission::start_emission;
 use bindings::DueTransfers;
@@ -51,15 +48,11 @@ fn notify_with(
     due: DueTransfers,
 ) -> Result<(), AllocError>
     requires due { map entry_of due ≡ transfers object.0 slot engine.now.world.bindings.bindings }
-    requires able { Able (counted (agenda_of definition.now engine.now) engine.now.counted (notifying definition.now (world_of engine.now.world) object.0 slot)) }
+    requires able { Able (counted_step definition.now engine.now (λ w. notifying definition.now w object.0 slot)) }
     requires counted { IsCounted definition.now engine.now }
     requires room { HasRoom 1 engine.now }
-    ensures step { Leads result
-        (counted (agenda_of definition.now engine.old) engine.old.counted (notifying definition.now (world_of engine.old.world) object.0 slot))
-        (config_of definition.now engine.new) }
-    ensures quiet { OnErr result (IsQuiet (world_of engine.old.world) (world_of engine.new.world)) }
-    ensures counted { OnOk result (KeepsCounts definition.now engine.old engine.new) }
-    ensures room { SameRoom engine.old engine.new }
+    ensures { Acts result definition.now engine.old engine.new
+        (counted_step definition.now engine.old (λ w. notifying definition.now w object.0 slot)) }
 {
     // For the proof: what is known of the numbers of handlers.
     let _last = engine.world.handlers.last();
@@ -96,15 +89,11 @@ pub fn notify(
     object: ObjectId,
     slot: Slot,
 ) -> Result<(), AllocError>
-    requires able { Able (counted (agenda_of definition.now engine.now) engine.now.counted (notifying definition.now (world_of engine.now.world) object.0 slot)) }
+    requires able { Able (counted_step definition.now engine.now (λ w. notifying definition.now w object.0 slot)) }
     requires counted { IsCounted definition.now engine.now }
     requires room { HasRoom 1 engine.now }
-    ensures step { Leads result
-        (counted (agenda_of definition.now engine.old) engine.old.counted (notifying definition.now (world_of engine.old.world) object.0 slot))
-        (config_of definition.now engine.new) }
-    ensures quiet { OnErr result (IsQuiet (world_of engine.old.world) (world_of engine.new.world)) }
-    ensures counted { OnOk result (KeepsCounts definition.now engine.old engine.new) }
-    ensures room { SameRoom engine.old engine.new }
+    ensures { Acts result definition.now engine.old engine.new
+        (counted_step definition.now engine.old (λ w. notifying definition.now w object.0 slot)) }
 {
     let due = due_transfers(engine, object, slot)?;
     notify_with(engine, definition, object, slot, due)
@@ -117,17 +106,13 @@ pub fn notify_thawed(
     object: ObjectId,
     mut slots: Slots,
 )
-    requires able { Able (uncounted (agenda_of definition.now engine.now) engine.now.counted (thawing (world_of engine.now.world) object.0 slots)) }
+    requires able { Able (uncounted_step definition.now engine.now (λ w. thawing w object.0 slots)) }
     requires live { IsSome (living engine.now.world.table.objects object.0) }
     requires counted { IsCounted definition.now engine.now }
     requires room { HasRoom 2 engine.now }
-    ensures step { uncounted (agenda_of definition.now engine.old) engine.old.counted (thawing (world_of engine.old.world) object.0 slots)
-        ≡ Ok (config_of definition.now engine.new) }
-    ensures counted { KeepsCounts definition.now engine.old engine.new }
-    ensures room { SameRoom engine.old engine.new }
+    ensures { Acts (Ok result) definition.now engine.old engine.new
+        (uncounted_step definition.now engine.old (λ w. thawing w object.0 slots)) }
 {
-    // For the proof: the clauses speak of the definition.
-    let _ = definition;
     let Some(slot) = slots.take() else {
         return;
     };

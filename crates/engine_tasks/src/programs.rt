@@ -1,19 +1,16 @@
 //! The beginning of a program (GObject manual, Closures: `g_closure_invoke`).
 
-ghost use Rattle.std.specs.Prelude.{◌≡◌, ◌≤◌, vec_capacity, IfOk, OnOk, OnErr};
+ghost use Rattle.std.specs.Prelude.{◌≡◌, ◌≤◌, vec_capacity, IfOk};
 ghost use Rattle.ui_machine.specs.Rules.Programs.{beginning_program};
-ghost use Rattle.ui_machine.specs.Steps.{uncounted};
 ghost use Rattle.law_typing.specs.Good.Living.{NamesLiving};
 ghost use Rattle.law_typing.specs.Verdict.Accepted.{Each};
 ghost use Rattle.bytecode.specs.Computing.{registers_of};
 ghost use Rattle.frames.specs.FrameView.{AreSet, set_values};
-ghost use Rattle.engine_world.specs.Able.{Able, Leads};
-ghost use Rattle.engine_world.specs.Quiet.{IsQuiet};
-ghost use Rattle.engine_world.specs.Room.{HasRoom, SameRoom};
+ghost use Rattle.engine_world.specs.Able.{Able};
+ghost use Rattle.engine_world.specs.Room.{HasRoom};
 ghost use Rattle.engine_world.specs.View.{world_of};
-ghost use Rattle.engine_world.specs.TaskView.{agenda_of};
-ghost use Rattle.engine_world.specs.Counting.{IsCounted, KeepsCounts};
-ghost use Rattle.engine_world.specs.EngineView.{config_of};
+ghost use Rattle.engine_world.specs.Counting.{IsCounted};
+ghost use Rattle.engine_world.specs.Executions.{Acts, uncounted_step};
 
 use bytecode::Program;
 use definitions::Definition;
@@ -47,18 +44,14 @@ pub(crate) fn begin_program(
     number: ProgramId,
     registers: Vec<Option<Value>>,
 ) -> Result<(), AllocError>
-    requires able { Able (uncounted (agenda_of definition.now engine.now) engine.now.counted (beginning_program definition.now (world_of engine.now.world) number (set_values (registers_of registers.items)))) }
+    requires able { Able (uncounted_step definition.now engine.now (λ w. beginning_program definition.now w number (set_values (registers_of registers.items)))) }
     requires set { AreSet (registers_of registers.items) }
     requires counted { IsCounted definition.now engine.now }
     requires names { Each (NamesLiving (world_of engine.now.world)) (set_values (registers_of registers.items)) }
     requires room { HasRoom 1 engine.now }
-    ensures step { Leads result
-        (uncounted (agenda_of definition.now engine.old) engine.old.counted (beginning_program definition.now (world_of engine.old.world) number (set_values (registers_of registers.items))))
-        (config_of definition.now engine.new) }
-    ensures quiet { OnErr result (IsQuiet (world_of engine.old.world) (world_of engine.new.world)) }
+    ensures acts { Acts result definition.now engine.old engine.new
+        (uncounted_step definition.now engine.old (λ w. beginning_program definition.now w number (set_values (registers_of registers.items)))) }
     ensures handlers { engine.new.world.handlers ≡ engine.old.world.handlers }
-    ensures counted { OnOk result (KeepsCounts definition.now engine.old engine.new) }
-    ensures room { SameRoom engine.old engine.new }
 {
     let Some(program) = definition.program(number) else {
         unreachable!()

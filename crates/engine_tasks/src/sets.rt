@@ -1,23 +1,19 @@
 //! Sets of properties, and the notifications that they raise.
 
-ghost use Rattle.std.specs.Prelude.{◌≡◌, ◌&&◌, Ok, not, string_bytes, true, OnOk, OnErr, IfOk};
-ghost use Rattle.ui_machine.specs.Outcome.{After};
+ghost use Rattle.std.specs.Prelude.{◌≡◌, ◌&&◌, Ok, not, string_bytes, true, OnOk, OnErr};
 ghost use Rattle.ui_machine.specs.Rules.Sets.{setting, without_disposed, written, raising_if, notifies, lives, unless_disposed};
 ghost use Rattle.ui_machine.specs.State.Objects.{class_in, changed, with_value};
 ghost use Rattle.param_specs.specs.Validation.{KnowsClass};
 ghost use Rattle.ui_machine.specs.Definition.Properties.{is_lax};
 ghost use Rattle.ui_machine.specs.State.Config.{said, with_objects};
 ghost use Rattle.ui_machine.specs.Output.Lines as lines;
-ghost use Rattle.ui_machine.specs.Steps.{uncounted};
 ghost use Rattle.g_values.specs.View.{value_view};
 ghost use Rattle.param_specs.specs.View.{spec_view};
-ghost use Rattle.engine_world.specs.Able.{Able, Leads};
-ghost use Rattle.engine_world.specs.Quiet.{IsQuiet};
-ghost use Rattle.engine_world.specs.Room.{HasRoom, SameRoom};
+ghost use Rattle.engine_world.specs.Able.{Able};
+ghost use Rattle.engine_world.specs.Room.{HasRoom};
 ghost use Rattle.engine_world.specs.View.{world_of, with_line};
-ghost use Rattle.engine_world.specs.TaskView.{agenda_of};
 ghost use Rattle.engine_world.specs.Counting.{IsCounted, KeepsCounts};
-ghost use Rattle.engine_world.specs.EngineView.{config_of};
+ghost use Rattle.engine_world.specs.Executions.{Acts, uncounted_step};
 
 use definitions::Definition;
 use engine_world::engine::Engine;
@@ -92,18 +88,12 @@ fn say_and_raise(
     line: String,
     is_told: bool,
 ) -> Result<(), AllocError>
-    requires able { Able (uncounted (agenda_of definition.now engine.now) engine.now.counted (raising_if is_told (with_line (string_bytes line) (world_of engine.now.world)) object.0 slot)) }
+    requires able { Able (uncounted_step definition.now engine.now (λ w. raising_if is_told (with_line (string_bytes line) w) object.0 slot)) }
     requires counted { IsCounted definition.now engine.now }
     requires room { HasRoom 1 engine.now }
-    ensures step { Leads result
-        (uncounted (agenda_of definition.now engine.old) engine.old.counted (raising_if is_told (with_line (string_bytes line) (world_of engine.old.world)) object.0 slot))
-        (config_of definition.now engine.new) }
-    ensures quiet { OnErr result (IsQuiet (world_of engine.old.world) (world_of engine.new.world)) }
-    ensures counted { OnOk result (KeepsCounts definition.now engine.old engine.new) }
-    ensures room { SameRoom engine.old engine.new }
+    ensures { Acts result definition.now engine.old engine.new
+        (uncounted_step definition.now engine.old (λ w. raising_if is_told (with_line (string_bytes line) w) object.0 slot)) }
 {
-    // For the proof: the clauses speak of the definition.
-    let _ = definition;
     if !is_told {
         engine.world.say(line)?;
         return Ok(());
@@ -135,8 +125,7 @@ fn write(
     ensures handlers { engine.new.world.handlers ≡ engine.old.world.handlers }
     ensures counted { KeepsCounts definition.now engine.old engine.new }
 {
-    // For the proof: the clauses speak of the definition, and what is written may be held once more.
-    let _ = definition;
+    // For the proof: what is written may be held once more.
     never_full(engine);
     let world = &mut engine.world;
     world.table.write(&world.weak, object, slot, value)
@@ -152,16 +141,12 @@ fn write_and_notify(
     spec: &Spec,
     value: Value,
 ) -> Result<(), AllocError>
-    requires able { Able (uncounted (agenda_of definition.now engine.now) engine.now.counted (written definition.now (world_of engine.now.world) object.0 slot (spec_view spec.now) (value_view value))) }
+    requires able { Able (uncounted_step definition.now engine.now (λ w. written definition.now w object.0 slot (spec_view spec.now) (value_view value))) }
     requires lives { lives (world_of engine.now.world).objects (value_view value) ≡ true }
     requires counted { IsCounted definition.now engine.now }
     requires room { HasRoom 1 engine.now }
-    ensures step { Leads result
-        (uncounted (agenda_of definition.now engine.old) engine.old.counted (written definition.now (world_of engine.old.world) object.0 slot (spec_view spec.now) (value_view value)))
-        (config_of definition.now engine.new) }
-    ensures quiet { OnErr result (IsQuiet (world_of engine.old.world) (world_of engine.new.world)) }
-    ensures counted { OnOk result (KeepsCounts definition.now engine.old engine.new) }
-    ensures room { SameRoom engine.old engine.new }
+    ensures { Acts result definition.now engine.old engine.new
+        (uncounted_step definition.now engine.old (λ w. written definition.now w object.0 slot (spec_view spec.now) (value_view value))) }
 {
     let told = Line::Set {
         object,
@@ -211,15 +196,11 @@ pub fn validate_and_set(
     slot: Slot,
     value: Value,
 ) -> Result<(), AllocError>
-    requires able { Able (uncounted (agenda_of definition.now engine.now) engine.now.counted (setting definition.now (world_of engine.now.world) object.0 slot (value_view value))) }
+    requires able { Able (uncounted_step definition.now engine.now (λ w. setting definition.now w object.0 slot (value_view value))) }
     requires counted { IsCounted definition.now engine.now }
     requires room { HasRoom 1 engine.now }
-    ensures step { Leads result
-        (uncounted (agenda_of definition.now engine.old) engine.old.counted (setting definition.now (world_of engine.old.world) object.0 slot (value_view value)))
-        (config_of definition.now engine.new) }
-    ensures quiet { OnErr result (IsQuiet (world_of engine.old.world) (world_of engine.new.world)) }
-    ensures counted { OnOk result (KeepsCounts definition.now engine.old engine.new) }
-    ensures room { SameRoom engine.old engine.new }
+    ensures { Acts result definition.now engine.old engine.new
+        (uncounted_step definition.now engine.old (λ w. setting definition.now w object.0 slot (value_view value))) }
 {
     let spec = spec_of(engine, definition, object, slot);
     let known = with_own_class(&engine.world.table, value);

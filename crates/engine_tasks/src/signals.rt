@@ -1,22 +1,20 @@
 //! The signals of the definition's objects, which are connected once all objects are made (GTK manual, GtkBuilder: the element `signal`).
 
-ghost use Rattle.std.specs.Prelude.{◌≡◌, ◌∷◌, ◌+◌, ◌≤◌, [], Ok, false, suc, ◌<◌, IfOk, IfSome, MatchOption, OnOk, OnErr};
+ghost use Rattle.std.specs.Prelude.{◌≡◌, ◌∷◌, ◌+◌, ◌≤◌, [], Ok, false, suc, ◌<◌, IfOk, IfSome, MatchOption};
 ghost use Rattle.ui_machine.specs.Rules.Build.{building, held_data, is_connecting};
 ghost use Rattle.ui_machine.specs.Rules.Connections.{greatest_handler};
 ghost use Rattle.ui_machine.specs.Seq.{total};
 ghost use Rattle.ui_machine.specs.State.Tasks.{connects};
-ghost use Rattle.ui_machine.specs.Steps.{uncounted};
 ghost use Rattle.definition_format.specs.Meaning.{place_number};
 ghost use Rattle.instance_tables.specs.Store.{id_of};
 ghost use Rattle.signal_core.specs.Connected.{connection_of};
 ghost use Rattle.engine_world.specs.ConnectView.{attached_at};
-ghost use Rattle.engine_world.specs.Counting.{Connects, KeepsCounts};
-ghost use Rattle.engine_world.specs.EngineView.{config_of};
-ghost use Rattle.engine_world.specs.Able.{Able, Leads};
-ghost use Rattle.engine_world.specs.Quiet.{IsQuiet};
-ghost use Rattle.engine_world.specs.TaskView.{agenda_of, connects_from};
-ghost use Rattle.engine_world.specs.Room.{HasRoom, SameRoom};
+ghost use Rattle.engine_world.specs.Counting.{Connects};
+ghost use Rattle.engine_world.specs.Able.{Able};
+ghost use Rattle.engine_world.specs.TaskView.{connects_from};
+ghost use Rattle.engine_world.specs.Room.{HasRoom};
 ghost use Rattle.engine_world.specs.View.{world_of};
+ghost use Rattle.engine_world.specs.Executions.{Acts, uncounted_step};
 
 use definitions::Definition;
 use engine_world::arguments::{as_text, detail_for};
@@ -114,16 +112,12 @@ pub fn connect_from_build(
     place: Place,
     number: usize,
 ) -> Result<(), AllocError>
-    requires able { Able (uncounted (agenda_of definition.now engine.now) engine.now.counted (building definition.now (world_of engine.now.world) (connects_from definition.now place.0 number))) }
+    requires able { Able (uncounted_step definition.now engine.now (λ w. building definition.now w (connects_from definition.now place.0 number))) }
     requires connects { Connects definition.now engine.now }
     requires numbers { (world_of engine.now.world).last_handler + total is_connecting (connects_from definition.now place.0 number) ≤ greatest_handler }
     requires room { HasRoom 1 engine.now }
-    ensures step { Leads result
-        (uncounted (agenda_of definition.now engine.old) engine.old.counted (building definition.now (world_of engine.old.world) (connects_from definition.now place.0 number)))
-        (config_of definition.now engine.new) }
-    ensures quiet { OnErr result (IsQuiet (world_of engine.old.world) (world_of engine.new.world)) }
-    ensures counted { OnOk result (KeepsCounts definition.now engine.old engine.new) }
-    ensures room { SameRoom engine.old engine.new }
+    ensures { Acts result definition.now engine.old engine.new
+        (uncounted_step definition.now engine.old (λ w. building definition.now w (connects_from definition.now place.0 number))) }
 {
     let Some(at) = next_signal(definition, place, number) else {
         return Ok(());

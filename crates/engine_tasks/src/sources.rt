@@ -1,17 +1,13 @@
 //! The run of a source that is due (GLib manual, The Main Event Loop: `g_main_context_dispatch`).
 
-ghost use Rattle.std.specs.Prelude.{◌≡◌, [], map, Some, OnOk, OnErr};
+ghost use Rattle.std.specs.Prelude.{◌≡◌, [], map, Some, OnOk};
 ghost use Rattle.ui_machine.specs.Rules.MainLoop.{source_data, sourcing};
-ghost use Rattle.ui_machine.specs.Steps.{uncounted};
 ghost use Rattle.bytecode.specs.Computing.{registers_of};
 ghost use Rattle.instance_tables.specs.Store.{id_of};
-ghost use Rattle.engine_world.specs.Able.{Able, Leads, LeadsToLiving};
-ghost use Rattle.engine_world.specs.Quiet.{IsQuiet};
-ghost use Rattle.engine_world.specs.Room.{HasRoom, SameRoom};
-ghost use Rattle.engine_world.specs.View.{world_of};
-ghost use Rattle.engine_world.specs.TaskView.{agenda_of};
-ghost use Rattle.engine_world.specs.Counting.{IsCounted, KeepsCounts};
-ghost use Rattle.engine_world.specs.EngineView.{config_of};
+ghost use Rattle.engine_world.specs.Able.{Able, LeadsToLiving};
+ghost use Rattle.engine_world.specs.Room.{HasRoom};
+ghost use Rattle.engine_world.specs.Counting.{IsCounted};
+ghost use Rattle.engine_world.specs.Executions.{Acts, uncounted_step};
 
 use crate::programs::begin_program;
 use definitions::Definition;
@@ -45,16 +41,12 @@ pub fn run_source(
     definition: &Definition,
     source: u64,
 ) -> Result<(), AllocError>
-    requires able { Able (uncounted (agenda_of definition.now engine.now) engine.now.counted (sourcing definition.now (world_of engine.now.world) source)) }
-    requires names { LeadsToLiving (uncounted (agenda_of definition.now engine.now) engine.now.counted (sourcing definition.now (world_of engine.now.world) source)) }
+    requires able { Able (uncounted_step definition.now engine.now (λ w. sourcing definition.now w source)) }
+    requires names { LeadsToLiving (uncounted_step definition.now engine.now (λ w. sourcing definition.now w source)) }
     requires counted { IsCounted definition.now engine.now }
     requires room { HasRoom 2 engine.now }
-    ensures step { Leads result
-        (uncounted (agenda_of definition.now engine.old) engine.old.counted (sourcing definition.now (world_of engine.old.world) source))
-        (config_of definition.now engine.new) }
-    ensures quiet { OnErr result (IsQuiet (world_of engine.old.world) (world_of engine.new.world)) }
-    ensures counted { OnOk result (KeepsCounts definition.now engine.old engine.new) }
-    ensures room { SameRoom engine.old engine.new }
+    ensures { Acts result definition.now engine.old engine.new
+        (uncounted_step definition.now engine.old (λ w. sourcing definition.now w source)) }
 {
     let Some(due) = engine.world.context.find(source) else {
         unreachable!()

@@ -1,18 +1,16 @@
 //! Transfers of bindings, which set the value of a property at another property (GObject manual, GBinding).
 
-ghost use Rattle.std.specs.Prelude.{◌≡◌, Ok, option_map, IfOk, OnOk, OnErr, IsSome};
+ghost use Rattle.std.specs.Prelude.{◌≡◌, Ok, option_map, IfOk, IsSome};
 ghost use Rattle.ui_machine.specs.Rules.Transfers.{set_by, transferring, unsetting};
-ghost use Rattle.ui_machine.specs.Steps.{counted, uncounted};
+ghost use Rattle.ui_machine.specs.Steps.{counted};
 ghost use Rattle.ui_machine.specs.State.Objects.{living};
 ghost use Rattle.g_values.specs.View.{value_view};
-ghost use Rattle.engine_world.specs.Counting.{IsCounted, KeepsCounts};
-ghost use Rattle.engine_world.specs.EngineView.{config_of};
-ghost use Rattle.engine_world.specs.Able.{Able, Leads};
-ghost use Rattle.engine_world.specs.Quiet.{IsQuiet};
-ghost use Rattle.engine_world.specs.TaskView.{agenda_of};
-ghost use Rattle.engine_world.specs.Room.{HasRoom, SameRoom};
+ghost use Rattle.engine_world.specs.Counting.{IsCounted};
+ghost use Rattle.engine_world.specs.Able.{Able};
+ghost use Rattle.engine_world.specs.Room.{HasRoom};
 ghost use Rattle.engine_world.specs.View.{world_of};
 ghost use Rattle.engine_tasks.specs.TransferSteps.{carried_value, to_end};
+ghost use Rattle.engine_world.specs.Executions.{Acts, counted_step, uncounted_step};
 
 use bindings::Transfer;
 use definitions::Definition;
@@ -47,17 +45,13 @@ fn carried_value(
 
 // Sets the value at the target. The binding sets until all that this raises has ended. Without a value nothing is set.
 fn set_by(engine: &mut Engine, definition: &Definition, transfer: Transfer, value: Option<Value>)
-    requires able { Able (uncounted (agenda_of definition.now engine.now) engine.now.counted (set_by (world_of engine.now.world) transfer.number (to_end transfer) (option_map value_view value))) }
+    requires able { Able (uncounted_step definition.now engine.now (λ w. set_by w transfer.number (to_end transfer) (option_map value_view value))) }
     requires live { IsSome (living engine.now.world.table.objects transfer.target.0) }
     requires counted { IsCounted definition.now engine.now }
     requires room { HasRoom 2 engine.now }
-    ensures step { uncounted (agenda_of definition.now engine.old) engine.old.counted (set_by (world_of engine.old.world) transfer.number (to_end transfer) (option_map value_view value))
-        ≡ Ok (config_of definition.now engine.new) }
-    ensures counted { KeepsCounts definition.now engine.old engine.new }
-    ensures room { SameRoom engine.old engine.new }
+    ensures { Acts (Ok result) definition.now engine.old engine.new
+        (uncounted_step definition.now engine.old (λ w. set_by w transfer.number (to_end transfer) (option_map value_view value))) }
 {
-    // For the proof: the clauses speak of the definition.
-    let _ = definition;
     let Some(value) = value else {
         return;
     };
@@ -89,15 +83,11 @@ pub fn transfer(
     number: u64,
     back: bool,
 ) -> Result<(), AllocError>
-    requires able { Able (counted (agenda_of definition.now engine.now) engine.now.counted (transferring definition.now (world_of engine.now.world) number back)) }
+    requires able { Able (counted_step definition.now engine.now (λ w. transferring definition.now w number back)) }
     requires counted { IsCounted definition.now engine.now }
     requires room { HasRoom 2 engine.now }
-    ensures step { Leads result
-        (counted (agenda_of definition.now engine.old) engine.old.counted (transferring definition.now (world_of engine.old.world) number back))
-        (config_of definition.now engine.new) }
-    ensures quiet { OnErr result (IsQuiet (world_of engine.old.world) (world_of engine.new.world)) }
-    ensures counted { OnOk result (KeepsCounts definition.now engine.old engine.new) }
-    ensures room { SameRoom engine.old engine.new }
+    ensures { Acts result definition.now engine.old engine.new
+        (counted_step definition.now engine.old (λ w. transferring definition.now w number back)) }
 {
     count(engine);
     let Some(transfer) = engine.world.bindings.transfer(number, back) else {
@@ -110,11 +100,8 @@ pub fn transfer(
 
 /// Marks a binding as no longer setting, since what it set has ended.
 pub fn unset(engine: &mut Engine, definition: &Definition, number: u64)
-    ensures step { uncounted (agenda_of definition.now engine.old) engine.old.counted (unsetting (world_of engine.old.world) number) ≡ Ok (config_of definition.now engine.new) }
-    ensures counted { KeepsCounts definition.now engine.old engine.new }
-    ensures room { SameRoom engine.old engine.new }
+    ensures { Acts (Ok result) definition.now engine.old engine.new
+        (uncounted_step definition.now engine.old (λ w. unsetting w number)) }
 {
-    // For the proof: the clauses speak of the definition.
-    let _ = definition;
     engine.world.bindings.setting(number, false);
 }

@@ -24,5 +24,6 @@ pub mod EngineView
 pub mod Standing
 pub mod Counting
 pub mod Able
+pub mod Executions
 pub mod BuildTasks
 pub mod Room

@@ -90,8 +90,6 @@ fn add_handler(
     ensures stack { engine.new.stack ≡ engine.old.stack }
     ensures counted { OnOk result (KeepsCounts definition.now engine.old engine.new) }
 {
-    // For the proof: the clauses speak of the definition.
-    let _ = definition;
     match engine.world.handlers.connect(connection) {
         Ok(_number) => return Ok(()),
         Err(error) => return Err(error),

@@ -89,8 +89,6 @@ pub fn own_peer(engine: &Engine, definition: &Definition, place: Place) -> Optio
     ensures own { own_peer definition.now (world_of engine.now.world) place.0 ≡ Ok result }
     ensures within { IfSome result (λ number. number < length engine.now.world.seats) }
 {
-    // For the proof: the clauses speak of the definition.
-    let _ = definition;
     first_number(numbers_at(&engine.world.peer_numbers, place))
 }
 

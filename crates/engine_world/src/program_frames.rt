@@ -66,8 +66,6 @@ pub fn put(engine: &mut Engine, definition: &Definition, to: Register, value: Op
     ensures counted { KeepsCounts definition.now engine.old engine.new }
     ensures room { TakesRoom 0 engine.old engine.new }
 {
-    // For the proof: the clauses speak of the definition.
-    let _ = definition;
     hold_any(&mut engine.world.table, register_named(&value));
     let held = engine.stack.put_first(to, value);
     let_go_any(&mut engine.world.table, register_named(&held));

@@ -152,8 +152,6 @@ impl Core {
         ensures ended { IfEnded result (λ reply. reply ≡ nothing_yet) }
         ensures grows { IsPrefix self.old.world.transcript self.new.world.transcript }
     {
-        // For the proof: the clauses speak of the pool.
-        let _ = pool;
         if self.engine.world.names_released(&request) {
             return Err(SessionFault::Released);
         }
@@ -209,8 +207,6 @@ impl Core {
         ensures ended { IfHasEnded result (λ reply. reply ≡ nothing_yet) }
         ensures grows { IsPrefix self.old.world.transcript self.new.world.transcript }
     {
-        // For the proof: the clauses speak of the pool.
-        let _ = pool;
         let definition = self.verified.definition();
         // For the proof: some bytes denote the definition.
         let _types = definition.types();

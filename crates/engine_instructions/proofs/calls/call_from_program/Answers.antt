@@ -1,4 +1,4 @@
-use Rattle.std.proofs.Common.{[], ◌∷◌, List, ap, map, string_bytes, ◌∙◌}
+use Rattle.std.proofs.Common.{[], ◌∷◌, List, ap, map, string_bytes, ◌∙◌, rules}
 use Rattle.ui_machine.specs.State.Tasks.{Calling, Task}
 use Rattle.bytecode.specs.View.{number_of}
 use Rattle.engine_world.specs.Counting.{nothing}
@@ -36,22 +36,24 @@ push_task-requires-clause-may c =
     pushes_living d e _ (all_counted d e c.requires.counted)
     (λ _ o held. (call_lives w due o names held))
 
-pub returns-clause-step : goal.returns-clause-step
-returns-clause-step c =
-    let d = c.args.definition.now in
-    let e = c.args.engine.now in
-    let w = world_of e.world in
-    let call = c.args.call.now in
-    let due = call_of c.in_ok-due.due in
-    let f = first_frame c.args.engine.now in
-    started_left e.counted (rest_of d e) _ w (Calling due ∷ []) f _ _ _
-    (calls d w f call.to.0 call.object.0 (string_bytes call.method) (map number_of call.args.items) due c.in_ok-due.ensures)
-    c.push_task.ensures.world
-    (c.push_task.ensures.agenda d ∙ ap (λ (ts : List Task). Calling due ∷ ts) (begins d e c.requires.first))
-    c.push_task.ensures.same
-
-pub returns-clause-counted : goal.returns-clause-counted
-returns-clause-counted c =
-    let d = c.args.definition.now in
-    (c.push_task.ensures.counted d).at nothing
-    c.requires.counted
+pub returns : goal.returns
+returns c = record {
+  step =
+      let d = c.args.definition.now in
+      let e = c.args.engine.now in
+      let w = world_of e.world in
+      let call = c.args.call.now in
+      let due = call_of c.in_ok-due.due in
+      let f = first_frame c.args.engine.now in
+      started_left e.counted (rest_of d e) _ w (Calling due ∷ []) f _ _ _
+      (calls d w f call.to.0 call.object.0 (string_bytes call.method) (map number_of call.args.items) due c.in_ok-due.ensures)
+      c.push_task.ensures.world
+      (c.push_task.ensures.agenda d ∙ ap (λ (ts : List Task). Calling due ∷ ts) (begins d e c.requires.first))
+      c.push_task.ensures.same;
+  quiet = search rules;
+  counted =
+      let d = c.args.definition.now in
+      (c.push_task.ensures.counted d).at nothing
+      c.requires.counted;
+  room = search rules;
+}

@@ -1,4 +1,4 @@
-use Rattle.std.proofs.Common.{[], ◌∷◌, List, ap, ◌∙◌, arith}
+use Rattle.std.proofs.Common.{[], ◌∷◌, List, ap, ◌∙◌, arith, rules}
 use Rattle.ui_machine.specs.Seq.{total}
 use Rattle.ui_machine.specs.State.References.{in_task}
 use Rattle.ui_machine.specs.State.Tasks.{Beginning, Frame, Running, Task}
@@ -40,30 +40,32 @@ push_task-requires-clause-may c =
     c.wait_first.ensures.begun nothing c.requires.counted))
     (λ _ o held. emission_lives w o m names held)
 
-pub returns-clause-step : goal.returns-clause-step
-returns-clause-step c =
-    let d = c.args.definition.now in
-    let e = c.args.engine.now in
-    let w = world_of e.world in
-    let m = new_of c.in_ok-emission.emission in
-    let f = record (first_frame e) { into = (emit_of c.args.emit).into } in
-    started_left e.counted (rest_of d e) _ w (Beginning m ∷ []) f _ _ _
-    (emission_begins d w (first_frame e) c.args.object.0 (emit_of c.args.emit) m c.in_ok-emission.ensures)
-    c.push_task.ensures.world
-    (c.push_task.ensures.agenda d
-    ∙ ap (λ (ts : List Task). Beginning m ∷ ts)
-    (c.wait_first.ensures.rewritten.tasks d e.world.handlers.handlers ∙ ap (λ (g : Frame). Running g ∷ rest_of d e) c.wait_first.ensures.waits))
-    c.push_task.ensures.same
-
-pub returns-clause-counted : goal.returns-clause-counted
-returns-clause-counted c =
-    let d = c.args.definition.now in
-    let e = c.args.engine.now in
-    (c.push_task.ensures.counted d).at nothing
-    (stack_same_held d e c.wait_first.new.self
-    (λ o.
-    let before = ap (λ (ts : List Task). total (in_task o) ts) (begins d e c.requires.first) in
-    let after = ap (λ (ts : List Task). total (in_task o) ts)
-    (c.wait_first.ensures.rewritten.tasks d e.world.handlers.handlers ∙ ap (λ (g : Frame). Running g ∷ rest_of d e) c.wait_first.ensures.waits) in
-    omega (arith, before, after))
-    c.wait_first.ensures.begun nothing c.requires.counted)
+pub returns : goal.returns
+returns c = record {
+  step =
+      let d = c.args.definition.now in
+      let e = c.args.engine.now in
+      let w = world_of e.world in
+      let m = new_of c.in_ok-emission.emission in
+      let f = record (first_frame e) { into = (emit_of c.args.emit).into } in
+      started_left e.counted (rest_of d e) _ w (Beginning m ∷ []) f _ _ _
+      (emission_begins d w (first_frame e) c.args.object.0 (emit_of c.args.emit) m c.in_ok-emission.ensures)
+      c.push_task.ensures.world
+      (c.push_task.ensures.agenda d
+      ∙ ap (λ (ts : List Task). Beginning m ∷ ts)
+      (c.wait_first.ensures.rewritten.tasks d e.world.handlers.handlers ∙ ap (λ (g : Frame). Running g ∷ rest_of d e) c.wait_first.ensures.waits))
+      c.push_task.ensures.same;
+  quiet = search rules;
+  counted =
+      let d = c.args.definition.now in
+      let e = c.args.engine.now in
+      (c.push_task.ensures.counted d).at nothing
+      (stack_same_held d e c.wait_first.new.self
+      (λ o.
+      let before = ap (λ (ts : List Task). total (in_task o) ts) (begins d e c.requires.first) in
+      let after = ap (λ (ts : List Task). total (in_task o) ts)
+      (c.wait_first.ensures.rewritten.tasks d e.world.handlers.handlers ∙ ap (λ (g : Frame). Running g ∷ rest_of d e) c.wait_first.ensures.waits) in
+      omega (arith, before, after))
+      c.wait_first.ensures.begun nothing c.requires.counted);
+  room = search rules;
+}

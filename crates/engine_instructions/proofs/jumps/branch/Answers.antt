@@ -1,4 +1,4 @@
-use Rattle.std.proofs.Common.{Bool, None, Some, true, false, ap, sym, ◌∙◌}
+use Rattle.std.proofs.Common.{Bool, None, Some, true, false, ap, sym, ◌∙◌, rules}
 use Rattle.ui_machine.specs.Instructions.{in_front}
 use Rattle.ui_machine.specs.Outcome.{Answer}
 use Rattle.ui_machine.specs.Seq.{read}
@@ -33,16 +33,26 @@ jump-requires-2-clause-able c =
     let some = ap (λ (rs : Registers). of_one truth_of (read None rs c.args.on.0)) (sym c.first_registers.ensures) ∙ sym c.in-Some.ensures ∙ ap (λ (b : Bool). Some b) c.if-truth.false in
     able_as (ap (λ (a : Answer Started). left e.counted (in_front (rest_of d e) a)) (branches d (world_of e.world) (first_frame c.args.engine.now) c.args.on.0 c.args.then_to.0 c.args.else_to.0 false some)) c.requires.able
 
-pub returns-then-truth-clause-step : goal.returns-then-truth-clause-step
-returns-then-truth-clause-step c =
-    let d = c.args.definition.now in
-    let e = c.args.engine.now in
-    let some = ap (λ (rs : Registers). of_one truth_of (read None rs c.args.on.0)) (sym c.first_registers.ensures) ∙ sym c.in-Some.ensures ∙ ap (λ (b : Bool). Some b) c.if-truth.true in
-    ap (λ (a : Answer Started). left e.counted (in_front (rest_of d e) a)) (branches d (world_of e.world) (first_frame c.args.engine.now) c.args.on.0 c.args.then_to.0 c.args.else_to.0 true some) ∙ c.jump.ensures.step
+pub returns-then-truth : goal.returns-then-truth
+returns-then-truth c = record {
+  step =
+      let d = c.args.definition.now in
+      let e = c.args.engine.now in
+      let some = ap (λ (rs : Registers). of_one truth_of (read None rs c.args.on.0)) (sym c.first_registers.ensures) ∙ sym c.in-Some.ensures ∙ ap (λ (b : Bool). Some b) c.if-truth.true in
+      ap (λ (a : Answer Started). left e.counted (in_front (rest_of d e) a)) (branches d (world_of e.world) (first_frame c.args.engine.now) c.args.on.0 c.args.then_to.0 c.args.else_to.0 true some) ∙ c.jump.ensures.step;
+  quiet = search rules;
+  counted = search rules;
+  room = search rules;
+}
 
-pub returns-clause-step : goal.returns-clause-step
-returns-clause-step c =
-    let d = c.args.definition.now in
-    let e = c.args.engine.now in
-    let some = ap (λ (rs : Registers). of_one truth_of (read None rs c.args.on.0)) (sym c.first_registers.ensures) ∙ sym c.in-Some.ensures ∙ ap (λ (b : Bool). Some b) c.if-truth.false in
-    ap (λ (a : Answer Started). left e.counted (in_front (rest_of d e) a)) (branches d (world_of e.world) (first_frame c.args.engine.now) c.args.on.0 c.args.then_to.0 c.args.else_to.0 false some) ∙ c.jump-2.ensures.step
+pub returns : goal.returns
+returns c = record {
+  step =
+      let d = c.args.definition.now in
+      let e = c.args.engine.now in
+      let some = ap (λ (rs : Registers). of_one truth_of (read None rs c.args.on.0)) (sym c.first_registers.ensures) ∙ sym c.in-Some.ensures ∙ ap (λ (b : Bool). Some b) c.if-truth.false in
+      ap (λ (a : Answer Started). left e.counted (in_front (rest_of d e) a)) (branches d (world_of e.world) (first_frame c.args.engine.now) c.args.on.0 c.args.then_to.0 c.args.else_to.0 false some) ∙ c.jump-2.ensures.step;
+  quiet = search rules;
+  counted = search rules;
+  room = search rules;
+}

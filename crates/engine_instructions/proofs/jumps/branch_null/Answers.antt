@@ -1,4 +1,4 @@
-use Rattle.std.proofs.Common.{Bool, None, Some, true, false, ap, sym, ◌∙◌}
+use Rattle.std.proofs.Common.{Bool, None, Some, true, false, ap, sym, ◌∙◌, rules}
 use Rattle.ui_machine.specs.Instructions.{in_front}
 use Rattle.ui_machine.specs.Outcome.{Answer}
 use Rattle.ui_machine.specs.Seq.{read}
@@ -34,16 +34,26 @@ jump-requires-2-clause-able c =
     let some = ap (λ (rs : Registers). of_one is_null (read None rs c.args.on.0)) (sym c.first_registers.ensures) ∙ sym c.in-Some.ensures ∙ ap (λ (b : Bool). Some b) c.if-is_null.false in
     able_as (ap (λ (a : Answer Started). left e.counted (in_front (rest_of d e) a)) (branches_null d (world_of e.world) (first_frame c.args.engine.now) c.args.on.0 c.args.then_to.0 c.args.else_to.0 false some)) c.requires.able
 
-pub returns-then-is_null-clause-step : goal.returns-then-is_null-clause-step
-returns-then-is_null-clause-step c =
-    let d = c.args.definition.now in
-    let e = c.args.engine.now in
-    let some = ap (λ (rs : Registers). of_one is_null (read None rs c.args.on.0)) (sym c.first_registers.ensures) ∙ sym c.in-Some.ensures ∙ ap (λ (b : Bool). Some b) c.if-is_null.true in
-    ap (λ (a : Answer Started). left e.counted (in_front (rest_of d e) a)) (branches_null d (world_of e.world) (first_frame c.args.engine.now) c.args.on.0 c.args.then_to.0 c.args.else_to.0 true some) ∙ c.jump.ensures.step
+pub returns-then-is_null : goal.returns-then-is_null
+returns-then-is_null c = record {
+  step =
+      let d = c.args.definition.now in
+      let e = c.args.engine.now in
+      let some = ap (λ (rs : Registers). of_one is_null (read None rs c.args.on.0)) (sym c.first_registers.ensures) ∙ sym c.in-Some.ensures ∙ ap (λ (b : Bool). Some b) c.if-is_null.true in
+      ap (λ (a : Answer Started). left e.counted (in_front (rest_of d e) a)) (branches_null d (world_of e.world) (first_frame c.args.engine.now) c.args.on.0 c.args.then_to.0 c.args.else_to.0 true some) ∙ c.jump.ensures.step;
+  quiet = search rules;
+  counted = search rules;
+  room = search rules;
+}
 
-pub returns-clause-step : goal.returns-clause-step
-returns-clause-step c =
-    let d = c.args.definition.now in
-    let e = c.args.engine.now in
-    let some = ap (λ (rs : Registers). of_one is_null (read None rs c.args.on.0)) (sym c.first_registers.ensures) ∙ sym c.in-Some.ensures ∙ ap (λ (b : Bool). Some b) c.if-is_null.false in
-    ap (λ (a : Answer Started). left e.counted (in_front (rest_of d e) a)) (branches_null d (world_of e.world) (first_frame c.args.engine.now) c.args.on.0 c.args.then_to.0 c.args.else_to.0 false some) ∙ c.jump-2.ensures.step
+pub returns : goal.returns
+returns c = record {
+  step =
+      let d = c.args.definition.now in
+      let e = c.args.engine.now in
+      let some = ap (λ (rs : Registers). of_one is_null (read None rs c.args.on.0)) (sym c.first_registers.ensures) ∙ sym c.in-Some.ensures ∙ ap (λ (b : Bool). Some b) c.if-is_null.false in
+      ap (λ (a : Answer Started). left e.counted (in_front (rest_of d e) a)) (branches_null d (world_of e.world) (first_frame c.args.engine.now) c.args.on.0 c.args.then_to.0 c.args.else_to.0 false some) ∙ c.jump-2.ensures.step;
+  quiet = search rules;
+  counted = search rules;
+  room = search rules;
+}

@@ -1,4 +1,4 @@
-use Rattle.std.proofs.Common.{List, ap, refl, slice_get, arith}
+use Rattle.std.proofs.Common.{List, ap, refl, slice_get, arith, rules}
 use Rattle.ui_machine.specs.Instructions.Jumps.{jumping}
 use Rattle.ui_machine.specs.Seq.{total}
 use Rattle.ui_machine.specs.State.References.{in_register, in_task}
@@ -24,25 +24,27 @@ jump_first-requires c = record {
       (no_block d (world_of e.world) (first_frame e) (program_view c.args.program.now) c.requires.program c.args.to.0 none)));
 }
 
-pub returns-clause-counted : goal.returns-clause-counted
-returns-clause-counted c =
-    let d = c.args.definition.now in
-    let e = c.args.engine.now in
-    let s = c.jump_first.new.self in
-    let kept = jump_keeps c.args.to.0 (first_frame e) (stack_frame s) (slice_get (program_view c.args.program.now).blocks c.args.to.0) c.jump_first.ensures.jumped in
-    stack_same_held d e s
-    (λ o.
-    let before = ap (λ (ts : List Task). total (in_task o) ts) (begins d e c.requires.first) in
-    let after = ap (λ (ts : List Task). total (in_task o) ts) (c.jump_first.ensures.rewritten.tasks d e.world.handlers.handlers) in
-    let same = ap (λ (rs : Registers). total (in_register o) rs) kept in
-    omega (arith, before, after, same))
-    c.jump_first.ensures.begun nothing c.requires.counted
-
-pub returns-clause-step : goal.returns-clause-step
-returns-clause-step c =
-    let d = c.args.definition.now in
-    let e = c.args.engine.now in
-    let s = c.jump_first.new.self in
-    going_left e.counted (rest_of d e) _ (world_of e.world) (stack_frame s) _ _ _
-    (jumps d (world_of e.world) (first_frame e) (program_view c.args.program.now) c.requires.program c.args.to.0 (stack_frame s) c.jump_first.ensures.jumped)
-    refl (c.jump_first.ensures.rewritten.tasks d e.world.handlers.handlers) refl
+pub returns : goal.returns
+returns c = record {
+  step =
+      let d = c.args.definition.now in
+      let e = c.args.engine.now in
+      let s = c.jump_first.new.self in
+      going_left e.counted (rest_of d e) _ (world_of e.world) (stack_frame s) _ _ _
+      (jumps d (world_of e.world) (first_frame e) (program_view c.args.program.now) c.requires.program c.args.to.0 (stack_frame s) c.jump_first.ensures.jumped)
+      refl (c.jump_first.ensures.rewritten.tasks d e.world.handlers.handlers) refl;
+  quiet = search rules;
+  counted =
+      let d = c.args.definition.now in
+      let e = c.args.engine.now in
+      let s = c.jump_first.new.self in
+      let kept = jump_keeps c.args.to.0 (first_frame e) (stack_frame s) (slice_get (program_view c.args.program.now).blocks c.args.to.0) c.jump_first.ensures.jumped in
+      stack_same_held d e s
+      (λ o.
+      let before = ap (λ (ts : List Task). total (in_task o) ts) (begins d e c.requires.first) in
+      let after = ap (λ (ts : List Task). total (in_task o) ts) (c.jump_first.ensures.rewritten.tasks d e.world.handlers.handlers) in
+      let same = ap (λ (rs : Registers). total (in_register o) rs) kept in
+      omega (arith, before, after, same))
+      c.jump_first.ensures.begun nothing c.requires.counted;
+  room = search rules;
+}

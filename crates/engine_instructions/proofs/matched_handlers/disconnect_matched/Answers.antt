@@ -1,4 +1,4 @@
-use Rattle.std.proofs.Common.{List, map, ap, ◌∙◌}
+use Rattle.std.proofs.Common.{List, map, ap, ◌∙◌, rules}
 use Rattle.ui_machine.specs.Rules.Connections.{disconnected}
 use Rattle.ui_machine.specs.State.Config.{World}
 use Rattle.ui_machine.specs.State.Tasks.{Task}
@@ -18,19 +18,21 @@ matched_in-matched-requires c =
     let e = c.args.engine.now in
     record { first = c.requires.first; able = matched_able d (world_of e.world) (first_frame c.args.engine.now) c.args.object.0 c.args.program.now disconnected e.counted (rest_of d e) c.requires.able; link = c.requires.link }
 
-pub returns-clause-step : goal.returns-clause-step
-returns-clause-step c =
-    let d = c.args.definition.now in
-    let e = c.args.engine.now in
-    let f = first_frame c.args.engine.now in
-    let w = disconnected (world_of e.world) c.matched_in-matched.result.object.0 c.matched_in-matched.result.program in
-    pruned_left e.counted (rest_of d e) _ w f _ _ _
-    (matched_goes d (world_of e.world) f c.args.object.0 c.args.program.now disconnected (matched_of c.matched_in-matched.result) c.matched_in-matched.ensures)
-    c.disconnect.ensures.world
-    (c.disconnect.ensures.agenda ∙ ap (λ (v : World). map (pruned (gone_handlers v)) (agenda_of d e)) c.disconnect.ensures.world ∙ ap (λ (ts : List Task). map (pruned (gone_handlers w)) ts) (begins d e c.requires.first))
-    c.disconnect.ensures.same
-
-pub returns-clause-counted : goal.returns-clause-counted
-returns-clause-counted c =
-    let d = c.args.definition.now in
-    (c.disconnect.ensures.counted.at _ c.requires.counted)
+pub returns : goal.returns
+returns c = record {
+  step =
+      let d = c.args.definition.now in
+      let e = c.args.engine.now in
+      let f = first_frame c.args.engine.now in
+      let w = disconnected (world_of e.world) c.matched_in-matched.result.object.0 c.matched_in-matched.result.program in
+      pruned_left e.counted (rest_of d e) _ w f _ _ _
+      (matched_goes d (world_of e.world) f c.args.object.0 c.args.program.now disconnected (matched_of c.matched_in-matched.result) c.matched_in-matched.ensures)
+      c.disconnect.ensures.world
+      (c.disconnect.ensures.agenda ∙ ap (λ (v : World). map (pruned (gone_handlers v)) (agenda_of d e)) c.disconnect.ensures.world ∙ ap (λ (ts : List Task). map (pruned (gone_handlers w)) ts) (begins d e c.requires.first))
+      c.disconnect.ensures.same;
+  quiet = search rules;
+  counted =
+      let d = c.args.definition.now in
+      (c.disconnect.ensures.counted.at _ c.requires.counted);
+  room = search rules;
+}

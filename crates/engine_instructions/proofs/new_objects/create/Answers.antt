@@ -1,4 +1,4 @@
-use Rattle.std.proofs.Common.{◌≡◌, ◌<◌, ◌&&◌, ℕ, Option, length, true, false, ap, subst, sym, ◌∙◌}
+use Rattle.std.proofs.Common.{◌≡◌, ◌<◌, ◌&&◌, ℕ, Option, length, true, false, ap, subst, sym, ◌∙◌, rules}
 use Rattle.std.specs.Prelude.{IfSome, codes}
 use Rattle.ui_machine.specs.declared.arm.Arm.TheVariants as arms
 use Rattle.ui_machine.specs.Definition.Values.{Value}
@@ -41,18 +41,23 @@ write_null_and_say_limit-requires-clause-able c =
     ∙ ap (λ (v : Value). gives (said d w (lines.limit (codes "new"))) c.args.to.0 v f) (sym c.object_or_null.ensures) in
     able_as (ap (λ (a : Answer Started). left e.counted (in_front (rest_of d e) a)) refused) c.requires.able
 
-pub returns-then-not-may_create-clause-step : goal.returns-then-not-may_create-clause-step
-returns-then-not-may_create-clause-step c =
-    let d = c.args.definition.now in
-    let e = c.args.engine.now in
-    let w = world_of e.world in
-    let f = first_frame c.args.engine.now in
-    let q = prototype_of c.in-Some.prototype in
-    let there = is_there c.new_peer-peer.result in
-    let full : (has_room d w (to_make (rest_of d e)) && there) ≡ false = ap (λ n. has_room d w n && there) (sym (makes_behind d e c.requires.first)) ∙ sym c.if-not-may_create.ensures in
-    let refused = creates d w (rest_of d e) f c.args.to.0 c.args.id.now q false there (taken c.new_peer-peer.result) (sym c.in-Some.ensures.named) full c.new_peer-peer.ensures.there c.new_peer-peer.ensures.taken
-    ∙ ap (λ (v : Value). gives (said d w (lines.limit (codes "new"))) c.args.to.0 v f) (sym c.object_or_null.ensures) in
-    rw refused c.write_null_and_say_limit.ensures.step
+pub returns-then-not-may_create : goal.returns-then-not-may_create
+returns-then-not-may_create c = record {
+  step =
+      let d = c.args.definition.now in
+      let e = c.args.engine.now in
+      let w = world_of e.world in
+      let f = first_frame c.args.engine.now in
+      let q = prototype_of c.in-Some.prototype in
+      let there = is_there c.new_peer-peer.result in
+      let full : (has_room d w (to_make (rest_of d e)) && there) ≡ false = ap (λ n. has_room d w n && there) (sym (makes_behind d e c.requires.first)) ∙ sym c.if-not-may_create.ensures in
+      let refused = creates d w (rest_of d e) f c.args.to.0 c.args.id.now q false there (taken c.new_peer-peer.result) (sym c.in-Some.ensures.named) full c.new_peer-peer.ensures.there c.new_peer-peer.ensures.taken
+      ∙ ap (λ (v : Value). gives (said d w (lines.limit (codes "new"))) c.args.to.0 v f) (sym c.object_or_null.ensures) in
+      rw refused c.write_null_and_say_limit.ensures.step;
+  quiet = search rules;
+  counted = search rules;
+  room = search rules;
+}
 
 pub create_at-requires : goal.create_at-requires
 create_at-requires c =
@@ -74,15 +79,20 @@ create_at-requires c =
       room = c.requires.room;
     }
 
-pub returns-clause-step : goal.returns-clause-step
-returns-clause-step c =
-    let d = c.args.definition.now in
-    let e = c.args.engine.now in
-    let w = world_of e.world in
-    let f = first_frame c.args.engine.now in
-    let q = prototype_of c.in-Some.prototype in
-    let there = is_there c.new_peer-peer.result in
-    let room : (has_room d w (to_make (rest_of d e)) && there) ≡ true = ap (λ n. has_room d w n && there) (sym (makes_behind d e c.requires.first)) ∙ sym c.if-not-may_create.ensures in
-    let made = creates d w (rest_of d e) f c.args.to.0 c.args.id.now q true there (taken c.new_peer-peer.result) (sym c.in-Some.ensures.named) room c.new_peer-peer.ensures.there c.new_peer-peer.ensures.taken
-    ∙ ap (λ (p : Option ℕ). created d w f c.args.to.0 q.number p) (sym c.number.ensures) in
-    rw made c.create_at.ensures.step
+pub returns : goal.returns
+returns c = record {
+  step =
+      let d = c.args.definition.now in
+      let e = c.args.engine.now in
+      let w = world_of e.world in
+      let f = first_frame c.args.engine.now in
+      let q = prototype_of c.in-Some.prototype in
+      let there = is_there c.new_peer-peer.result in
+      let room : (has_room d w (to_make (rest_of d e)) && there) ≡ true = ap (λ n. has_room d w n && there) (sym (makes_behind d e c.requires.first)) ∙ sym c.if-not-may_create.ensures in
+      let made = creates d w (rest_of d e) f c.args.to.0 c.args.id.now q true there (taken c.new_peer-peer.result) (sym c.in-Some.ensures.named) room c.new_peer-peer.ensures.there c.new_peer-peer.ensures.taken
+      ∙ ap (λ (p : Option ℕ). created d w f c.args.to.0 q.number p) (sym c.number.ensures) in
+      rw made c.create_at.ensures.step;
+  quiet = search rules;
+  counted = search rules;
+  room = search rules;
+}

@@ -1,5 +1,5 @@
 use Rattle.engine_world.specs.declared.stacks.Stack.{Stack}
-use Rattle.std.proofs.Common.{◌≡◌, ◌<◌, ℕ, IfSome, IsSome, List, Option, length, false, ap, subst, sym, ◌∙◌}
+use Rattle.std.proofs.Common.{◌≡◌, ◌<◌, ℕ, IfSome, IsSome, List, Option, length, false, ap, subst, sym, ◌∙◌, rules}
 use Rattle.std.proofs.lemmas.Result.{err_from_is_err_and}
 use Rattle.ui_machine.specs.Definition.Values as values
 use Rattle.ui_machine.specs.Definition.Values.{Value}
@@ -57,7 +57,7 @@ begin_construction-requires c =
     let new = c.in_ok-new.new in
     let world = create_world d e m (first_frame c.args.engine.now) c.args.to.0 c.args.place.0 c.args.peer (begun new (world_of m.world)) (Constructing new.object.0 new.steps false)
     (value_view c.object_value.result) (c.in_ok-new.ensures.made false) (rest_kept e m c.make.ensures.same.0 d c.make.ensures.handlers) c.make.ensures.same.1
-    (c.object_value.ensures ∙ ap (λ n. values.object (Some n)) c.in_ok-new.ensures.identity) c.write_register.new.engine (written_by e m c.make.ensures.same.0 d (world_of m.world) c.args.to.0 (Some (value_view c.object_value.result)) ∙ c.write_register.ensures.step) in
+    (c.object_value.ensures ∙ ap (λ n. values.object (Some n)) c.in_ok-new.ensures.identity) c.write_register.new.engine (written_by e m c.make.ensures.same.0 d (world_of m.world) c.args.to.0 (Some (value_view c.object_value.result)) ∙ c.write_register.ensures.executes.step) in
     let seats : (world_of c.write_register.new.engine.world).peers ≡ (world_of e.world).peers = ap (λ (w : World). w.peers) world ∙ c.make.ensures.seats in
     record {
       peer =
@@ -66,40 +66,47 @@ begin_construction-requires c =
       room =
           room_still 1 m c.write_register.new.engine c.write_register.ensures.room
           (subst (λ (s : Stack). HasPlaces 1 s.tasks) (sym c.make.ensures.same.0) c.requires.room);
-      may = lives_held d c.write_register.new.engine new.object.0 c.write_register.ensures.counted (subst (λ (w : World). IsSome (living w.objects new.object.0)) (sym world) c.in_ok-new.ensures.live);
+      may = lives_held d c.write_register.new.engine new.object.0 c.write_register.ensures.executes.counted (subst (λ (w : World). IsSome (living w.objects new.object.0)) (sym world) c.in_ok-new.ensures.live);
     }
 
-pub returns-clause-step : goal.returns-clause-step
-returns-clause-step c =
-    let d = c.args.definition.now in
-    let e = c.args.engine.now in
-    let m = c.make.new.engine in
-    let mid = c.write_register.new.engine in
-    let new = c.in_ok-new.new in
-    let f = first_frame c.args.engine.now in
-    let v = value_view c.object_value.result in
-    let u = begun new (world_of m.world) in
-    let t = Constructing new.object.0 new.steps false in
-    let agenda = rest_kept e m c.make.ensures.same.0 d c.make.ensures.handlers in
-    let names = c.object_value.ensures ∙ ap (λ n. values.object (Some n)) c.in_ok-new.ensures.identity in
-    let world = create_world d e m f c.args.to.0 c.args.place.0 c.args.peer u t v (c.in_ok-new.ensures.made false) agenda c.make.ensures.same.1 names mid (written_by e m c.make.ensures.same.0 d (world_of m.world) c.args.to.0 (Some (value_view c.object_value.result)) ∙ c.write_register.ensures.step) in
-    create_written d e m f c.args.to.0 c.args.place.0 c.args.peer u t v (c.in_ok-new.ensures.made false) agenda c.make.ensures.same.1 names mid (written_by e m c.make.ensures.same.0 d (world_of m.world) c.args.to.0 (Some (value_view c.object_value.result)) ∙ c.write_register.ensures.step)
-    c.begin_construction.new.engine (c.in_ok-begin_construction.ensures.world ∙ ap (λ (w : World). begun new w) world) (c.in_ok-begin_construction.ensures.agenda d) c.begin_construction.ensures.same
+pub returns : goal.returns
+returns c = record {
+  step =
+      let d = c.args.definition.now in
+      let e = c.args.engine.now in
+      let m = c.make.new.engine in
+      let mid = c.write_register.new.engine in
+      let new = c.in_ok-new.new in
+      let f = first_frame c.args.engine.now in
+      let v = value_view c.object_value.result in
+      let u = begun new (world_of m.world) in
+      let t = Constructing new.object.0 new.steps false in
+      let agenda = rest_kept e m c.make.ensures.same.0 d c.make.ensures.handlers in
+      let names = c.object_value.ensures ∙ ap (λ n. values.object (Some n)) c.in_ok-new.ensures.identity in
+      let world = create_world d e m f c.args.to.0 c.args.place.0 c.args.peer u t v (c.in_ok-new.ensures.made false) agenda c.make.ensures.same.1 names mid (written_by e m c.make.ensures.same.0 d (world_of m.world) c.args.to.0 (Some (value_view c.object_value.result)) ∙ c.write_register.ensures.executes.step) in
+      create_written d e m f c.args.to.0 c.args.place.0 c.args.peer u t v (c.in_ok-new.ensures.made false) agenda c.make.ensures.same.1 names mid (written_by e m c.make.ensures.same.0 d (world_of m.world) c.args.to.0 (Some (value_view c.object_value.result)) ∙ c.write_register.ensures.executes.step)
+      c.begin_construction.new.engine (c.in_ok-begin_construction.ensures.world ∙ ap (λ (w : World). begun new w) world) (c.in_ok-begin_construction.ensures.agenda d) c.begin_construction.ensures.same;
+  quiet = search rules;
+  counted = (c.in_ok-begin_construction.ensures.counted c.args.definition.now).at nothing c.write_register.ensures.executes.counted;
+  room = search rules;
+}
 
-pub returns-in_err-begin_construction-clause-quiet : goal.returns-in_err-begin_construction-clause-quiet
-returns-in_err-begin_construction-clause-quiet c =
-    let d = c.args.definition.now in
-    let e = c.args.engine.now in
-    let m = c.make.new.engine in
-    let new = c.in_ok-new.new in
-    let world = create_world d e m (first_frame c.args.engine.now) c.args.to.0 c.args.place.0 c.args.peer (begun new (world_of m.world)) (Constructing new.object.0 new.steps false)
-    (value_view c.object_value.result) (c.in_ok-new.ensures.made false) (rest_kept e m c.make.ensures.same.0 d c.make.ensures.handlers) c.make.ensures.same.1
-    (c.object_value.ensures ∙ ap (λ n. values.object (Some n)) c.in_ok-new.ensures.identity) c.write_register.new.engine (written_by e m c.make.ensures.same.0 d (world_of m.world) c.args.to.0 (Some (value_view c.object_value.result)) ∙ c.write_register.ensures.step) in
-    let p = err_from_is_err_and c.from_residual-in_err-begin_construction.result c.from_residual-in_err-begin_construction.ensures.1 in
-    rw p.1
-    (quiet_on (world_of e.world) (world_of m.world) (world_of c.begin_construction.new.engine.world) c.make.ensures.quiet
-    (quiet_on (world_of m.world) (world_of c.write_register.new.engine.world) (world_of c.begin_construction.new.engine.world)
-    (quiet_same (world_of m.world) (world_of c.write_register.new.engine.world) world) c.in_err-begin_construction.ensures.quiet))
-
-pub returns-clause-counted : goal.returns-clause-counted
-returns-clause-counted c = (c.in_ok-begin_construction.ensures.counted c.args.definition.now).at nothing c.write_register.ensures.counted
+pub returns-in_err-begin_construction : goal.returns-in_err-begin_construction
+returns-in_err-begin_construction c = record {
+  step = search rules;
+  quiet =
+      let d = c.args.definition.now in
+      let e = c.args.engine.now in
+      let m = c.make.new.engine in
+      let new = c.in_ok-new.new in
+      let world = create_world d e m (first_frame c.args.engine.now) c.args.to.0 c.args.place.0 c.args.peer (begun new (world_of m.world)) (Constructing new.object.0 new.steps false)
+      (value_view c.object_value.result) (c.in_ok-new.ensures.made false) (rest_kept e m c.make.ensures.same.0 d c.make.ensures.handlers) c.make.ensures.same.1
+      (c.object_value.ensures ∙ ap (λ n. values.object (Some n)) c.in_ok-new.ensures.identity) c.write_register.new.engine (written_by e m c.make.ensures.same.0 d (world_of m.world) c.args.to.0 (Some (value_view c.object_value.result)) ∙ c.write_register.ensures.executes.step) in
+      let p = err_from_is_err_and c.from_residual-in_err-begin_construction.result c.from_residual-in_err-begin_construction.ensures.1 in
+      rw p.1
+      (quiet_on (world_of e.world) (world_of m.world) (world_of c.begin_construction.new.engine.world) c.make.ensures.quiet
+      (quiet_on (world_of m.world) (world_of c.write_register.new.engine.world) (world_of c.begin_construction.new.engine.world)
+      (quiet_same (world_of m.world) (world_of c.write_register.new.engine.world) world) c.in_err-begin_construction.ensures.quiet));
+  counted = search rules;
+  room = search rules;
+}

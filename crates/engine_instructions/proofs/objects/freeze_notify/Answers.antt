@@ -1,4 +1,4 @@
-use Rattle.std.proofs.Common.{[], ap, sym, ◌∙◌, refl}
+use Rattle.std.proofs.Common.{[], ap, sym, ◌∙◌, refl, rules}
 use Rattle.ui_machine.specs.Instructions.Objects.{freezing}
 use Rattle.ui_machine.specs.Instructions.Registers.{goes_on}
 use Rattle.ui_machine.specs.Rules.NotifyQueue.{frozen_more}
@@ -38,22 +38,24 @@ freeze-requires c = record {
       (freeze_stuck w f c.args.object.0 c.object_in-object.result.0 c.object_in-object.ensures arm is)));
 }
 
-pub returns-clause-step : goal.returns-clause-step
-returns-clause-step c =
-    let d = c.args.definition.now in
-    let e = c.args.engine.now in
-    let w = world_of e.world in
-    let f = first_frame c.args.engine.now in
-    let t = c.freeze.new.self in
-    goes_on_left d (with_table e t) (with_table e t) f (freezing w f c.args.object.0)
-    (freezes w f c.args.object.0 c.object_in-object.result.0 c.object_in-object.ensures t.objects c.freeze.ensures.changes
-    ∙ ap (λ (v : World). goes_on v [] f) (sym (objects_world e t c.freeze.ensures.beside)))
-    refl (begins d (with_table e t) c.requires.first)
-
-pub returns-clause-counted : goal.returns-clause-counted
-returns-clause-counted c =
-    let d = c.args.definition.now in
-    let e = c.args.engine.now in
-    let f = first_frame c.args.engine.now in
-    let t = c.freeze.new.self in
-    ((keeps_change d e t c.object_in-object.result.0 frozen_more tt (freeze_alike d) c.freeze.ensures.changes c.freeze.ensures.beside).at nothing c.requires.counted)
+pub returns : goal.returns
+returns c = record {
+  step =
+      let d = c.args.definition.now in
+      let e = c.args.engine.now in
+      let w = world_of e.world in
+      let f = first_frame c.args.engine.now in
+      let t = c.freeze.new.self in
+      goes_on_left d (with_table e t) (with_table e t) f (freezing w f c.args.object.0)
+      (freezes w f c.args.object.0 c.object_in-object.result.0 c.object_in-object.ensures t.objects c.freeze.ensures.changes
+      ∙ ap (λ (v : World). goes_on v [] f) (sym (objects_world e t c.freeze.ensures.beside)))
+      refl (begins d (with_table e t) c.requires.first);
+  quiet = search rules;
+  counted =
+      let d = c.args.definition.now in
+      let e = c.args.engine.now in
+      let f = first_frame c.args.engine.now in
+      let t = c.freeze.new.self in
+      ((keeps_change d e t c.object_in-object.result.0 frozen_more tt (freeze_alike d) c.freeze.ensures.changes c.freeze.ensures.beside).at nothing c.requires.counted);
+  room = search rules;
+}

@@ -1,4 +1,4 @@
-use Rattle.std.proofs.Common.{◌≡◌, Some, ap, option_map, sym, ◌∙◌}
+use Rattle.std.proofs.Common.{◌≡◌, Some, ap, option_map, sym, ◌∙◌, rules}
 use Rattle.ui_machine.specs.declared.ids.Place.{Place}
 use Rattle.ui_machine.specs.Definition.Lookups.{place_of}
 use Rattle.ui_machine.specs.Definition.Values as values
@@ -53,14 +53,19 @@ write_register-requires-clause-names c =
     (names_able d w f c.args.to.0 c.args.id.now c.in-Some.place.0 found (instructed e.counted (rest_of d e) _ c.requires.able) ∙ ap (λ (v : Value). gives w c.args.to.0 v f) (sym held)) in
     written_names e.counted (rest_of d e) w c.args.to.0 (Some v) f (able_as there c.requires.able) (names_as there c.requires.names)
 
-pub returns-clause-step : goal.returns-clause-step
-returns-clause-step c =
-    let d = c.args.definition.now in
-    let e = c.args.engine.now in
-    let w = world_of e.world in
-    let f = first_frame c.args.engine.now in
-    let found : place_of d c.args.id.now ≡ Some c.in-Some.place.0 = sym c.requires.link ∙ ap (option_map (λ (p : Place). p.0)) (sym c.place.ensures ∙ c.in-Some.is) in
-    let held = c.object_or_null-object.ensures ∙ ap values.object c.built.ensures in
-    let named = names_able d w f c.args.to.0 c.args.id.now c.in-Some.place.0 found (instructed e.counted (rest_of d e) _ c.requires.able)
-    ∙ ap (λ (v : Value). gives w c.args.to.0 v f) (sym held) in
-    rw named c.write_register.ensures.step
+pub returns : goal.returns
+returns c = record {
+  step =
+      let d = c.args.definition.now in
+      let e = c.args.engine.now in
+      let w = world_of e.world in
+      let f = first_frame c.args.engine.now in
+      let found : place_of d c.args.id.now ≡ Some c.in-Some.place.0 = sym c.requires.link ∙ ap (option_map (λ (p : Place). p.0)) (sym c.place.ensures ∙ c.in-Some.is) in
+      let held = c.object_or_null-object.ensures ∙ ap values.object c.built.ensures in
+      let named = names_able d w f c.args.to.0 c.args.id.now c.in-Some.place.0 found (instructed e.counted (rest_of d e) _ c.requires.able)
+      ∙ ap (λ (v : Value). gives w c.args.to.0 v f) (sym held) in
+      rw named c.write_register.ensures.executes.step;
+  quiet = search rules;
+  counted = search rules;
+  room = search rules;
+}

@@ -1,4 +1,4 @@
-use Rattle.std.proofs.Common.{[], ◌∙◌}
+use Rattle.std.proofs.Common.{[], ◌∙◌, rules}
 use Rattle.ui_machine.specs.Instructions.Objects.{orphaning}
 use Rattle.ui_machine.specs.Rules.Children.{orphaned}
 use Rattle.ui_machine.specs.State.Objects.{living}
@@ -27,21 +27,23 @@ object_in-object-requires c = record {
       (stops_left e.counted (rest_of d e) (orphaning d w f c.args.object.0) (halts.Stuck arm) (orphan_none d w f c.args.object.0 (halts.Stuck arm) none)));
 }
 
-pub returns-clause-step : goal.returns-clause-step
-returns-clause-step c =
-    let d = c.args.definition.now in
-    let e = c.args.engine.now in
-    let w = world_of e.world in
-    let f = first_frame c.args.engine.now in
-    let id = c.object_in-object.result.0 in
-    started_left e.counted (rest_of d e) (orphaning d w f c.args.object.0) (orphaned d w id (parent_in (living w.objects id))) [] f _ _ _
-    (orphans d w f c.args.object.0 id c.object_in-object.ensures)
-    c.in_ok-leave.ensures.ok
-    (same_agenda d e c.leave.new.engine c.leave.ensures.same.0 c.leave.ensures.handlers ∙ begins d e c.requires.first)
-    (c.leave.ensures.same.1)
-
-pub returns-clause-counted : goal.returns-clause-counted
-returns-clause-counted c =
-    let d = c.args.definition.now in
-    c.in_ok-leave.ensures.counted.at nothing
-    c.requires.counted
+pub returns : goal.returns
+returns c = record {
+  step =
+      let d = c.args.definition.now in
+      let e = c.args.engine.now in
+      let w = world_of e.world in
+      let f = first_frame c.args.engine.now in
+      let id = c.object_in-object.result.0 in
+      started_left e.counted (rest_of d e) (orphaning d w f c.args.object.0) (orphaned d w id (parent_in (living w.objects id))) [] f _ _ _
+      (orphans d w f c.args.object.0 id c.object_in-object.ensures)
+      c.in_ok-leave.ensures.ok
+      (same_agenda d e c.leave.new.engine c.leave.ensures.same.0 c.leave.ensures.handlers ∙ begins d e c.requires.first)
+      (c.leave.ensures.same.1);
+  quiet = search rules;
+  counted =
+      let d = c.args.definition.now in
+      c.in_ok-leave.ensures.counted.at nothing
+      c.requires.counted;
+  room = search rules;
+}

@@ -1,4 +1,4 @@
-use Rattle.std.proofs.Common.{◌≡◌, ℕ, [], None, Option, cond, false, ap, sym, ◌∙◌, refl}
+use Rattle.std.proofs.Common.{◌≡◌, ℕ, [], None, Option, cond, false, ap, sym, ◌∙◌, refl, rules}
 use Rattle.ui_machine.specs.Instructions.Registers.{operand_in}
 use Rattle.engine_world.specs.ClosingView.{closed_with, or_number}
 use Rattle.engine_instructions.specs.ClosedPeers.{closed_in}
@@ -7,11 +7,11 @@ use Rattle.std.specs.declared.alloc.AllocError.{AllocError}
 use Rattle.ui_machine.specs.Instructions.Objects.{disposing}
 use Rattle.ui_machine.specs.Rules.Sets.{is_disposed}
 use Rattle.ui_machine.specs.State.Objects.{living}
-use Rattle.engine_world.specs.Counting.{Counts, KeepsCounts, nothing}
+use Rattle.engine_world.specs.Counting.{KeepsCounts, nothing}
 use Rattle.engine_world.specs.View.{world_of}
 use Rattle.engine_instructions.proofs.Disposing.{disposes_able, disposes_behind}
 use Rattle.engine_instructions.proofs.ObjectSteps.{dispose_none, disposes_nothing, operand_lives}
-use Rattle.engine_world.proofs.Registers.{stops_left}
+use Rattle.engine_world.proofs.Registers.{on_ok, stops_left}
 use Rattle.engine_instructions.proofs.Starting.{started_left}
 use Rattle.engine_instructions.proofs.Whole.{whole_so}
 use Rattle.ui_machine.specs.declared.arm.Halt.TheVariants as halts
@@ -32,23 +32,25 @@ object_in-object-requires c = record {
       (stops_left e.counted (rest_of d e) (disposing d w f c.args.object.0) (halts.Stuck arm) (dispose_none d w f c.args.object.0 (halts.Stuck arm) none)));
 }
 
-pub returns-then-is_disposed-clause-step : goal.returns-then-is_disposed-clause-step
-returns-then-is_disposed-clause-step c =
-    let d = c.args.definition.now in
-    let e = c.args.engine.now in
-    let w = world_of e.world in
-    let f = first_frame c.args.engine.now in
-    let id = c.object_in-object.result.0 in
-    let so = sym c.is_disposed.ensures ∙ c.if-is_disposed.true in
-    whole_so d e _
-    (started_left e.counted (rest_of d e) (disposing d w f c.args.object.0) w [] f _ _ _
-    (disposes_nothing d w f c.args.object.0 id c.object_in-object.ensures so)
-    refl (begins d e c.requires.first) refl)
-
-pub returns-then-is_disposed-clause-counted : goal.returns-then-is_disposed-clause-counted
-returns-then-is_disposed-clause-counted c =
-    let d = c.args.definition.now in
-    c.requires.counted
+pub returns-then-is_disposed-clause-executes : goal.returns-then-is_disposed-clause-executes
+returns-then-is_disposed-clause-executes c = record {
+  step =
+      let d = c.args.definition.now in
+      let e = c.args.engine.now in
+      let w = world_of e.world in
+      let f = first_frame c.args.engine.now in
+      let id = c.object_in-object.result.0 in
+      let so = sym c.is_disposed.ensures ∙ c.if-is_disposed.true in
+      whole_so d e _
+      (started_left e.counted (rest_of d e) (disposing d w f c.args.object.0) w [] f _ _ _
+      (disposes_nothing d w f c.args.object.0 id c.object_in-object.ensures so)
+      refl (begins d e c.requires.first) refl);
+  quiet = search rules;
+  counted =
+      let d = c.args.definition.now in
+      c.requires.counted;
+  room = search rules;
+}
 
 pub dispose-requires : goal.dispose-requires
 dispose-requires c =
@@ -63,24 +65,23 @@ dispose-requires c =
       knows = c.requires.counted.knows;
     }
 
-pub returns-clause-step : goal.returns-clause-step
-returns-clause-step c =
-    let d = c.args.definition.now in
-    let e = c.args.engine.now in
-    let f = first_frame c.args.engine.now in
-    let id = c.object_in-object.result.0 in
-    let first : is_disposed (living e.world.table.objects id) ≡ false =
-    sym c.is_disposed.ensures ∙ c.if-is_disposed.false in
-    disposes_behind d e e c.dispose.new.engine f c.args.object.0 id c.object_in-object.ensures first refl (begins d e c.requires.first)
-    c.dispose.result c.dispose.ensures.step c.dispose.ensures.agenda c.dispose.ensures.same
-
-pub returns-clause-counted : goal.returns-clause-counted
-returns-clause-counted c = on c.dispose.result c.dispose.ensures.counted
-  where
-    on : (result : Result (Unit {0}) AllocError) → OnOk result (KeepsCounts c.args.definition.now c.args.engine.now c.dispose.new.engine)
-        → OnOk result (Counts c.args.definition.now nothing c.dispose.new.engine)
-    on (Ok x) k = k.at nothing c.requires.counted
-    on (Err halt) k = tt
+pub returns-clause-executes : goal.returns-clause-executes
+returns-clause-executes c = record {
+  step =
+      let d = c.args.definition.now in
+      let e = c.args.engine.now in
+      let f = first_frame c.args.engine.now in
+      let id = c.object_in-object.result.0 in
+      let first : is_disposed (living e.world.table.objects id) ≡ false =
+      sym c.is_disposed.ensures ∙ c.if-is_disposed.false in
+      disposes_behind d e e c.dispose.new.engine f c.args.object.0 id c.object_in-object.ensures first refl (begins d e c.requires.first)
+      c.dispose.result c.dispose.ensures.step c.dispose.ensures.agenda c.dispose.ensures.same;
+  quiet = search rules;
+  counted =
+      on_ok c.dispose.result
+      (λ (k : KeepsCounts c.args.definition.now c.args.engine.now c.dispose.new.engine). k.at nothing c.requires.counted) c.dispose.ensures.counted;
+  room = search rules;
+}
 
 pub returns-then-is_disposed-clause-closing : goal.returns-then-is_disposed-clause-closing
 returns-then-is_disposed-clause-closing c =

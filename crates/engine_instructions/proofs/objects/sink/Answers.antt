@@ -1,4 +1,4 @@
-use Rattle.std.proofs.Common.{[], ap, sym, ◌∙◌, refl}
+use Rattle.std.proofs.Common.{[], ap, sym, ◌∙◌, refl, rules}
 use Rattle.ui_machine.specs.Instructions.Objects.{sinking}
 use Rattle.ui_machine.specs.Instructions.Registers.{goes_on}
 use Rattle.ui_machine.specs.State.Config.{World}
@@ -26,22 +26,24 @@ object_in-object-requires c = record {
       (stops_left e.counted (rest_of c.args.definition.now e) (sinking w f c.args.object.0) (halts.Stuck arm) (sink_none w f c.args.object.0 (halts.Stuck arm) none)));
 }
 
-pub returns-clause-step : goal.returns-clause-step
-returns-clause-step c =
-    let d = c.args.definition.now in
-    let e = c.args.engine.now in
-    let w = world_of e.world in
-    let f = first_frame c.args.engine.now in
-    let t = c.sink.new.self in
-    let id = c.object_in-object.result.0 in
-    goes_on_left d (with_table e t) (with_table e t) f (sinking w f c.args.object.0)
-    (sinks w f c.args.object.0 id c.object_in-object.ensures ∙ ap (λ (v : World). goes_on v [] f) (sym (sunk_world e t id c.sink.ensures)))
-    refl (begins d (with_table e t) c.requires.first)
-
-pub returns-clause-counted : goal.returns-clause-counted
-returns-clause-counted c =
-    let d = c.args.definition.now in
-    let e = c.args.engine.now in
-    let f = first_frame c.args.engine.now in
-    let t = c.sink.new.self in
-    ((sunk_keeps d e t c.object_in-object.result.0 c.sink.ensures).at nothing c.requires.counted)
+pub returns : goal.returns
+returns c = record {
+  step =
+      let d = c.args.definition.now in
+      let e = c.args.engine.now in
+      let w = world_of e.world in
+      let f = first_frame c.args.engine.now in
+      let t = c.sink.new.self in
+      let id = c.object_in-object.result.0 in
+      goes_on_left d (with_table e t) (with_table e t) f (sinking w f c.args.object.0)
+      (sinks w f c.args.object.0 id c.object_in-object.ensures ∙ ap (λ (v : World). goes_on v [] f) (sym (sunk_world e t id c.sink.ensures)))
+      refl (begins d (with_table e t) c.requires.first);
+  quiet = search rules;
+  counted =
+      let d = c.args.definition.now in
+      let e = c.args.engine.now in
+      let f = first_frame c.args.engine.now in
+      let t = c.sink.new.self in
+      ((sunk_keeps d e t c.object_in-object.result.0 c.sink.ensures).at nothing c.requires.counted);
+  room = search rules;
+}

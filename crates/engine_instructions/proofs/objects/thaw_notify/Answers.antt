@@ -1,4 +1,4 @@
-use Rattle.std.proofs.Common.{List, ℕ, [], ◌∷◌, refl, ap, reverse, ◌∙◌}
+use Rattle.std.proofs.Common.{List, ℕ, [], ◌∷◌, refl, ap, reverse, ◌∙◌, rules}
 use Rattle.ui_machine.specs.Instructions.Objects.{thaw_notify}
 use Rattle.ui_machine.specs.Rules.NotifyQueue.{frozen_less}
 use Rattle.ui_machine.specs.State.Config.{with_objects}
@@ -56,27 +56,29 @@ push_task-requires-clause-may c =
     ((keeps_change d e t id frozen_less _ (frozen_alike d) changes c.thaw-slots.ensures.beside).at nothing c.requires.counted)
     ((lives_on e.world.table.objects id frozen_less _ changes)))
 
-pub returns-clause-step : goal.returns-clause-step
-returns-clause-step c =
-    let d = c.args.definition.now in
-    let e = c.args.engine.now in
-    let w = world_of e.world in
-    let f = first_frame c.args.engine.now in
-    let t = c.thaw-slots.new.self in
-    let m = with_table e t in
-    let id = c.object_in-object.result.0 in
-    let slots = reverse c.thaw-slots.result.items in
-    started_left e.counted (rest_of d e) (thaw_notify w f c.args.object.0) (with_objects w t.objects) (Thawing id slots ∷ []) f _ _ _
-    (thaws w f c.args.object.0 id c.object_in-object.ensures t.objects slots c.thaw-slots.ensures.changes)
-    (c.push_task.ensures.world ∙ objects_world e t c.thaw-slots.ensures.beside)
-    (c.push_task.ensures.agenda d ∙ ap (λ ts. Thawing id c.new.result ∷ ts) (begins d (with_table e t) c.requires.first) ∙ ap (λ (l : List ℕ). Thawing id l ∷ Running f ∷ rest_of d e) c.new.ensures)
-    c.push_task.ensures.same
-
-pub returns-clause-counted : goal.returns-clause-counted
-returns-clause-counted c =
-    let d = c.args.definition.now in
-    let e = c.args.engine.now in
-    let f = first_frame c.args.engine.now in
-    let t = c.thaw-slots.new.self in
-    (c.push_task.ensures.counted d).at nothing
-    (((keeps_change d e t c.object_in-object.result.0 frozen_less _ (frozen_alike d) c.thaw-slots.ensures.changes c.thaw-slots.ensures.beside).at nothing c.requires.counted))
+pub returns : goal.returns
+returns c = record {
+  step =
+      let d = c.args.definition.now in
+      let e = c.args.engine.now in
+      let w = world_of e.world in
+      let f = first_frame c.args.engine.now in
+      let t = c.thaw-slots.new.self in
+      let m = with_table e t in
+      let id = c.object_in-object.result.0 in
+      let slots = reverse c.thaw-slots.result.items in
+      started_left e.counted (rest_of d e) (thaw_notify w f c.args.object.0) (with_objects w t.objects) (Thawing id slots ∷ []) f _ _ _
+      (thaws w f c.args.object.0 id c.object_in-object.ensures t.objects slots c.thaw-slots.ensures.changes)
+      (c.push_task.ensures.world ∙ objects_world e t c.thaw-slots.ensures.beside)
+      (c.push_task.ensures.agenda d ∙ ap (λ ts. Thawing id c.new.result ∷ ts) (begins d (with_table e t) c.requires.first) ∙ ap (λ (l : List ℕ). Thawing id l ∷ Running f ∷ rest_of d e) c.new.ensures)
+      c.push_task.ensures.same;
+  quiet = search rules;
+  counted =
+      let d = c.args.definition.now in
+      let e = c.args.engine.now in
+      let f = first_frame c.args.engine.now in
+      let t = c.thaw-slots.new.self in
+      (c.push_task.ensures.counted d).at nothing
+      (((keeps_change d e t c.object_in-object.result.0 frozen_less _ (frozen_alike d) c.thaw-slots.ensures.changes c.thaw-slots.ensures.beside).at nothing c.requires.counted));
+  room = search rules;
+}

@@ -1,4 +1,4 @@
-use Rattle.std.proofs.Common.{Some, ap}
+use Rattle.std.proofs.Common.{Some, ap, rules}
 use Rattle.ui_machine.specs.Instructions.{in_front}
 use Rattle.ui_machine.specs.State.Config.{Started}
 use Rattle.ui_machine.specs.Outcome.{Answer}
@@ -48,9 +48,14 @@ write_register-requires-clause-names c =
     (gets d w f c.args.to.0 c.args.object.0 c.args.property.now c.object_in-object.result.0 c.object_in-object.ensures v c.in_ok-value.ensures) in
     written_names e.counted (rest_of d e) w c.args.to.0 (Some v) f (able_as there c.requires.able) (names_as there c.requires.names)
 
-pub returns-clause-step : goal.returns-clause-step
-returns-clause-step c =
-    let d = c.args.definition.now in
-    let w = world_of c.args.engine.now.world in
-    let f = first_frame c.args.engine.now in
-    rw (gets d w f c.args.to.0 c.args.object.0 c.args.property.now c.object_in-object.result.0 c.object_in-object.ensures (value_view c.in_ok-value.value) c.in_ok-value.ensures) c.write_register.ensures.step
+pub returns : goal.returns
+returns c = record {
+  step =
+      let d = c.args.definition.now in
+      let w = world_of c.args.engine.now.world in
+      let f = first_frame c.args.engine.now in
+      rw (gets d w f c.args.to.0 c.args.object.0 c.args.property.now c.object_in-object.result.0 c.object_in-object.ensures (value_view c.in_ok-value.value) c.in_ok-value.ensures) c.write_register.ensures.executes.step;
+  quiet = search rules;
+  counted = search rules;
+  room = search rules;
+}

@@ -1,12 +1,10 @@
 use Rattle.std.proofs.Common.{◌≡◌, true, false, [], rules, refl}
-use Rattle.std.specs.Prelude.{OnOk, Result, Ok, Err}
 use Rattle.param_specs.specs.View.{spec_view}
-use Rattle.std.specs.declared.alloc.AllocError.{AllocError}
 use Rattle.ui_machine.specs.Definition.Properties.{is_readable}
 use Rattle.ui_machine.specs.Instructions.Properties.{notify_from_program}
 use Rattle.ui_machine.specs.Rules.Sets.{raising}
 use Rattle.ui_machine.specs.State.Config.{World}
-use Rattle.engine_world.specs.Counting.{Counts, KeepsCounts, nothing}
+use Rattle.engine_world.specs.Counting.{KeepsCounts, nothing}
 use Rattle.engine_world.specs.View.{world_of}
 use Rattle.engine_instructions.proofs.Holding.{all_counted}
 use Rattle.engine_instructions.proofs.Jumping.{stuck_left}
@@ -14,6 +12,7 @@ use Rattle.engine_instructions.proofs.PropertySteps.{tell_no_spec, tell_operand,
 use Rattle.engine_instructions.proofs.Pushed.{leads_before, raising_able}
 use Rattle.engine_world.proofs.Ableness.{able_as, instructed, no_arm, none_stops}
 use Rattle.engine_instructions.proofs.Starting.{started_left}
+use Rattle.engine_world.proofs.Registers.{on_ok}
 use Rattle.engine_world.specs.FirstPrograms.{first_frame, rest_of}
 use Rattle.engine_world.proofs.FirstPrograms.{begins}
 use Rattle.engine_instructions.proofs.properties.notify_from_program.Goals as goal
@@ -61,40 +60,41 @@ raise-requires c = record {
   room = c.requires.room;
 }
 
-pub returns-then-not-is_readable-clause-step : goal.returns-then-not-is_readable-clause-step
-returns-then-not-is_readable-clause-step c =
-    let d = c.args.definition.now in
-    let e = c.args.engine.now in
-    let w = world_of e.world in
-    let f = first_frame c.args.engine.now in
-    let s = spec_view c.spec_of-spec.result.now in
-    let unreadable : is_readable s ≡ false = search rules in
-    started_left e.counted (rest_of d e) (notify_from_program d w f c.args.object.0 c.args.property.now) w [] f _ _ _
-    (tells_nothing d w f c.args.object.0 c.args.property.now c.object_in-object.result.0 c.object_in-object.ensures c.slot_at-slot.result c.slot_at-slot.ensures s c.spec_of-spec.ensures.spec unreadable)
-    refl (begins d e c.requires.first) refl
+pub returns-then-not-is_readable : goal.returns-then-not-is_readable
+returns-then-not-is_readable c = record {
+  step =
+      let d = c.args.definition.now in
+      let e = c.args.engine.now in
+      let w = world_of e.world in
+      let f = first_frame c.args.engine.now in
+      let s = spec_view c.spec_of-spec.result.now in
+      let unreadable : is_readable s ≡ false = search rules in
+      started_left e.counted (rest_of d e) (notify_from_program d w f c.args.object.0 c.args.property.now) w [] f _ _ _
+      (tells_nothing d w f c.args.object.0 c.args.property.now c.object_in-object.result.0 c.object_in-object.ensures c.slot_at-slot.result c.slot_at-slot.ensures s c.spec_of-spec.ensures.spec unreadable)
+      refl (begins d e c.requires.first) refl;
+  quiet = search rules;
+  counted =
+      let d = c.args.definition.now in
+      c.requires.counted;
+  room = search rules;
+}
 
-pub returns-then-not-is_readable-clause-counted : goal.returns-then-not-is_readable-clause-counted
-returns-then-not-is_readable-clause-counted c =
-    let d = c.args.definition.now in
-    c.requires.counted
-
-pub returns-clause-step : goal.returns-clause-step
-returns-clause-step c =
-    let d = c.args.definition.now in
-    let e = c.args.engine.now in
-    let w = world_of e.world in
-    let f = first_frame c.args.engine.now in
-    let id = c.object_in-object.result.0 in
-    let slot = c.slot_at-slot.result in
-    let s = spec_view c.spec_of-spec.result.now in
-    let readable : is_readable s ≡ true = search rules in
-    rw (tells d w f c.args.object.0 c.args.property.now id c.object_in-object.ensures slot c.slot_at-slot.ensures s c.spec_of-spec.ensures.spec readable)
-    (leads_before d e e f refl c.raise.result (λ (v : World). raising v id slot) _ (begins d e c.requires.first) c.raise.ensures.step)
-
-pub returns-clause-counted : goal.returns-clause-counted
-returns-clause-counted c = on c.raise.result c.raise.ensures.counted
-  where
-    on : (result : Result (Unit {0}) AllocError) → OnOk result (KeepsCounts c.args.definition.now c.args.engine.now c.raise.new.engine)
-        → OnOk result (Counts c.args.definition.now nothing c.raise.new.engine)
-    on (Ok x) k = k.at nothing c.requires.counted
-    on (Err halt) k = tt
+pub returns : goal.returns
+returns c = record {
+  step =
+      let d = c.args.definition.now in
+      let e = c.args.engine.now in
+      let w = world_of e.world in
+      let f = first_frame c.args.engine.now in
+      let id = c.object_in-object.result.0 in
+      let slot = c.slot_at-slot.result in
+      let s = spec_view c.spec_of-spec.result.now in
+      let readable : is_readable s ≡ true = search rules in
+      rw (tells d w f c.args.object.0 c.args.property.now id c.object_in-object.ensures slot c.slot_at-slot.ensures s c.spec_of-spec.ensures.spec readable)
+      (leads_before d e e f refl c.raise.result (λ (v : World). raising v id slot) _ (begins d e c.requires.first) c.raise.ensures.step);
+  quiet = search rules;
+  counted =
+      on_ok c.raise.result
+      (λ (k : KeepsCounts c.args.definition.now c.args.engine.now c.raise.new.engine). k.at nothing c.requires.counted) c.raise.ensures.counted;
+  room = search rules;
+}

@@ -30,20 +30,28 @@ push_task-requires-clause-may c =
       lives = lives_on e.world.table.objects id (raised c.args.slot) _ changes;
     })
 
-pub returns-then-branch-clause-step : goal.returns-then-branch-clause-step
+pub returns-then-branch : goal.returns-then-branch
 unfolding raising
-returns-then-branch-clause-step c =
-    let pushed = c.push_task.ensures.agenda c.args.definition.now in
-    let changes = c.in_ok-add.ensures.changes in
-    rw (c.push_task.ensures.world, c.push_task.ensures.same, pushed) (search rules)
+returns-then-branch c = record {
+  step =
+      let pushed = c.push_task.ensures.agenda c.args.definition.now in
+      let changes = c.in_ok-add.ensures.changes in
+      rw (c.push_task.ensures.world, c.push_task.ensures.same, pushed) (search rules);
+  quiet = search rules;
+  counted =
+      let d = c.args.definition.now in
+      keeps_on d _ _ _ (keeps_change d c.args.engine.now c.add.new.self c.args.object.0 (raised c.args.slot) _ (raised_alike d c.args.slot) c.in_ok-add.ensures.changes c.add.ensures.beside)
+      (c.push_task.ensures.counted d);
+  room = search rules;
+}
 
-pub returns-then-branch-clause-counted : goal.returns-then-branch-clause-counted
-returns-then-branch-clause-counted c =
-    let d = c.args.definition.now in
-    keeps_on d _ _ _ (keeps_change d c.args.engine.now c.add.new.self c.args.object.0 (raised c.args.slot) _ (raised_alike d c.args.slot) c.in_ok-add.ensures.changes c.add.ensures.beside)
-    (c.push_task.ensures.counted d)
-
-pub returns-else-branch-clause-counted : goal.returns-else-branch-clause-counted
-returns-else-branch-clause-counted c =
-    let d = c.args.definition.now in
-    keeps_change d c.args.engine.now c.add.new.self c.args.object.0 (raised c.args.slot) _ (raised_alike d c.args.slot) c.in_ok-add.ensures.changes c.add.ensures.beside
+pub returns-else-branch : goal.returns-else-branch
+unfolding raising
+returns-else-branch c = record {
+  step = search rules;
+  quiet = search rules;
+  counted =
+      let d = c.args.definition.now in
+      keeps_change d c.args.engine.now c.add.new.self c.args.object.0 (raised c.args.slot) _ (raised_alike d c.args.slot) c.in_ok-add.ensures.changes c.add.ensures.beside;
+  room = search rules;
+}

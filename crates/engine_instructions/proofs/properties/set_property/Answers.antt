@@ -1,4 +1,4 @@
-use Rattle.std.proofs.Common.{[], ◌∷◌, refl, ap, ◌∙◌}
+use Rattle.std.proofs.Common.{[], ◌∷◌, refl, ap, ◌∙◌, rules}
 use Rattle.g_values.specs.View.{value_view}
 use Rattle.ui_machine.specs.Instructions.Properties.{set_property}
 use Rattle.ui_machine.specs.State.Tasks.{Setting}
@@ -57,25 +57,27 @@ push_task-requires-clause-may c =
     (lives_held d e id c.requires.counted
     ((operand_lives (world_of e.world) f c.args.object.0 id c.object_in-object.ensures)))
 
-pub returns-clause-step : goal.returns-clause-step
-returns-clause-step c =
-    let d = c.args.definition.now in
-    let e = c.args.engine.now in
-    let w = world_of e.world in
-    let f = first_frame c.args.engine.now in
-    let id = c.object_in-object.result.0 in
-    let slot = c.slot_at-slot.result in
-    let may = instructed e.counted (rest_of d e) _ c.requires.able in
-    let is = settable_is d w id c.args.property.now slot c.slot_at-slot.ensures (set_slot d w f c.args.object.0 c.args.property.now c.args.from.0 id c.object_in-object.ensures may) in
-    let v = value_view c.in_ok-value.value in
-    started_left e.counted (rest_of d e) (set_property d w f c.args.object.0 c.args.property.now c.args.from.0) w (Setting id slot v ∷ []) f _ _ _
-    (sets d w f c.args.object.0 c.args.property.now c.args.from.0 id c.object_in-object.ensures slot is v c.in_ok-value.ensures)
-    c.push_task.ensures.world
-    (c.push_task.ensures.agenda d ∙ ap (λ ts. Setting id slot v ∷ ts) (begins d e c.requires.first))
-    c.push_task.ensures.same
-
-pub returns-clause-counted : goal.returns-clause-counted
-returns-clause-counted c =
-    let d = c.args.definition.now in
-    (c.push_task.ensures.counted d).at nothing
-    c.requires.counted
+pub returns : goal.returns
+returns c = record {
+  step =
+      let d = c.args.definition.now in
+      let e = c.args.engine.now in
+      let w = world_of e.world in
+      let f = first_frame c.args.engine.now in
+      let id = c.object_in-object.result.0 in
+      let slot = c.slot_at-slot.result in
+      let may = instructed e.counted (rest_of d e) _ c.requires.able in
+      let is = settable_is d w id c.args.property.now slot c.slot_at-slot.ensures (set_slot d w f c.args.object.0 c.args.property.now c.args.from.0 id c.object_in-object.ensures may) in
+      let v = value_view c.in_ok-value.value in
+      started_left e.counted (rest_of d e) (set_property d w f c.args.object.0 c.args.property.now c.args.from.0) w (Setting id slot v ∷ []) f _ _ _
+      (sets d w f c.args.object.0 c.args.property.now c.args.from.0 id c.object_in-object.ensures slot is v c.in_ok-value.ensures)
+      c.push_task.ensures.world
+      (c.push_task.ensures.agenda d ∙ ap (λ ts. Setting id slot v ∷ ts) (begins d e c.requires.first))
+      c.push_task.ensures.same;
+  quiet = search rules;
+  counted =
+      let d = c.args.definition.now in
+      (c.push_task.ensures.counted d).at nothing
+      c.requires.counted;
+  room = search rules;
+}

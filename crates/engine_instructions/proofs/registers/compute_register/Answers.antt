@@ -1,4 +1,4 @@
-use Rattle.std.proofs.Common.{◌≡◌, Some, ap, subst, sym}
+use Rattle.std.proofs.Common.{◌≡◌, Some, ap, subst, sym, rules}
 use Rattle.ui_machine.specs.declared.arm.Halt.TheVariants as halts
 use Rattle.ui_machine.specs.Instructions.{in_front, instruction_step}
 use Rattle.ui_machine.specs.Outcome.{Answer}
@@ -37,13 +37,18 @@ write_register-requires-clause-names c =
     let there = ap (λ (a : Answer Left). left e.counted a) value in
     written_names e.counted rest w to (Some (value_view c.in-Value.value)) f (able_as there c.requires.able) (names_as there c.requires.names)
 
-pub returns-in_ok-write_null_and_say_limit-in-TooLong-clause-step : goal.returns-in_ok-write_null_and_say_limit-in-TooLong-clause-step
-returns-in_ok-write_null_and_say_limit-in-TooLong-clause-step c =
-    let d = c.args.definition.now in
-    let e = c.args.engine.now in
-    let w = world_of e.world in
-    let f = first_frame c.args.engine.now in
-    let rest = rest_of d e in
-    let comes = c.in_ok-computed.ensures.computed d w rest f c.args.to.0 (sym c.types-types.ensures.types) (sym c.first_registers-registers.ensures) in
-    let long = subst (λ (x : Computed). instruction_step d w rest f (instruction_of c.args.computation.now c.args.to.0) ≡ in_front rest (writes d w f c.args.to.0 x)) c.in-TooLong.is comes in
-    rw long c.in_ok-write_null_and_say_limit-in-TooLong.ensures.step
+pub returns-in_ok-write_null_and_say_limit-in-TooLong : goal.returns-in_ok-write_null_and_say_limit-in-TooLong
+returns-in_ok-write_null_and_say_limit-in-TooLong c = record {
+  step =
+      let d = c.args.definition.now in
+      let e = c.args.engine.now in
+      let w = world_of e.world in
+      let f = first_frame c.args.engine.now in
+      let rest = rest_of d e in
+      let comes = c.in_ok-computed.ensures.computed d w rest f c.args.to.0 (sym c.types-types.ensures.types) (sym c.first_registers-registers.ensures) in
+      let long = subst (λ (x : Computed). instruction_step d w rest f (instruction_of c.args.computation.now c.args.to.0) ≡ in_front rest (writes d w f c.args.to.0 x)) c.in-TooLong.is comes in
+      rw long c.in_ok-write_null_and_say_limit-in-TooLong.ensures.step;
+  quiet = search rules;
+  counted = search rules;
+  room = search rules;
+}

@@ -1,4 +1,4 @@
-use Rattle.std.proofs.Common.{◌∙◌, None, Some, ap, arith}
+use Rattle.std.proofs.Common.{◌∙◌, None, Some, ap, arith, rules}
 use Rattle.std.proofs.lemmas.Result.{err_from_is_err_and}
 use Rattle.ui_machine.specs.Instructions.Registers.{written_to}
 use Rattle.ui_machine.specs.Output.Lines as lines
@@ -28,27 +28,34 @@ put-requires c =
       may = written_may d e c.never_full.ensures.room c.requires.counted v c.requires.names;
     }
 
-pub returns-clause-step : goal.returns-clause-step
-returns-clause-step c =
-    let d = c.args.definition.now in
-    let e = c.args.engine.now in
-    let b = c.put.new.engine in
-    let w = said d (world_of e.world) (lines.limit c.args.word.now) in
-    let f = first_frame e in
-    let to = c.args.to.0 in
-    let v = Some (value_view c.args.value) in
-    let new = record f { registers = write None f.registers to v } in
-    going_left e.counted (rest_of d e) (written_to w to v f) w new _ _ _
-    (writes_register w f to v _ (writes_there to v f.registers (register_able e.counted (rest_of d e) w f to v c.requires.able)))
-    (c.in_ok-say_limit.ensures.ok ∙ ap (λ (v : World). said d v (lines.limit c.args.word.now)) (tasks_world e b c.put.ensures.only))
-    (same_agenda d b c.say_limit.new.engine c.say_limit.ensures.same.0 c.say_limit.ensures.handlers ∙ c.put.ensures.agenda)
-    (c.say_limit.ensures.same.1 ∙ ap (λ (x : Engine). x.counted) c.put.ensures.only.beside)
+pub returns : goal.returns
+returns c = record {
+  step =
+      let d = c.args.definition.now in
+      let e = c.args.engine.now in
+      let b = c.put.new.engine in
+      let w = said d (world_of e.world) (lines.limit c.args.word.now) in
+      let f = first_frame e in
+      let to = c.args.to.0 in
+      let v = Some (value_view c.args.value) in
+      let new = record f { registers = write None f.registers to v } in
+      going_left e.counted (rest_of d e) (written_to w to v f) w new _ _ _
+      (writes_register w f to v _ (writes_there to v f.registers (register_able e.counted (rest_of d e) w f to v c.requires.able)))
+      (c.in_ok-say_limit.ensures.ok ∙ ap (λ (v : World). said d v (lines.limit c.args.word.now)) (tasks_world e b c.put.ensures.only))
+      (same_agenda d b c.say_limit.new.engine c.say_limit.ensures.same.0 c.say_limit.ensures.handlers ∙ c.put.ensures.agenda)
+      (c.say_limit.ensures.same.1 ∙ ap (λ (x : Engine). x.counted) c.put.ensures.only.beside);
+  quiet = search rules;
+  counted = c.in_ok-say_limit.ensures.counted.at nothing (c.put.ensures.counted.at nothing c.requires.counted);
+  room = search rules;
+}
 
-pub returns-in_err-say_limit-clause-quiet : goal.returns-in_err-say_limit-clause-quiet
-returns-in_err-say_limit-clause-quiet c =
-    let e = c.args.engine.now in
-    let p = err_from_is_err_and c.from_residual.result c.from_residual.ensures.1 in
-    rw p.1 (quiet_same (world_of e.world) (world_of c.say_limit.new.engine.world) (c.in_err-say_limit.ensures.err ∙ tasks_world e c.put.new.engine c.put.ensures.only))
-
-pub returns-clause-counted : goal.returns-clause-counted
-returns-clause-counted c = c.in_ok-say_limit.ensures.counted.at nothing (c.put.ensures.counted.at nothing c.requires.counted)
+pub returns-in_err-say_limit : goal.returns-in_err-say_limit
+returns-in_err-say_limit c = record {
+  step = search rules;
+  quiet =
+      let e = c.args.engine.now in
+      let p = err_from_is_err_and c.from_residual.result c.from_residual.ensures.1 in
+      rw p.1 (quiet_same (world_of e.world) (world_of c.say_limit.new.engine.world) (c.in_err-say_limit.ensures.err ∙ tasks_world e c.put.new.engine c.put.ensures.only));
+  counted = search rules;
+  room = search rules;
+}

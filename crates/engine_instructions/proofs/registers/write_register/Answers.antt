@@ -1,4 +1,4 @@
-use Rattle.std.proofs.Common.{None, option_map, ap, arith}
+use Rattle.std.proofs.Common.{None, option_map, ap, arith, rules}
 use Rattle.ui_machine.specs.Instructions.Registers.{written_to}
 use Rattle.ui_machine.specs.Seq.{write}
 use Rattle.g_values.specs.View.{value_view}
@@ -23,18 +23,20 @@ put-requires c =
       may = written_may d e c.never_full.ensures.room c.requires.counted v c.requires.names;
     }
 
-pub returns-clause-step : goal.returns-clause-step
-returns-clause-step c =
-    let d = c.args.definition.now in
-    let e = c.args.engine.now in
-    let w = world_of e.world in
-    let f = first_frame e in
-    let to = c.args.to.0 in
-    let v = option_map value_view c.args.value in
-    let new = record f { registers = write None f.registers to v } in
-    going_left e.counted (rest_of d e) (written_to w to v f) w new _ _ _
-    (writes_register w f to v _ (writes_there to v f.registers (register_able e.counted (rest_of d e) w f to v c.requires.able)))
-    (tasks_world e c.put.new.engine c.put.ensures.only) c.put.ensures.agenda (ap (λ (x : Engine). x.counted) c.put.ensures.only.beside)
-
-pub returns-clause-counted : goal.returns-clause-counted
-returns-clause-counted c = c.put.ensures.counted.at nothing c.requires.counted
+pub returns-clause-executes : goal.returns-clause-executes
+returns-clause-executes c = record {
+  step =
+      let d = c.args.definition.now in
+      let e = c.args.engine.now in
+      let w = world_of e.world in
+      let f = first_frame e in
+      let to = c.args.to.0 in
+      let v = option_map value_view c.args.value in
+      let new = record f { registers = write None f.registers to v } in
+      going_left e.counted (rest_of d e) (written_to w to v f) w new _ _ _
+      (writes_register w f to v _ (writes_there to v f.registers (register_able e.counted (rest_of d e) w f to v c.requires.able)))
+      (tasks_world e c.put.new.engine c.put.ensures.only) c.put.ensures.agenda (ap (λ (x : Engine). x.counted) c.put.ensures.only.beside);
+  quiet = search rules;
+  counted = c.put.ensures.counted.at nothing c.requires.counted;
+  room = search rules;
+}

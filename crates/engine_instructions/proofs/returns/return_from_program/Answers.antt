@@ -1,4 +1,4 @@
-use Rattle.std.proofs.Common.{List, option_map, refl, sym, subst, ap, ◌∙◌, IsSome, arith}
+use Rattle.std.proofs.Common.{List, option_map, refl, sym, subst, ap, ◌∙◌, IsSome, arith, rules}
 use Rattle.ui_machine.specs.Rules.Accumulation.{given_down}
 use Rattle.ui_machine.specs.Seq.{total}
 use Rattle.ui_machine.specs.State.Config.{World}
@@ -68,24 +68,26 @@ give_down-requires c =
       begun = counted.connects.begun;
     }
 
-pub returns-clause-step : goal.returns-clause-step
-returns-clause-step c =
-    let d = c.args.definition.now in
-    let e = c.args.engine.now in
-    let m = c.drop_program.new.engine in
-    let b = c.give_down.new.engine in
-    let f = first_frame e in
-    let from = option_map number_of c.args.from in
-    let given = option_map value_view c.in_ok-given.given in
-    let world = tasks_world e m c.drop_program.ensures.only in
-    left_kept e.counted _ (world_of b.world) (agenda_of d b) (world_of b.world) (agenda_of d b) b.counted
-    (returning_gives d (world_of e.world) f from (program_view c.args.program.now) c.requires.program (rest_of d e) _ c.in_ok-given.ensures (in_left e.counted _ c.requires.able)
-    ∙ ap (λ (w : World). given_down d w (rest_of d e) given) (sym world)
-    ∙ ap (λ (ts : List Task). given_down d (world_of m.world) ts given) (sym (c.drop_program.ensures.agenda d))
-    ∙ c.give_down.ensures.step)
-    refl refl (c.give_down.ensures.same ∙ ap (λ (x : Engine). x.counted) c.drop_program.ensures.only.beside)
-
-pub returns-clause-counted : goal.returns-clause-counted
-returns-clause-counted c =
-    let d = c.args.definition.now in
-    c.give_down.ensures.counted.at nothing ((c.drop_program.ensures.counted d).at nothing c.requires.counted)
+pub returns : goal.returns
+returns c = record {
+  step =
+      let d = c.args.definition.now in
+      let e = c.args.engine.now in
+      let m = c.drop_program.new.engine in
+      let b = c.give_down.new.engine in
+      let f = first_frame e in
+      let from = option_map number_of c.args.from in
+      let given = option_map value_view c.in_ok-given.given in
+      let world = tasks_world e m c.drop_program.ensures.only in
+      left_kept e.counted _ (world_of b.world) (agenda_of d b) (world_of b.world) (agenda_of d b) b.counted
+      (returning_gives d (world_of e.world) f from (program_view c.args.program.now) c.requires.program (rest_of d e) _ c.in_ok-given.ensures (in_left e.counted _ c.requires.able)
+      ∙ ap (λ (w : World). given_down d w (rest_of d e) given) (sym world)
+      ∙ ap (λ (ts : List Task). given_down d (world_of m.world) ts given) (sym (c.drop_program.ensures.agenda d))
+      ∙ c.give_down.ensures.step)
+      refl refl (c.give_down.ensures.same ∙ ap (λ (x : Engine). x.counted) c.drop_program.ensures.only.beside);
+  quiet = search rules;
+  counted =
+      let d = c.args.definition.now in
+      c.give_down.ensures.counted.at nothing ((c.drop_program.ensures.counted d).at nothing c.requires.counted);
+  room = search rules;
+}

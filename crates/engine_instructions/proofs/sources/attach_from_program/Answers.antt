@@ -1,4 +1,4 @@
-use Rattle.std.proofs.Common.{◌≡◌, Option, Some, true, false, refl, subst, sym, ◌∙◌, Ok}
+use Rattle.std.proofs.Common.{◌≡◌, Option, Some, true, false, refl, subst, sym, ◌∙◌, Ok, rules}
 use Rattle.ui_machine.specs.Instructions.Sources.{with_source}
 use Rattle.ui_machine.specs.State.References.{in_option}
 use Rattle.ui_machine.specs.State.Sources.{has_room}
@@ -76,32 +76,42 @@ write_null_and_say_limit-requires c =
     ∙ written_by e m c.attach_source.ensures.same.0 d (said d (world_of m.world) (lines.limit a.word)) c.args.to.0 (Some (values.bool false)) in
     record { first = program_kept e m c.attach_source.ensures.same.0 c.requires.first; able = able_as same c.requires.able; names = refl; counted = (c.in_ok-attach_source.ensures.counted d).at _ c.requires.counted }
 
-pub returns-then-branch-clause-step : goal.returns-then-branch-clause-step
-returns-then-branch-clause-step c =
-    let d = c.args.definition.now in
-    let e = c.args.engine.now in
-    let m = c.attach_source.new.engine in
-    let w = world_of e.world in
-    let f = first_frame c.args.engine.now in
-    let a = attach_of c.args.attach in
-    let room : has_room w.sources w.last_source ≡ true = sym c.in_ok-attach_source.ensures.room ∙ c.if-branch.true in
-    let world : world_of m.world ≡ with_source w a c.program_named-program.result (id_of c.data_in-arg.result) = c.in_ok-attach_source.ensures.world ∙ rw c.if-branch.true (c.source-source.ensures.attached w) in
-    let same = attached_left d e m f c.args.to.0 a c.program_named-program.result c.program_named-program.ensures (id_of c.data_in-arg.result) c.data_in-arg.ensures
-    (rest_kept e m c.attach_source.ensures.same.0 d c.attach_source.ensures.handlers) c.attach_source.ensures.same.1 room world
-    ∙ written_by e m c.attach_source.ensures.same.0 d (world_of m.world) c.args.to.0 (Some (values.bool true)) in
-    leads_as {X = Unit {0}} (Ok tt) (config_of d c.write_register.new.engine) same c.write_register.ensures.step
+pub returns-then-branch : goal.returns-then-branch
+returns-then-branch c = record {
+  step =
+      let d = c.args.definition.now in
+      let e = c.args.engine.now in
+      let m = c.attach_source.new.engine in
+      let w = world_of e.world in
+      let f = first_frame c.args.engine.now in
+      let a = attach_of c.args.attach in
+      let room : has_room w.sources w.last_source ≡ true = sym c.in_ok-attach_source.ensures.room ∙ c.if-branch.true in
+      let world : world_of m.world ≡ with_source w a c.program_named-program.result (id_of c.data_in-arg.result) = c.in_ok-attach_source.ensures.world ∙ rw c.if-branch.true (c.source-source.ensures.attached w) in
+      let same = attached_left d e m f c.args.to.0 a c.program_named-program.result c.program_named-program.ensures (id_of c.data_in-arg.result) c.data_in-arg.ensures
+      (rest_kept e m c.attach_source.ensures.same.0 d c.attach_source.ensures.handlers) c.attach_source.ensures.same.1 room world
+      ∙ written_by e m c.attach_source.ensures.same.0 d (world_of m.world) c.args.to.0 (Some (values.bool true)) in
+      leads_as {X = Unit {0}} (Ok tt) (config_of d c.write_register.new.engine) same c.write_register.ensures.executes.step;
+  quiet = search rules;
+  counted = search rules;
+  room = search rules;
+}
 
-pub returns-clause-step : goal.returns-clause-step
-returns-clause-step c =
-    let d = c.args.definition.now in
-    let e = c.args.engine.now in
-    let m = c.attach_source.new.engine in
-    let w = world_of e.world in
-    let f = first_frame c.args.engine.now in
-    let a = attach_of c.args.attach in
-    let full : has_room w.sources w.last_source ≡ false = sym c.in_ok-attach_source.ensures.room ∙ c.if-branch.false in
-    let world : world_of m.world ≡ w = c.in_ok-attach_source.ensures.world ∙ rw c.if-branch.false refl in
-    let same = unattached_left d e m f c.args.to.0 a c.program_named-program.result c.program_named-program.ensures (id_of c.data_in-arg.result) c.data_in-arg.ensures
-    (rest_kept e m c.attach_source.ensures.same.0 d c.attach_source.ensures.handlers) c.attach_source.ensures.same.1 full world
-    ∙ written_by e m c.attach_source.ensures.same.0 d (said d (world_of m.world) (lines.limit a.word)) c.args.to.0 (Some (values.bool false)) in
-    leads_as c.write_null_and_say_limit.result (config_of d c.write_null_and_say_limit.new.engine) same c.write_null_and_say_limit.ensures.step
+pub returns : goal.returns
+returns c = record {
+  step =
+      let d = c.args.definition.now in
+      let e = c.args.engine.now in
+      let m = c.attach_source.new.engine in
+      let w = world_of e.world in
+      let f = first_frame c.args.engine.now in
+      let a = attach_of c.args.attach in
+      let full : has_room w.sources w.last_source ≡ false = sym c.in_ok-attach_source.ensures.room ∙ c.if-branch.false in
+      let world : world_of m.world ≡ w = c.in_ok-attach_source.ensures.world ∙ rw c.if-branch.false refl in
+      let same = unattached_left d e m f c.args.to.0 a c.program_named-program.result c.program_named-program.ensures (id_of c.data_in-arg.result) c.data_in-arg.ensures
+      (rest_kept e m c.attach_source.ensures.same.0 d c.attach_source.ensures.handlers) c.attach_source.ensures.same.1 full world
+      ∙ written_by e m c.attach_source.ensures.same.0 d (said d (world_of m.world) (lines.limit a.word)) c.args.to.0 (Some (values.bool false)) in
+      leads_as c.write_null_and_say_limit.result (config_of d c.write_null_and_say_limit.new.engine) same c.write_null_and_say_limit.ensures.step;
+  quiet = search rules;
+  counted = search rules;
+  room = search rules;
+}

@@ -1,4 +1,4 @@
-use Rattle.std.proofs.Common.{◌≡◌, ◌<◌, ℕ, Option, Some, Result, Ok, Err, List, drop, ap, refl, subst, suc, sym, ◌∙◌, arith}
+use Rattle.std.proofs.Common.{rules, ◌≡◌, ◌<◌, ℕ, Option, Some, Result, Ok, Err, List, drop, ap, refl, subst, suc, sym, ◌∙◌, arith}
 use Rattle.std.specs.Prelude.{OnOk}
 use Rattle.std.specs.declared.alloc.AllocError.{AllocError}
 use Rattle.ui_machine.specs.Definition.Lookups.{program_at}
@@ -131,23 +131,28 @@ execute-requires c =
       counted = holds d e b is p at s c.take_first.ensures.rewritten t taken few c.requires.first refl c.take_first.ensures.begun c.requires.counted;
     }
 
-pub returns-clause-step : goal.returns-clause-step
-returns-clause-step c =
-    let d = c.args.definition.now in
-    let e = c.args.engine.now in
-    let b = c.count.new.engine in
-    let is = c.count.ensures in
-    let s = c.take_first.new.self in
-    let p = program_view c.in-Some.program.now in
-    let t : Taken = record { instruction = instruction_view c.in-Some-take_first.instruction.now; frame = stack_frame s } in
-    let few = (in_counted_left e.counted _ c.requires.able).0 in
-    let at = found d e b is c.first_frame.result.now (Some p) c.first_frame.ensures c.in-Some.ensures.program in
-    let taken = took d e b is p (Some t) c.in-Some-take_first.ensures.taken in
-    subst (λ (a : Answer Config). LeadsWithoutGone c.execute.result a (config_of d c.execute.new.engine)) (sym (whole d e b is p at s c.take_first.ensures.rewritten t taken few)) c.execute.ensures.step
-
 on_ok : (r : Result (Unit {0}) AllocError) (P Q : Type 0) → (P → Q) → OnOk r P → OnOk r Q
 on_ok (Ok x) P Q on h = on h
 on_ok (Err e) P Q on h = h
+
+pub returns-clause-executes : goal.returns-clause-executes
+returns-clause-executes c = record {
+  step =
+      let d = c.args.definition.now in
+      let e = c.args.engine.now in
+      let b = c.count.new.engine in
+      let is = c.count.ensures in
+      let s = c.take_first.new.self in
+      let p = program_view c.in-Some.program.now in
+      let t : Taken = record { instruction = instruction_view c.in-Some-take_first.instruction.now; frame = stack_frame s } in
+      let few = (in_counted_left e.counted _ c.requires.able).0 in
+      let at = found d e b is c.first_frame.result.now (Some p) c.first_frame.ensures c.in-Some.ensures.program in
+      let taken = took d e b is p (Some t) c.in-Some-take_first.ensures.taken in
+      subst (λ (a : Answer Config). LeadsWithoutGone c.execute.result a (config_of d c.execute.new.engine)) (sym (whole d e b is p at s c.take_first.ensures.rewritten t taken few)) c.execute.ensures.executes.step;
+  quiet = search rules;
+  counted = search rules;
+  room = search rules;
+}
 
 pub returns-clause-closing : goal.returns-clause-closing
 returns-clause-closing c =

@@ -1,4 +1,4 @@
-use Rattle.std.proofs.Common.{List, refl, subst, ap}
+use Rattle.std.proofs.Common.{List, refl, subst, ap, rules}
 use Rattle.std.proofs.lemmas.Result.{err_from_is_err_and}
 use Rattle.ui_machine.specs.State.Config.{Config, World}
 use Rattle.ui_machine.specs.State.Tasks.{Task}
@@ -45,35 +45,41 @@ construct_or_take-requires-clause-begins c =
     let e = c.args.engine.now in
     none_found _ c.first_emission.result (first_emission e.stack.tasks.items) c.is_none.result c.first_emission.ensures c.is_none.ensures c.if-is_none.true
 
-pub returns-clause-stepped : goal.returns-clause-stepped
-returns-clause-stepped c =
-    let d = c.args.definition.now in
-    let e = c.args.engine.now in
-    let at = config_of d e in
-    let first = some_found _ c.first_emission.result (first_emission e.stack.tasks.items) c.is_none.result c.first_emission.ensures c.is_none.ensures c.if-is_none.false in
-    first_stepped d at (config_of d c.emit.new.engine) c.requires.none (first_emitting e) (rest_of d e) (begins d e first) c.requires.quiet mades.Uncounted (leads_whole d c.emit.new.engine done _ c.in_ok-emit.ensures.step) refl
+pub returns : goal.returns
+returns c = record {
+  counted = search rules;
+  stepped =
+      let d = c.args.definition.now in
+      let e = c.args.engine.now in
+      let at = config_of d e in
+      let first = some_found _ c.first_emission.result (first_emission e.stack.tasks.items) c.is_none.result c.first_emission.ensures c.is_none.ensures c.if-is_none.false in
+      first_stepped d at (config_of d c.emit.new.engine) c.requires.none (first_emitting e) (rest_of d e) (begins d e first) c.requires.quiet mades.Uncounted (leads_whole d c.emit.new.engine done _ c.in_ok-emit.ensures.step) refl;
+  known =
+      let d = c.args.definition.now in
+      let e = c.args.engine.now in
+      let w = world_of e.world in
+      let new = c.emit.new.engine in
+      let first = some_found _ c.first_emission.result (first_emission e.stack.tasks.items) c.is_none.result c.first_emission.ensures c.is_none.ensures c.if-is_none.false in
+      let none = subst (λ (ts : List Task). NoneUnheld d (record (config_of d e) { agenda = with_first w ts })) (begins d e first) (first_none d (config_of d e) c.requires.none) in
+      let goes = leads_whole d c.emit.new.engine done _ c.in_ok-emit.ensures.step in
+      subst (λ (v : World). LeavesKnown w v new.closing) (ap (λ (x : Config). x.world) goes.2)
+      (task_known d w (rest_of d e) e.counted (first_emitting e) goes.0 e.closing new.closing none goes.1 tt);
+  grows =
+      let d = c.args.definition.now in
+      let e = c.args.engine.now in
+      let at = config_of d e in
+      let first = some_found _ c.first_emission.result (first_emission e.stack.tasks.items) c.is_none.result c.first_emission.ensures c.is_none.ensures c.if-is_none.false in
+      first_grows d at (config_of d c.emit.new.engine) c.requires.none (first_emitting e) (rest_of d e) (begins d e first) c.requires.quiet mades.Uncounted (leads_whole d c.emit.new.engine done _ c.in_ok-emit.ensures.step);
+  room = search rules;
+}
 
-pub returns-clause-grows : goal.returns-clause-grows
-returns-clause-grows c =
-    let d = c.args.definition.now in
-    let e = c.args.engine.now in
-    let at = config_of d e in
-    let first = some_found _ c.first_emission.result (first_emission e.stack.tasks.items) c.is_none.result c.first_emission.ensures c.is_none.ensures c.if-is_none.false in
-    first_grows d at (config_of d c.emit.new.engine) c.requires.none (first_emitting e) (rest_of d e) (begins d e first) c.requires.quiet mades.Uncounted (leads_whole d c.emit.new.engine done _ c.in_ok-emit.ensures.step)
-
-pub returns-clause-known : goal.returns-clause-known
-returns-clause-known c =
-    let d = c.args.definition.now in
-    let e = c.args.engine.now in
-    let w = world_of e.world in
-    let new = c.emit.new.engine in
-    let first = some_found _ c.first_emission.result (first_emission e.stack.tasks.items) c.is_none.result c.first_emission.ensures c.is_none.ensures c.if-is_none.false in
-    let none = subst (λ (ts : List Task). NoneUnheld d (record (config_of d e) { agenda = with_first w ts })) (begins d e first) (first_none d (config_of d e) c.requires.none) in
-    let goes = leads_whole d c.emit.new.engine done _ c.in_ok-emit.ensures.step in
-    subst (λ (v : World). LeavesKnown w v new.closing) (ap (λ (x : Config). x.world) goes.2)
-    (task_known d w (rest_of d e) e.counted (first_emitting e) goes.0 e.closing new.closing none goes.1 tt)
-
-pub returns-in_err-emit-clause-stepped : goal.returns-in_err-emit-clause-stepped
-returns-in_err-emit-clause-stepped c =
-    let p = err_from_is_err_and c.from_residual.result c.from_residual.ensures.1 in
-    rw p.1 c.in_err-emit.ensures.quiet
+pub returns-in_err-emit : goal.returns-in_err-emit
+returns-in_err-emit c = record {
+  counted = search rules;
+  stepped =
+      let p = err_from_is_err_and c.from_residual.result c.from_residual.ensures.1 in
+      rw p.1 c.in_err-emit.ensures.quiet;
+  known = search rules;
+  grows = search rules;
+  room = search rules;
+}

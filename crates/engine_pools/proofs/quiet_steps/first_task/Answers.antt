@@ -1,4 +1,4 @@
-use Rattle.std.proofs.Common.{List, refl, subst, ap}
+use Rattle.std.proofs.Common.{List, refl, subst, ap, rules}
 use Rattle.std.proofs.lemmas.Result.{err_from_is_err_and}
 use Rattle.ui_machine.specs.State.Config.{Config, World}
 use Rattle.ui_machine.specs.State.Tasks.{Running, Task}
@@ -38,35 +38,41 @@ emit_or_take-requires-clause-other c =
     let e = c.args.engine.now in
     none_found _ c.first_program.result (first_program e.stack.tasks.items) c.is_none.result c.first_program.ensures c.is_none.ensures c.if-is_none.true
 
-pub returns-clause-stepped : goal.returns-clause-stepped
-returns-clause-stepped c =
-    let d = c.args.definition.now in
-    let e = c.args.engine.now in
-    let at = config_of d e in
-    let first = some_found _ c.first_program.result (first_program e.stack.tasks.items) c.is_none.result c.first_program.ensures c.is_none.ensures c.if-is_none.false in
-    first_stepped d at (config_of d c.run_program.new.engine) c.requires.none (Running (first_frame e)) (rest_of d e) (begins d e first) c.requires.quiet mades.Counted c.in_ok-run_program.ensures.step refl
+pub returns : goal.returns
+returns c = record {
+  counted = search rules;
+  stepped =
+      let d = c.args.definition.now in
+      let e = c.args.engine.now in
+      let at = config_of d e in
+      let first = some_found _ c.first_program.result (first_program e.stack.tasks.items) c.is_none.result c.first_program.ensures c.is_none.ensures c.if-is_none.false in
+      first_stepped d at (config_of d c.run_program.new.engine) c.requires.none (Running (first_frame e)) (rest_of d e) (begins d e first) c.requires.quiet mades.Counted c.in_ok-run_program.ensures.executes.step refl;
+  known =
+      let d = c.args.definition.now in
+      let e = c.args.engine.now in
+      let w = world_of e.world in
+      let new = c.run_program.new.engine in
+      let first = some_found _ c.first_program.result (first_program e.stack.tasks.items) c.is_none.result c.first_program.ensures c.is_none.ensures c.if-is_none.false in
+      let none = subst (λ (ts : List Task). NoneUnheld d (record (config_of d e) { agenda = with_first w ts })) (begins d e first) (first_none d (config_of d e) c.requires.none) in
+      let goes = c.in_ok-run_program.ensures.executes.step in
+      subst (λ (v : World). LeavesKnown w v new.closing) (ap (λ (x : Config). x.world) goes.2)
+      (task_known d w (rest_of d e) e.counted (Running (first_frame e)) goes.0 e.closing new.closing none goes.1 c.in_ok-run_program.ensures.closing);
+  grows =
+      let d = c.args.definition.now in
+      let e = c.args.engine.now in
+      let at = config_of d e in
+      let first = some_found _ c.first_program.result (first_program e.stack.tasks.items) c.is_none.result c.first_program.ensures c.is_none.ensures c.if-is_none.false in
+      first_grows d at (config_of d c.run_program.new.engine) c.requires.none (Running (first_frame e)) (rest_of d e) (begins d e first) c.requires.quiet mades.Counted c.in_ok-run_program.ensures.executes.step;
+  room = search rules;
+}
 
-pub returns-clause-grows : goal.returns-clause-grows
-returns-clause-grows c =
-    let d = c.args.definition.now in
-    let e = c.args.engine.now in
-    let at = config_of d e in
-    let first = some_found _ c.first_program.result (first_program e.stack.tasks.items) c.is_none.result c.first_program.ensures c.is_none.ensures c.if-is_none.false in
-    first_grows d at (config_of d c.run_program.new.engine) c.requires.none (Running (first_frame e)) (rest_of d e) (begins d e first) c.requires.quiet mades.Counted c.in_ok-run_program.ensures.step
-
-pub returns-clause-known : goal.returns-clause-known
-returns-clause-known c =
-    let d = c.args.definition.now in
-    let e = c.args.engine.now in
-    let w = world_of e.world in
-    let new = c.run_program.new.engine in
-    let first = some_found _ c.first_program.result (first_program e.stack.tasks.items) c.is_none.result c.first_program.ensures c.is_none.ensures c.if-is_none.false in
-    let none = subst (λ (ts : List Task). NoneUnheld d (record (config_of d e) { agenda = with_first w ts })) (begins d e first) (first_none d (config_of d e) c.requires.none) in
-    let goes = c.in_ok-run_program.ensures.step in
-    subst (λ (v : World). LeavesKnown w v new.closing) (ap (λ (x : Config). x.world) goes.2)
-    (task_known d w (rest_of d e) e.counted (Running (first_frame e)) goes.0 e.closing new.closing none goes.1 c.in_ok-run_program.ensures.closing)
-
-pub returns-in_err-run_program-clause-stepped : goal.returns-in_err-run_program-clause-stepped
-returns-in_err-run_program-clause-stepped c =
-    let p = err_from_is_err_and c.from_residual.result c.from_residual.ensures.1 in
-    rw p.1 c.in_err-run_program.ensures.quiet
+pub returns-in_err-run_program : goal.returns-in_err-run_program
+returns-in_err-run_program c = record {
+  counted = search rules;
+  stepped =
+      let p = err_from_is_err_and c.from_residual.result c.from_residual.ensures.1 in
+      rw p.1 c.in_err-run_program.ensures.executes.quiet;
+  known = search rules;
+  grows = search rules;
+  room = search rules;
+}

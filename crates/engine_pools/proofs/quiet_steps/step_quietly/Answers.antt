@@ -1,4 +1,4 @@
-use Rattle.std.proofs.Common.{◌≡◌, List, Some, None, ap, sym, ◌∙◌}
+use Rattle.std.proofs.Common.{◌≡◌, List, Some, None, ap, sym, ◌∙◌, rules}
 use Rattle.ui_machine.specs.State.References.{mentions, next_unheld}
 use Rattle.ui_machine.specs.State.Tasks.{Task}
 use Rattle.instance_tables.specs.Store.{id_of, count_of}
@@ -21,25 +21,40 @@ first_task-requires-clause-none c =
     let none : next_unheld (count_of e.world.table.counts) e.world.table.objects ≡ None = sym c.next_unheld.ensures.found ∙ ap id_of c.in_default.is in
     sym (finds_mentioned d e c.requires.counted) ∙ none
 
-pub returns-clause-counted : goal.returns-clause-counted
-returns-clause-counted c = c.in_ok-finalise.ensures.counted.at nothing c.requires.counted
+pub returns : goal.returns
+returns c = record {
+  counted = c.in_ok-finalise.ensures.counted.at nothing c.requires.counted;
+  stepped =
+      let d = c.args.definition.now in
+      let e = c.args.engine.now in
+      let new = c.finalise.new.engine in
+      let id = c.in-Some.object.0 in
+      let one : next_unheld (count_of e.world.table.counts) e.world.table.objects ≡ Some id = sym c.next_unheld.ensures.found ∙ ap id_of c.in-Some.is in
+      let unheld : next_unheld (mentions d (config_of d e)) e.world.table.objects ≡ Some id = sym (finds_mentioned d e c.requires.counted) ∙ one in
+      let rest = agenda_of d e in
+      finalise_stepped d (config_of d e) id unheld (config_of d new) (record { world = world_of new.world; agenda = rest; counted = new.counted }) (c.in_ok-finalise.ensures.step rest)
+      (ap (λ (ts : List Task). record (config_of d new) { agenda = ts }) (sym c.in_ok-finalise.ensures.agenda)) c.in_ok-finalise.ensures.counts;
+  known =
+      let d = c.args.definition.now in
+      let w = world_of c.args.engine.now.world in
+      let new = c.finalise.new.engine in
+      let rest = agenda_of d c.args.engine.now in
+      finalised_known d w c.in-Some.object.0 rest c.args.engine.now.counted (record { world = world_of new.world; agenda = rest; counted = new.counted }) c.args.engine.now.closing new.closing
+      (c.in_ok-finalise.ensures.step rest) c.in_ok-finalise.ensures.closing;
+  grows = search rules;
+  room = search rules;
+}
 
-pub returns-clause-stepped : goal.returns-clause-stepped
-returns-clause-stepped c =
-    let d = c.args.definition.now in
-    let e = c.args.engine.now in
-    let new = c.finalise.new.engine in
-    let id = c.in-Some.object.0 in
-    let one : next_unheld (count_of e.world.table.counts) e.world.table.objects ≡ Some id = sym c.next_unheld.ensures.found ∙ ap id_of c.in-Some.is in
-    let unheld : next_unheld (mentions d (config_of d e)) e.world.table.objects ≡ Some id = sym (finds_mentioned d e c.requires.counted) ∙ one in
-    let rest = agenda_of d e in
-    finalise_stepped d (config_of d e) id unheld (config_of d new) (record { world = world_of new.world; agenda = rest; counted = new.counted }) (c.in_ok-finalise.ensures.step rest)
-    (ap (λ (ts : List Task). record (config_of d new) { agenda = ts }) (sym c.in_ok-finalise.ensures.agenda)) c.in_ok-finalise.ensures.counts
-
-pub returns-in_err-finalise-clause-stepped : goal.returns-in_err-finalise-clause-stepped
-returns-in_err-finalise-clause-stepped c =
-    let p = err_from_is_err_and c.from_residual.result c.from_residual.ensures.1 in
-    rw p.1 c.in_err-finalise.ensures.quiet
+pub returns-in_err-finalise : goal.returns-in_err-finalise
+returns-in_err-finalise c = record {
+  counted = search rules;
+  stepped =
+      let p = err_from_is_err_and c.from_residual.result c.from_residual.ensures.1 in
+      rw p.1 c.in_err-finalise.ensures.quiet;
+  known = search rules;
+  grows = search rules;
+  room = search rules;
+}
 
 pub finalise-requires-clause-able : goal.finalise-requires-clause-able
 finalise-requires-clause-able c =
@@ -49,15 +64,6 @@ finalise-requires-clause-able c =
     let one : next_unheld (count_of e.world.table.counts) e.world.table.objects ≡ Some id = sym c.next_unheld.ensures.found ∙ ap id_of c.in-Some.is in
     let unheld : next_unheld (mentions d (config_of d e)) e.world.table.objects ≡ Some id = sym (finds_mentioned d e c.requires.counted) ∙ one in
     none_stops _ (finalise_can d (config_of d e) id unheld c.requires.safe)
-
-pub returns-clause-known : goal.returns-clause-known
-returns-clause-known c =
-    let d = c.args.definition.now in
-    let w = world_of c.args.engine.now.world in
-    let new = c.finalise.new.engine in
-    let rest = agenda_of d c.args.engine.now in
-    finalised_known d w c.in-Some.object.0 rest c.args.engine.now.counted (record { world = world_of new.world; agenda = rest; counted = new.counted }) c.args.engine.now.closing new.closing
-    (c.in_ok-finalise.ensures.step rest) c.in_ok-finalise.ensures.closing
 
 pub first_task-requires-clause-quiet : goal.first_task-requires-clause-quiet
 first_task-requires-clause-quiet c =

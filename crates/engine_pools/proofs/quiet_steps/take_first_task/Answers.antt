@@ -1,4 +1,4 @@
-use Rattle.std.proofs.Common.{Ok, ◌∙◌, ◌+◌, ◌≤◌, ap, length, sym, subst, vec_capacity, arith}
+use Rattle.std.proofs.Common.{Ok, ◌∙◌, ◌+◌, ◌≤◌, ap, length, sym, subst, vec_capacity, arith, rules}
 use Rattle.ui_machine.specs.Rules.Build.{to_connect, to_make}
 use Rattle.ui_machine.specs.Rules.Connections.{greatest_handler}
 use Rattle.ui_machine.specs.State.Objects.{most_identities}
@@ -36,17 +36,29 @@ sink_first_floating-requires-clause-counted c =
     let none = c.in_default.ensures.tasks d c.args.engine.now.world.handlers.handlers in
     same_tasks d c.args.engine.now c.pop.new.self (none.1 ∙ sym none.0) c.in_default.ensures.begun c.requires.counted
 
-pub returns-in_default-clause-stepped : goal.returns-in_default-clause-stepped
-returns-in_default-clause-stepped c =
-    let d = c.args.definition.now in
-    let none = c.in_default.ensures.tasks d c.args.engine.now.world.handlers.handlers in
-    subst (λ (ts : List Task). QuietlyStepped (Ok c.sink_first_floating.result) d (record (config_of d c.args.engine.now) { agenda = ts }) (config_of d c.sink_first_floating.new.engine)) (none.1 ∙ sym none.0)
-    c.sink_first_floating.ensures.stepped
+pub returns-in_default : goal.returns-in_default
+returns-in_default c = record {
+  counted = search rules;
+  stepped =
+      let d = c.args.definition.now in
+      let none = c.in_default.ensures.tasks d c.args.engine.now.world.handlers.handlers in
+      subst (λ (ts : List Task). QuietlyStepped (Ok c.sink_first_floating.result) d (record (config_of d c.args.engine.now) { agenda = ts }) (config_of d c.sink_first_floating.new.engine)) (none.1 ∙ sym none.0)
+      c.sink_first_floating.ensures.stepped;
+  known = c.sink_first_floating.ensures.known;
+  grows = search rules;
+  room = search rules;
+}
 
-pub returns-in_err-made-clause-stepped : goal.returns-in_err-made-clause-stepped
-returns-in_err-made-clause-stepped c =
-    let p = err_from_is_err_and c.from_residual.result c.from_residual.ensures.1 in
-    rw p.1 c.in_err-made.ensures.quiet
+pub returns-in_err-made : goal.returns-in_err-made
+returns-in_err-made c = record {
+  counted = search rules;
+  stepped =
+      let p = err_from_is_err_and c.from_residual.result c.from_residual.ensures.1 in
+      rw p.1 c.in_err-made.ensures.executes.quiet;
+  known = search rules;
+  grows = search rules;
+  room = search rules;
+}
 
 pub act-requires : goal.act-requires
 act-requires c = record {
@@ -92,40 +104,34 @@ pub let_go_any-requires : goal.let_go_any-requires
 let_go_any-requires c = record {
   held = λ o.
       let d = c.args.definition.now in
-      omega (arith, c.in_ok-made.ensures.counted.exact o, c.object-held.ensures d c.args.engine.now.world.handlers.handlers o);
+      omega (arith, c.in_ok-made.ensures.executes.counted.exact o, c.object-held.ensures d c.args.engine.now.world.handlers.handlers o);
 }
 
-pub returns-clause-counted : goal.returns-clause-counted
-returns-clause-counted c =
-    let d = c.args.definition.now in
-    let t = task_in d c.args.engine.now c.in-Some.task in
-    given_back d c.act.new.engine c.let_go_any.new.table (λ o. in_subject o t) c.let_go_any.ensures.only
-    (λ o. omega (arith, c.let_go_any.ensures.counts o, c.object-held.ensures d c.args.engine.now.world.handlers.handlers o)) c.in_ok-made.ensures.counted
-
-pub returns-clause-stepped : goal.returns-clause-stepped
-returns-clause-stepped c =
-    let d = c.args.definition.now in
-    subst (λ (e : Config). QuietlyStepped (Ok c.in_ok-made.made) d (config_of d c.args.engine.now) e) (sym (config_same d c.act.new.engine c.let_go_any.new.table c.let_go_any.ensures.only))
-    (first_stepped d (config_of d c.args.engine.now) (config_of d c.act.new.engine) c.requires.none (task_in d c.args.engine.now c.in-Some.task) (tasks_of d c.args.engine.now.world.handlers.handlers c.pop.new.self) (c.in-Some.ensures.tasks d c.args.engine.now.world.handlers.handlers) c.requires.quiet
-    c.in_ok-made.made c.in_ok-made.ensures.step c.in_ok-made.ensures.made)
-
-pub returns-clause-grows : goal.returns-clause-grows
-returns-clause-grows c =
-    let d = c.args.definition.now in
-    first_grows d (config_of d c.args.engine.now) (config_of d c.act.new.engine) c.requires.none (task_in d c.args.engine.now c.in-Some.task) (tasks_of d c.args.engine.now.world.handlers.handlers c.pop.new.self) (c.in-Some.ensures.tasks d c.args.engine.now.world.handlers.handlers) c.requires.quiet
-    c.in_ok-made.made c.in_ok-made.ensures.step
-
-pub returns-in_default-clause-known : goal.returns-in_default-clause-known
-returns-in_default-clause-known c = c.sink_first_floating.ensures.known
-
-pub returns-clause-known : goal.returns-clause-known
-returns-clause-known c =
-    let d = c.args.definition.now in
-    let e = c.args.engine.now in
-    let w = world_of e.world in
-    let hs = e.world.handlers.handlers in
-    let rest = tasks_of d hs c.pop.new.self in
-    let none = subst (λ (ts : List Task). NoneUnheld d (record (config_of d e) { agenda = with_first w ts })) (c.in-Some.ensures.tasks d hs) (first_none d (config_of d e) c.requires.none) in
-    let goes = c.in_ok-made.ensures.step in
-    subst (λ (v : World). LeavesKnown w v c.act.new.engine.closing) (ap (λ (x : Config). x.world) goes.2)
-    (task_known d w rest e.counted (task_in d e c.in-Some.task) goes.0 e.closing c.act.new.engine.closing none goes.1 c.in_ok-made.ensures.closing)
+pub returns : goal.returns
+returns c = record {
+  counted =
+      let d = c.args.definition.now in
+      let t = task_in d c.args.engine.now c.in-Some.task in
+      given_back d c.act.new.engine c.let_go_any.new.table (λ o. in_subject o t) c.let_go_any.ensures.only
+      (λ o. omega (arith, c.let_go_any.ensures.counts o, c.object-held.ensures d c.args.engine.now.world.handlers.handlers o)) c.in_ok-made.ensures.executes.counted;
+  stepped =
+      let d = c.args.definition.now in
+      subst (λ (e : Config). QuietlyStepped (Ok c.in_ok-made.made) d (config_of d c.args.engine.now) e) (sym (config_same d c.act.new.engine c.let_go_any.new.table c.let_go_any.ensures.only))
+      (first_stepped d (config_of d c.args.engine.now) (config_of d c.act.new.engine) c.requires.none (task_in d c.args.engine.now c.in-Some.task) (tasks_of d c.args.engine.now.world.handlers.handlers c.pop.new.self) (c.in-Some.ensures.tasks d c.args.engine.now.world.handlers.handlers) c.requires.quiet
+      c.in_ok-made.made c.in_ok-made.ensures.executes.step c.in_ok-made.ensures.made);
+  known =
+      let d = c.args.definition.now in
+      let e = c.args.engine.now in
+      let w = world_of e.world in
+      let hs = e.world.handlers.handlers in
+      let rest = tasks_of d hs c.pop.new.self in
+      let none = subst (λ (ts : List Task). NoneUnheld d (record (config_of d e) { agenda = with_first w ts })) (c.in-Some.ensures.tasks d hs) (first_none d (config_of d e) c.requires.none) in
+      let goes = c.in_ok-made.ensures.executes.step in
+      subst (λ (v : World). LeavesKnown w v c.act.new.engine.closing) (ap (λ (x : Config). x.world) goes.2)
+      (task_known d w rest e.counted (task_in d e c.in-Some.task) goes.0 e.closing c.act.new.engine.closing none goes.1 c.in_ok-made.ensures.closing);
+  grows =
+      let d = c.args.definition.now in
+      first_grows d (config_of d c.args.engine.now) (config_of d c.act.new.engine) c.requires.none (task_in d c.args.engine.now c.in-Some.task) (tasks_of d c.args.engine.now.world.handlers.handlers c.pop.new.self) (c.in-Some.ensures.tasks d c.args.engine.now.world.handlers.handlers) c.requires.quiet
+      c.in_ok-made.made c.in_ok-made.ensures.executes.step;
+  room = search rules;
+}

@@ -1,4 +1,4 @@
-use Rattle.std.proofs.Common.{Result, Ok, refl, sym, ap, ◌∙◌, arith}
+use Rattle.std.proofs.Common.{rules, Result, Ok, refl, sym, ap, ◌∙◌, arith}
 use Rattle.ui_machine.specs.Rules.Build.{is_connecting, is_making, of_items}
 use Rattle.ui_machine.specs.State.References.{in_task}
 use Rattle.std.specs.declared.alloc.AllocError.{AllocError}
@@ -149,85 +149,106 @@ unreachable-requires-in-Answering c = rw c.in-Answering.is at c.requires.able
 
 -- ** what is counted, and what was done
 
-pub returns-in_ok-validate_and_set-in-Setting-clause-counted : goal.returns-in_ok-validate_and_set-in-Setting-clause-counted
-returns-in_ok-validate_and_set-in-Setting-clause-counted c =
-    done_plain c.args.definition.now c.args.engine.now c.validate_and_set.new.engine c.args.task _ c.in-Setting.is (λ o. refl) c.in_ok-validate_and_set-in-Setting.ensures.counted c.requires.counted
+pub returns-in_ok-validate_and_set-in-Setting-clause-executes : goal.returns-in_ok-validate_and_set-in-Setting-clause-executes
+returns-in_ok-validate_and_set-in-Setting-clause-executes c = record {
+  step = rw c.in-Setting.is (leads_whole c.args.definition.now c.validate_and_set.new.engine done _ c.in_ok-validate_and_set-in-Setting.ensures.step);
+  quiet = search rules;
+  counted = done_plain c.args.definition.now c.args.engine.now c.validate_and_set.new.engine c.args.task _ c.in-Setting.is (λ o. refl) c.in_ok-validate_and_set-in-Setting.ensures.counted c.requires.counted;
+  room = search rules;
+}
 
-pub returns-in_ok-notify-in-Notifying-clause-counted : goal.returns-in_ok-notify-in-Notifying-clause-counted
-returns-in_ok-notify-in-Notifying-clause-counted c =
-    done_plain c.args.definition.now c.args.engine.now c.notify.new.engine c.args.task _ c.in-Notifying.is (λ o. refl) c.in_ok-notify-in-Notifying.ensures.counted c.requires.counted
+pub returns-in_ok-notify-in-Notifying-clause-executes : goal.returns-in_ok-notify-in-Notifying-clause-executes
+returns-in_ok-notify-in-Notifying-clause-executes c = record {
+  step = rw c.in-Notifying.is (leads_whole c.args.definition.now c.notify.new.engine done _ c.in_ok-notify-in-Notifying.ensures.step);
+  quiet = search rules;
+  counted = done_plain c.args.definition.now c.args.engine.now c.notify.new.engine c.args.task _ c.in-Notifying.is (λ o. refl) c.in_ok-notify-in-Notifying.ensures.counted c.requires.counted;
+  room = search rules;
+}
 
-pub returns-in-Thawing-clause-counted : goal.returns-in-Thawing-clause-counted
-returns-in-Thawing-clause-counted c =
-    done_plain c.args.definition.now c.args.engine.now c.notify_thawed.new.engine c.args.task _ c.in-Thawing.is (λ o. refl) c.notify_thawed.ensures.counted c.requires.counted
+pub returns-in-Thawing-clause-executes : goal.returns-in-Thawing-clause-executes
+returns-in-Thawing-clause-executes c = record {
+  step = rw c.in-Thawing.is (leads_whole c.args.definition.now c.notify_thawed.new.engine done _ c.notify_thawed.ensures.step);
+  quiet = search rules;
+  counted = done_plain c.args.definition.now c.args.engine.now c.notify_thawed.new.engine c.args.task _ c.in-Thawing.is (λ o. refl) c.notify_thawed.ensures.counted c.requires.counted;
+  room = search rules;
+}
 
-pub returns-in_ok-build-in-Building-clause-counted : goal.returns-in_ok-build-in-Building-clause-counted
-returns-in_ok-build-in-Building-clause-counted c =
-    done_plain c.args.definition.now c.args.engine.now c.build.new.engine c.args.task _ c.in-Building.is (λ o. refl) c.in_ok-build-in-Building.ensures.counted c.requires.counted
+pub returns-in_ok-build-in-Building-clause-executes : goal.returns-in_ok-build-in-Building-clause-executes
+returns-in_ok-build-in-Building-clause-executes c = record {
+  step = rw c.in-Building.is (leads_whole c.args.definition.now c.build.new.engine done _ c.in_ok-build-in-Building.ensures.step);
+  quiet = search rules;
+  counted = done_plain c.args.definition.now c.args.engine.now c.build.new.engine c.args.task _ c.in-Building.is (λ o. refl) c.in_ok-build-in-Building.ensures.counted c.requires.counted;
+  room = search rules;
+}
 
-pub returns-in_ok-adopt_from_build-in-Adopting-clause-counted : goal.returns-in_ok-adopt_from_build-in-Adopting-clause-counted
-returns-in_ok-adopt_from_build-in-Adopting-clause-counted c =
-    done_plain c.args.definition.now c.args.engine.now c.adopt_from_build.new.engine c.args.task _ c.in-Adopting.is (λ o. refl) c.in_ok-adopt_from_build-in-Adopting.ensures.counted c.requires.counted
+pub returns-in_ok-adopt_from_build-in-Adopting-clause-executes : goal.returns-in_ok-adopt_from_build-in-Adopting-clause-executes
+returns-in_ok-adopt_from_build-in-Adopting-clause-executes c = record {
+  step = rw c.in-Adopting.is (leads_whole c.args.definition.now c.adopt_from_build.new.engine done _ c.in_ok-adopt_from_build-in-Adopting.ensures.step);
+  quiet = search rules;
+  counted = done_plain c.args.definition.now c.args.engine.now c.adopt_from_build.new.engine c.args.task _ c.in-Adopting.is (λ o. refl) c.in_ok-adopt_from_build-in-Adopting.ensures.counted c.requires.counted;
+  room = search rules;
+}
 
-pub returns-in_ok-handle_event-in-Handling-clause-counted : goal.returns-in_ok-handle_event-in-Handling-clause-counted
-returns-in_ok-handle_event-in-Handling-clause-counted c =
-    done_plain c.args.definition.now c.args.engine.now c.handle_event.new.engine c.args.task _ c.in-Handling.is (λ o. refl) c.in_ok-handle_event-in-Handling.ensures.counted c.requires.counted
+pub returns-in_ok-handle_event-in-Handling-clause-executes : goal.returns-in_ok-handle_event-in-Handling-clause-executes
+returns-in_ok-handle_event-in-Handling-clause-executes c = record {
+  step = rw c.in-Handling.is (leads_whole c.args.definition.now c.handle_event.new.engine done _ c.in_ok-handle_event-in-Handling.ensures.step);
+  quiet = search rules;
+  counted = done_plain c.args.definition.now c.args.engine.now c.handle_event.new.engine c.args.task _ c.in-Handling.is (λ o. refl) c.in_ok-handle_event-in-Handling.ensures.counted c.requires.counted;
+  room = search rules;
+}
 
-pub returns-in_ok-validate_and_set-in-Setting-clause-step : goal.returns-in_ok-validate_and_set-in-Setting-clause-step
-returns-in_ok-validate_and_set-in-Setting-clause-step c = rw c.in-Setting.is (leads_whole c.args.definition.now c.validate_and_set.new.engine done _ c.in_ok-validate_and_set-in-Setting.ensures.step)
+pub returns-in_ok-begin_emission-in-Beginning-clause-executes : goal.returns-in_ok-begin_emission-in-Beginning-clause-executes
+returns-in_ok-begin_emission-in-Beginning-clause-executes c = record {
+  step = rw c.in-Beginning.is (leads_whole c.args.definition.now c.begin_emission.new.engine done _ c.in_ok-begin_emission-in-Beginning.ensures.step);
+  quiet = search rules;
+  counted = search rules;
+  room = search rules;
+}
 
-pub returns-in_ok-notify-in-Notifying-clause-step : goal.returns-in_ok-notify-in-Notifying-clause-step
-returns-in_ok-notify-in-Notifying-clause-step c = rw c.in-Notifying.is (leads_whole c.args.definition.now c.notify.new.engine done _ c.in_ok-notify-in-Notifying.ensures.step)
+pub returns-in_ok-connect_from_build-in-Connecting-clause-executes : goal.returns-in_ok-connect_from_build-in-Connecting-clause-executes
+returns-in_ok-connect_from_build-in-Connecting-clause-executes c = record {
+  step = rw c.in-Connecting.is (leads_whole c.args.definition.now c.connect_from_build.new.engine done _ c.in_ok-connect_from_build-in-Connecting.ensures.step);
+  quiet = search rules;
+  counted = done_plain c.args.definition.now c.args.engine.now c.connect_from_build.new.engine c.args.task _ c.in-Connecting.is (λ o. refl) c.in_ok-connect_from_build-in-Connecting.ensures.counted c.requires.counted;
+  room = search rules;
+}
 
-pub returns-in_ok-begin_emission-in-Beginning-clause-step : goal.returns-in_ok-begin_emission-in-Beginning-clause-step
-returns-in_ok-begin_emission-in-Beginning-clause-step c = rw c.in-Beginning.is (leads_whole c.args.definition.now c.begin_emission.new.engine done _ c.in_ok-begin_emission-in-Beginning.ensures.step)
+pub returns-in_ok-run_source-in-Due-clause-executes : goal.returns-in_ok-run_source-in-Due-clause-executes
+returns-in_ok-run_source-in-Due-clause-executes c = record {
+  step = rw c.in-Due.is (leads_whole c.args.definition.now c.run_source.new.engine done _ c.in_ok-run_source-in-Due.ensures.step);
+  quiet = search rules;
+  counted = done_plain c.args.definition.now c.args.engine.now c.run_source.new.engine c.args.task _ c.in-Due.is (λ o. refl) c.in_ok-run_source-in-Due.ensures.counted c.requires.counted;
+  room = search rules;
+}
 
-pub returns-in-Thawing-clause-step : goal.returns-in-Thawing-clause-step
-returns-in-Thawing-clause-step c = rw c.in-Thawing.is (leads_whole c.args.definition.now c.notify_thawed.new.engine done _ c.notify_thawed.ensures.step)
+pub returns-in_ok-transfer-in-Transferring-clause-executes : goal.returns-in_ok-transfer-in-Transferring-clause-executes
+returns-in_ok-transfer-in-Transferring-clause-executes c = record {
+  step = rw c.in-Transferring.is (leads_whole c.args.definition.now c.transfer.new.engine done _ c.in_ok-transfer-in-Transferring.ensures.step);
+  quiet = search rules;
+  counted = done_plain c.args.definition.now c.args.engine.now c.transfer.new.engine c.args.task _ c.in-Transferring.is (λ o. refl) c.in_ok-transfer-in-Transferring.ensures.counted c.requires.counted;
+  room = search rules;
+}
 
-pub returns-in_ok-build-in-Building-clause-step : goal.returns-in_ok-build-in-Building-clause-step
-returns-in_ok-build-in-Building-clause-step c = rw c.in-Building.is (leads_whole c.args.definition.now c.build.new.engine done _ c.in_ok-build-in-Building.ensures.step)
+pub returns-in-Unsetting-clause-executes : goal.returns-in-Unsetting-clause-executes
+returns-in-Unsetting-clause-executes c = record {
+  step = rw c.in-Unsetting.is (leads_whole c.args.definition.now c.unset.new.engine done _ c.unset.ensures.step);
+  quiet = search rules;
+  counted = done_plain c.args.definition.now c.args.engine.now c.unset.new.engine c.args.task _ c.in-Unsetting.is (λ o. refl) c.unset.ensures.counted c.requires.counted;
+  room = search rules;
+}
 
-pub returns-in_ok-adopt_from_build-in-Adopting-clause-step : goal.returns-in_ok-adopt_from_build-in-Adopting-clause-step
-returns-in_ok-adopt_from_build-in-Adopting-clause-step c = rw c.in-Adopting.is (leads_whole c.args.definition.now c.adopt_from_build.new.engine done _ c.in_ok-adopt_from_build-in-Adopting.ensures.step)
+pub returns-in_ok-bind_from_build-in-Binding-clause-executes : goal.returns-in_ok-bind_from_build-in-Binding-clause-executes
+returns-in_ok-bind_from_build-in-Binding-clause-executes c = record {
+  step = rw c.in-Binding.is (leads_whole c.args.definition.now c.bind_from_build.new.engine done _ c.in_ok-bind_from_build-in-Binding.ensures.step);
+  quiet = search rules;
+  counted = done_plain c.args.definition.now c.args.engine.now c.bind_from_build.new.engine c.args.task _ c.in-Binding.is (λ o. refl) c.in_ok-bind_from_build-in-Binding.ensures.counted c.requires.counted;
+  room = search rules;
+}
 
-pub returns-in_ok-handle_event-in-Handling-clause-step : goal.returns-in_ok-handle_event-in-Handling-clause-step
-returns-in_ok-handle_event-in-Handling-clause-step c = rw c.in-Handling.is (leads_whole c.args.definition.now c.handle_event.new.engine done _ c.in_ok-handle_event-in-Handling.ensures.step)
-
-pub returns-in_ok-connect_from_build-in-Connecting-clause-counted : goal.returns-in_ok-connect_from_build-in-Connecting-clause-counted
-returns-in_ok-connect_from_build-in-Connecting-clause-counted c =
-    done_plain c.args.definition.now c.args.engine.now c.connect_from_build.new.engine c.args.task _ c.in-Connecting.is (λ o. refl) c.in_ok-connect_from_build-in-Connecting.ensures.counted c.requires.counted
-
-pub returns-in_ok-connect_from_build-in-Connecting-clause-step : goal.returns-in_ok-connect_from_build-in-Connecting-clause-step
-returns-in_ok-connect_from_build-in-Connecting-clause-step c = rw c.in-Connecting.is (leads_whole c.args.definition.now c.connect_from_build.new.engine done _ c.in_ok-connect_from_build-in-Connecting.ensures.step)
-
-pub returns-in_ok-run_source-in-Due-clause-counted : goal.returns-in_ok-run_source-in-Due-clause-counted
-returns-in_ok-run_source-in-Due-clause-counted c =
-    done_plain c.args.definition.now c.args.engine.now c.run_source.new.engine c.args.task _ c.in-Due.is (λ o. refl) c.in_ok-run_source-in-Due.ensures.counted c.requires.counted
-
-pub returns-in_ok-run_source-in-Due-clause-step : goal.returns-in_ok-run_source-in-Due-clause-step
-returns-in_ok-run_source-in-Due-clause-step c = rw c.in-Due.is (leads_whole c.args.definition.now c.run_source.new.engine done _ c.in_ok-run_source-in-Due.ensures.step)
-
-pub returns-in_ok-transfer-in-Transferring-clause-counted : goal.returns-in_ok-transfer-in-Transferring-clause-counted
-returns-in_ok-transfer-in-Transferring-clause-counted c =
-    done_plain c.args.definition.now c.args.engine.now c.transfer.new.engine c.args.task _ c.in-Transferring.is (λ o. refl) c.in_ok-transfer-in-Transferring.ensures.counted c.requires.counted
-
-pub returns-in_ok-transfer-in-Transferring-clause-step : goal.returns-in_ok-transfer-in-Transferring-clause-step
-returns-in_ok-transfer-in-Transferring-clause-step c = rw c.in-Transferring.is (leads_whole c.args.definition.now c.transfer.new.engine done _ c.in_ok-transfer-in-Transferring.ensures.step)
-
-pub returns-in-Unsetting-clause-counted : goal.returns-in-Unsetting-clause-counted
-returns-in-Unsetting-clause-counted c =
-    done_plain c.args.definition.now c.args.engine.now c.unset.new.engine c.args.task _ c.in-Unsetting.is (λ o. refl) c.unset.ensures.counted c.requires.counted
-
-pub returns-in-Unsetting-clause-step : goal.returns-in-Unsetting-clause-step
-returns-in-Unsetting-clause-step c = rw c.in-Unsetting.is (leads_whole c.args.definition.now c.unset.new.engine done _ c.unset.ensures.step)
-
-pub returns-in_ok-bind_from_build-in-Binding-clause-counted : goal.returns-in_ok-bind_from_build-in-Binding-clause-counted
-returns-in_ok-bind_from_build-in-Binding-clause-counted c =
-    done_plain c.args.definition.now c.args.engine.now c.bind_from_build.new.engine c.args.task _ c.in-Binding.is (λ o. refl) c.in_ok-bind_from_build-in-Binding.ensures.counted c.requires.counted
-
-pub returns-in_ok-bind_from_build-in-Binding-clause-step : goal.returns-in_ok-bind_from_build-in-Binding-clause-step
-returns-in_ok-bind_from_build-in-Binding-clause-step c = rw c.in-Binding.is (leads_whole c.args.definition.now c.bind_from_build.new.engine done _ c.in_ok-bind_from_build-in-Binding.ensures.step)
-
-pub returns-in_ok-pass_over-in-Calling-clause-step : goal.returns-in_ok-pass_over-in-Calling-clause-step
-returns-in_ok-pass_over-in-Calling-clause-step c = rw c.in-Calling.is (leads_whole c.args.definition.now c.pass_over.new.engine done _ c.in_ok-pass_over-in-Calling.ensures.step)
+pub returns-in_ok-pass_over-in-Calling-clause-executes : goal.returns-in_ok-pass_over-in-Calling-clause-executes
+returns-in_ok-pass_over-in-Calling-clause-executes c = record {
+  step = rw c.in-Calling.is (leads_whole c.args.definition.now c.pass_over.new.engine done _ c.in_ok-pass_over-in-Calling.ensures.executes.step);
+  quiet = search rules;
+  counted = search rules;
+  room = search rules;
+}

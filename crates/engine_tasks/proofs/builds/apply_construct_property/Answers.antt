@@ -1,4 +1,4 @@
-use Rattle.std.proofs.Common.{Ok, Err, ◌≡◌, ap, subst, sym, ℕ, List, refl, [], ◌∙◌, ◌∷◌, IsSome, arith}
+use Rattle.std.proofs.Common.{Ok, Err, ◌≡◌, ap, subst, sym, ℕ, List, refl, [], ◌∙◌, ◌∷◌, IsSome, arith, rules}
 use Rattle.ui_machine.specs.Definition.Properties.{is_writable, Spec}
 use Rattle.ui_machine.specs.Rules.Construction.{apply_construct_property}
 use Rattle.ui_machine.specs.declared.arm.Arm.TheVariants as arms
@@ -42,17 +42,19 @@ push_task-requires-clause-may c =
       lives = subst (λ id. IsSome (living e.world.table.objects id)) (sym c.first_object-object.ensures) c.requires.live;
     })
 
-pub returns-clause-step : goal.returns-clause-step
-returns-clause-step c =
-    let d = c.args.definition.now in
-    let e = c.args.engine.now in
-    let own = first_constructed e in
-    let set : ℕ → Task = λ id. Setting id c.args.slot (value_view c.args.value) in
-    let agenda = c.push_task.ensures.agenda d ∙ ap (λ (ts : List Task). set c.first_object-object.result.0 ∷ ts) (begins d e c.requires.first)
-    ∙ ap (λ id. set id ∷ constructing_task own ∷ rest_of d e) c.first_object-object.ensures in
-    ap (uncounted (rest_of d e) e.counted)
-    (applies d (world_of e.world) own.object c.args.slot (value_view c.args.value) (constructing_task own ∷ []) (in_uncounted _ _ _ c.requires.able))
-    ∙ rw (c.push_task.ensures.world, c.push_task.ensures.same, agenda) refl
-
-pub returns-clause-counted : goal.returns-clause-counted
-returns-clause-counted c = (c.push_task.ensures.counted c.args.definition.now).at nothing c.requires.counted
+pub returns : goal.returns
+returns c = record {
+  step =
+      let d = c.args.definition.now in
+      let e = c.args.engine.now in
+      let own = first_constructed e in
+      let set : ℕ → Task = λ id. Setting id c.args.slot (value_view c.args.value) in
+      let agenda = c.push_task.ensures.agenda d ∙ ap (λ (ts : List Task). set c.first_object-object.result.0 ∷ ts) (begins d e c.requires.first)
+      ∙ ap (λ id. set id ∷ constructing_task own ∷ rest_of d e) c.first_object-object.ensures in
+      ap (uncounted (rest_of d e) e.counted)
+      (applies d (world_of e.world) own.object c.args.slot (value_view c.args.value) (constructing_task own ∷ []) (in_uncounted _ _ _ c.requires.able))
+      ∙ rw (c.push_task.ensures.world, c.push_task.ensures.same, agenda) refl;
+  quiet = search rules;
+  counted = (c.push_task.ensures.counted c.args.definition.now).at nothing c.requires.counted;
+  room = search rules;
+}

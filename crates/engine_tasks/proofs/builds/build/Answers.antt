@@ -1,4 +1,4 @@
-use Rattle.std.proofs.Common.{◌≡◌, true, List, ◌∷◌, sym, ap, subst, ◌∙◌, arith}
+use Rattle.std.proofs.Common.{◌≡◌, true, List, ◌∷◌, sym, ap, subst, ◌∙◌, arith, rules}
 use Rattle.std.specs.Prelude.{◌<◌, IfSome, length}
 use Rattle.ui_machine.specs.State.Objects.{most_identities}
 use Rattle.ui_machine.specs.State.Peers.{Peer}
@@ -36,23 +36,30 @@ push_task-requires c = record {
       pushes_nothing e c.behind.result (λ any o. task_alike any d hs hs c.behind.result o ∙ ap (in_task o) (c.behind.ensures.task hs));
 }
 
-pub returns-clause-step : goal.returns-clause-step
-returns-clause-step c =
-    let d = c.args.definition.now in
-    let w = world_of c.args.engine.now.world in
-    let rest = agenda_of d c.args.engine.now in
-    let n = c.args.engine.now.counted in
-    let fs = c.args.forwards in
-    let there = object_within d c.types-types.ensures.basic c.args.place.0 (c.is_object.ensures.within c.if-not-is_object.false) in
-    let next = builds_next d c.types-types.ensures.basic w c.args.place.0 there.0 there.1 there.2 fs rest n c.own_peer-peer.result c.own_peer-peer.ensures.own in
-    let pushed = c.push_task.ensures.agenda d ∙ ap (λ (t : Task). t ∷ rest) (c.behind.ensures.task c.args.engine.now.world.handlers.handlers) in
-    let world : world_of c.push_task.new.engine.world ≡ w = c.push_task.ensures.world in
-    let same : c.push_task.new.engine.counted ≡ n = c.push_task.ensures.same in
-    let made =
-    subst (λ (a : List Task). Leads c.make_from_build.result (uncounted a n (making d w c.args.place.0 c.own_peer-peer.result true)) (config_of d c.make_from_build.new.engine)) pushed
-    (subst (λ (v : World). Leads c.make_from_build.result (uncounted (agenda_of d c.push_task.new.engine) n (making d v c.args.place.0 c.own_peer-peer.result true)) (config_of d c.make_from_build.new.engine)) world
-    (subst (λ k. Leads c.make_from_build.result (uncounted (agenda_of d c.push_task.new.engine) k (making d (world_of c.push_task.new.engine.world) c.args.place.0 c.own_peer-peer.result true)) (config_of d c.make_from_build.new.engine)) same c.make_from_build.ensures.step)) in
-    subst (λ (a : Answer Config). Leads c.make_from_build.result a (config_of d c.make_from_build.new.engine)) (sym next) made
+pub returns : goal.returns
+returns c = record {
+  step =
+      let d = c.args.definition.now in
+      let w = world_of c.args.engine.now.world in
+      let rest = agenda_of d c.args.engine.now in
+      let n = c.args.engine.now.counted in
+      let fs = c.args.forwards in
+      let there = object_within d c.types-types.ensures.basic c.args.place.0 (c.is_object.ensures.within c.if-not-is_object.false) in
+      let next = builds_next d c.types-types.ensures.basic w c.args.place.0 there.0 there.1 there.2 fs rest n c.own_peer-peer.result c.own_peer-peer.ensures.own in
+      let pushed = c.push_task.ensures.agenda d ∙ ap (λ (t : Task). t ∷ rest) (c.behind.ensures.task c.args.engine.now.world.handlers.handlers) in
+      let world : world_of c.push_task.new.engine.world ≡ w = c.push_task.ensures.world in
+      let same : c.push_task.new.engine.counted ≡ n = c.push_task.ensures.same in
+      let made =
+      subst (λ (a : List Task). Leads c.make_from_build.result (uncounted a n (making d w c.args.place.0 c.own_peer-peer.result true)) (config_of d c.make_from_build.new.engine)) pushed
+      (subst (λ (v : World). Leads c.make_from_build.result (uncounted (agenda_of d c.push_task.new.engine) n (making d v c.args.place.0 c.own_peer-peer.result true)) (config_of d c.make_from_build.new.engine)) world
+      (subst (λ k. Leads c.make_from_build.result (uncounted (agenda_of d c.push_task.new.engine) k (making d (world_of c.push_task.new.engine.world) c.args.place.0 c.own_peer-peer.result true)) (config_of d c.make_from_build.new.engine)) same c.make_from_build.ensures.step)) in
+      subst (λ (a : Answer Config). Leads c.make_from_build.result a (config_of d c.make_from_build.new.engine)) (sym next) made;
+  quiet = search rules;
+  counted =
+      let d = c.args.definition.now in
+      on_ok c.make_from_build.result (λ k. keeps_on d _ _ _ (c.push_task.ensures.counted d) k) c.make_from_build.ensures.counted;
+  room = search rules;
+}
 
 pub own_peer-peer-requires : goal.own_peer-peer-requires
 own_peer-peer-requires c =
@@ -105,16 +112,16 @@ set_forward_reference-requires-clause-able c =
     let left = only_forwards d c.types-types.ensures.basic c.args.place.0 c.args.forwards (c.is_object.ensures.past c.if-not-is_object.true) in
     able_as (ap (λ (items : List Item). uncounted rest n (building d w items)) left) c.requires.able
 
-pub returns-then-not-is_object-clause-step : goal.returns-then-not-is_object-clause-step
-returns-then-not-is_object-clause-step c =
-    let d = c.args.definition.now in
-    let w = world_of c.args.engine.now.world in
-    let rest = agenda_of d c.args.engine.now in
-    let n = c.args.engine.now.counted in
-    let left = only_forwards d c.types-types.ensures.basic c.args.place.0 c.args.forwards (c.is_object.ensures.past c.if-not-is_object.true) in
-    subst (λ (items : List Item). Leads c.set_forward_reference.result (uncounted rest n (building d w items)) (config_of d c.set_forward_reference.new.engine)) (sym left) c.set_forward_reference.ensures.step
-
-pub returns-clause-counted : goal.returns-clause-counted
-returns-clause-counted c =
-    let d = c.args.definition.now in
-    on_ok c.make_from_build.result (λ k. keeps_on d _ _ _ (c.push_task.ensures.counted d) k) c.make_from_build.ensures.counted
+pub returns-then-not-is_object : goal.returns-then-not-is_object
+returns-then-not-is_object c = record {
+  step =
+      let d = c.args.definition.now in
+      let w = world_of c.args.engine.now.world in
+      let rest = agenda_of d c.args.engine.now in
+      let n = c.args.engine.now.counted in
+      let left = only_forwards d c.types-types.ensures.basic c.args.place.0 c.args.forwards (c.is_object.ensures.past c.if-not-is_object.true) in
+      subst (λ (items : List Item). Leads c.set_forward_reference.result (uncounted rest n (building d w items)) (config_of d c.set_forward_reference.new.engine)) (sym left) c.set_forward_reference.ensures.step;
+  quiet = search rules;
+  counted = search rules;
+  room = search rules;
+}

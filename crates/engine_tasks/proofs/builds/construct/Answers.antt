@@ -1,4 +1,4 @@
-use Rattle.std.proofs.Common.{◌∙◌, [], ◌∷◌, sym, ap, subst}
+use Rattle.std.proofs.Common.{◌∙◌, [], ◌∷◌, sym, ap, subst, rules}
 use Rattle.ui_machine.specs.Outcome.{Answer}
 use Rattle.ui_machine.specs.State.Config.{Config}
 use Rattle.engine_world.specs.Able.{Leads}
@@ -26,14 +26,19 @@ end_first-requires c =
       counted = counts_past d e c.requires.first s n.constructs n.construction c.requires.counted;
     }
 
-pub returns-in_default-clause-step : goal.returns-in_default-clause-step
-returns-in_default-clause-step c =
-    let d = c.args.definition.now in
-    let e = c.args.engine.now in
-    let s = c.next_construct_step.new.self in
-    let n = c.next_construct_step.ensures in
-    let on = goes_on d e c.requires.first s n.constructs n.construction [] c.in_default.ensures.step.0 in
-    subst (λ (a : Answer Config). Leads c.end_first.result a (config_of d c.end_first.new.engine)) (sym on) c.end_first.ensures.step
+pub returns-in_default : goal.returns-in_default
+returns-in_default c = record {
+  step =
+      let d = c.args.definition.now in
+      let e = c.args.engine.now in
+      let s = c.next_construct_step.new.self in
+      let n = c.next_construct_step.ensures in
+      let on = goes_on d e c.requires.first s n.constructs n.construction [] c.in_default.ensures.step.0 in
+      subst (λ (a : Answer Config). Leads c.end_first.result a (config_of d c.end_first.new.engine)) (sym on) c.end_first.ensures.step;
+  quiet = search rules;
+  counted = search rules;
+  room = search rules;
+}
 
 -- a property is set
 
@@ -52,14 +57,19 @@ apply_construct_property-requires c =
       room = places_kept 1 e.stack.tasks s.tasks n.room n.frames c.requires.room;
     }
 
-pub returns-in-Set-clause-step : goal.returns-in-Set-clause-step
-returns-in-Set-clause-step c =
-    let d = c.args.definition.now in
-    let e = c.args.engine.now in
-    let s = c.next_construct_step.new.self in
-    let n = c.next_construct_step.ensures in
-    let on = goes_on d e c.requires.first s n.constructs n.construction _ (c.in-Some.ensures.step ∙ ap (λ (t : ConstructStep). making_of_code t ∷ (stack_construction s).steps) c.in-Set.is) in
-    on ∙ c.apply_construct_property.ensures.step
+pub returns-in-Set : goal.returns-in-Set
+returns-in-Set c = record {
+  step =
+      let d = c.args.definition.now in
+      let e = c.args.engine.now in
+      let s = c.next_construct_step.new.self in
+      let n = c.next_construct_step.ensures in
+      let on = goes_on d e c.requires.first s n.constructs n.construction _ (c.in-Some.ensures.step ∙ ap (λ (t : ConstructStep). making_of_code t ∷ (stack_construction s).steps) c.in-Set.is) in
+      on ∙ c.apply_construct_property.ensures.step;
+  quiet = search rules;
+  counted = search rules;
+  room = search rules;
+}
 
 -- a program runs
 
@@ -78,14 +88,19 @@ run_constructed-requires c =
       room = places_kept 1 e.stack.tasks s.tasks n.room n.frames c.requires.room;
     }
 
-pub returns-in-Run-clause-step : goal.returns-in-Run-clause-step
-returns-in-Run-clause-step c =
-    let d = c.args.definition.now in
-    let e = c.args.engine.now in
-    let s = c.next_construct_step.new.self in
-    let n = c.next_construct_step.ensures in
-    let on = goes_on d e c.requires.first s n.constructs n.construction _ (c.in-Some.ensures.step ∙ ap (λ (t : ConstructStep). making_of_code t ∷ (stack_construction s).steps) c.in-Run.is) in
-    subst (λ (a : Answer Config). Leads c.run_constructed.result a (config_of d c.run_constructed.new.engine)) (sym on) c.run_constructed.ensures.step
+pub returns-in-Run : goal.returns-in-Run
+returns-in-Run c = record {
+  step =
+      let d = c.args.definition.now in
+      let e = c.args.engine.now in
+      let s = c.next_construct_step.new.self in
+      let n = c.next_construct_step.ensures in
+      let on = goes_on d e c.requires.first s n.constructs n.construction _ (c.in-Some.ensures.step ∙ ap (λ (t : ConstructStep). making_of_code t ∷ (stack_construction s).steps) c.in-Run.is) in
+      subst (λ (a : Answer Config). Leads c.run_constructed.result a (config_of d c.run_constructed.new.engine)) (sym on) c.run_constructed.ensures.step;
+  quiet = search rules;
+  counted = search rules;
+  room = search rules;
+}
 
 -- the object is thawed
 
@@ -103,11 +118,16 @@ thaw_constructed-requires c =
       room = places_kept 1 e.stack.tasks s.tasks n.room n.frames c.requires.room;
     }
 
-pub returns-in-Thaw-clause-step : goal.returns-in-Thaw-clause-step
-returns-in-Thaw-clause-step c =
-    let d = c.args.definition.now in
-    let e = c.args.engine.now in
-    let s = c.next_construct_step.new.self in
-    let n = c.next_construct_step.ensures in
-    let on = goes_on d e c.requires.first s n.constructs n.construction _ (c.in-Some.ensures.step ∙ ap (λ (t : ConstructStep). making_of_code t ∷ (stack_construction s).steps) c.in-Thaw.is) in
-    on ∙ c.thaw_constructed.ensures.step
+pub returns-in-Thaw : goal.returns-in-Thaw
+returns-in-Thaw c = record {
+  step =
+      let d = c.args.definition.now in
+      let e = c.args.engine.now in
+      let s = c.next_construct_step.new.self in
+      let n = c.next_construct_step.ensures in
+      let on = goes_on d e c.requires.first s n.constructs n.construction _ (c.in-Some.ensures.step ∙ ap (λ (t : ConstructStep). making_of_code t ∷ (stack_construction s).steps) c.in-Thaw.is) in
+      on ∙ c.thaw_constructed.ensures.step;
+  quiet = search rules;
+  counted = search rules;
+  room = search rules;
+}

@@ -1,4 +1,4 @@
-use Rattle.std.proofs.Common.{◌≡◌, ◌∷◌, ◌∙◌, List, drop, sym, ap, subst, arith}
+use Rattle.std.proofs.Common.{◌≡◌, ◌∷◌, ◌∙◌, List, drop, sym, ap, subst, arith, rules}
 use Rattle.ui_machine.specs.Definition.{Definition}
 use Rattle.ui_machine.specs.Outcome.{Answer}
 use Rattle.ui_machine.specs.Rules.Construction.{constructed}
@@ -43,16 +43,21 @@ end_construction-requires c =
       counted = taken_alike d (record e { stack = s }) _ _ (λ o. omega arith) (taken_off d e s (constructing_task (constructed_of f)) first c.in-Some.ensures.begun c.requires.counted);
     }
 
-pub returns-clause-step : goal.returns-clause-step
-returns-clause-step c =
-    let d = c.args.definition.now in
-    let e = c.args.engine.now in
-    let hs = e.world.handlers.handlers in
-    let f = c.in-Constructing.rest in
-    let s = c.pop.new.self in
-    let own = construction_found e.stack f (sym c.in-Some.ensures.construction ∙ ap (λ (t : code.Task). construction_in t) c.in-Constructing.is) in
-    let first = c.in-Some.ensures.tasks d hs ∙ ap (λ (t : code.Task). task_of d hs t ∷ tasks_of d hs s) c.in-Constructing.is in
-    subst (λ (a : Answer Config). Leads c.end_construction.result a (config_of d c.end_construction.new.engine)) (sym (ends_off d e s f own (ap (λ (ts : List Task). drop 1 ts) first))) c.end_construction.ensures.step
+pub returns : goal.returns
+returns c = record {
+  step =
+      let d = c.args.definition.now in
+      let e = c.args.engine.now in
+      let hs = e.world.handlers.handlers in
+      let f = c.in-Constructing.rest in
+      let s = c.pop.new.self in
+      let own = construction_found e.stack f (sym c.in-Some.ensures.construction ∙ ap (λ (t : code.Task). construction_in t) c.in-Constructing.is) in
+      let first = c.in-Some.ensures.tasks d hs ∙ ap (λ (t : code.Task). task_of d hs t ∷ tasks_of d hs s) c.in-Constructing.is in
+      subst (λ (a : Answer Config). Leads c.end_construction.result a (config_of d c.end_construction.new.engine)) (sym (ends_off d e s f own (ap (λ (ts : List Task). drop 1 ts) first))) c.end_construction.ensures.step;
+  quiet = search rules;
+  counted = search rules;
+  room = search rules;
+}
 
 pub pop-requires : goal.pop-requires
 pop-requires c = let other = constructs_only c.args.engine.now.stack.tasks.items c.requires.first in record { program = other.program; emission = other.emission }

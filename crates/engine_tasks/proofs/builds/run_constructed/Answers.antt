@@ -1,7 +1,7 @@
 use Rattle.bytecode.specs.Computing.{registers_of}
 use Rattle.frames.specs.FrameView.{set_values}
 use Rattle.frames.proofs.FrameRegisters.{given_set, given_values}
-use Rattle.std.proofs.Common.{◌∷◌, ◌++◌, [], Some, List, ap, refl, sym, subst, ◌∙◌, arith, Option}
+use Rattle.std.proofs.Common.{◌∷◌, ◌++◌, [], Some, List, ap, refl, sym, subst, ◌∙◌, arith, Option, rules}
 use Rattle.ui_machine.specs.Definition.Values as values
 use Rattle.ui_machine.specs.Outcome.{Answer}
 use Rattle.ui_machine.specs.State.Config.{Config}
@@ -43,20 +43,22 @@ begin_program-requires c =
       names = subst (λ (vs : List values.Value). Each (NamesLiving (world_of e.world)) vs) (sym given) (c.requires.live, tt);
     }
 
-pub returns-clause-step : goal.returns-clause-step
-returns-clause-step c =
-    let d = c.args.definition.now in
-    let e = c.args.engine.now in
-    let own = first_constructed e in
-    let args : List values.Value = values.object (Some own.object) ∷ [] in
-    let filled = ap (λ (rs : List (Option Value)). registers_of rs) c.in_ok-push.ensures.items
-    ∙ ap (λ (rs : List (Option Value)). registers_of (rs ++ Some c.object_value.result ∷ [])) c.take-registers.ensures ∙ ap (λ (v : values.Value). Some v ∷ []) c.object_value.ensures
-    ∙ ap (λ id. Some (values.object (Some id)) ∷ []) c.first_object-object.ensures in
-    let given = given_values (registers_of c.push.new.self.items) args filled in
-    let started = begins_as d (agenda_of d e) (constructing_task own ∷ rest_of d e) e.counted e.counted (world_of e.world) (world_of e.world) c.args.program c.args.program (set_values (registers_of c.push.new.self.items)) args
-    (begins d e c.requires.first) refl refl refl given
-    ∙ sym (begins_before d (world_of e.world) c.args.program args (constructing_task own ∷ []) (rest_of d e) e.counted) in
-    subst (λ (a : Answer Config). Leads c.begin_program.result a (config_of d c.begin_program.new.engine)) started c.begin_program.ensures.step
-
-pub returns-clause-counted : goal.returns-clause-counted
-returns-clause-counted c = on_ok c.begin_program.result (λ kept. kept.at nothing c.requires.counted) c.begin_program.ensures.counted
+pub returns : goal.returns
+returns c = record {
+  step =
+      let d = c.args.definition.now in
+      let e = c.args.engine.now in
+      let own = first_constructed e in
+      let args : List values.Value = values.object (Some own.object) ∷ [] in
+      let filled = ap (λ (rs : List (Option Value)). registers_of rs) c.in_ok-push.ensures.items
+      ∙ ap (λ (rs : List (Option Value)). registers_of (rs ++ Some c.object_value.result ∷ [])) c.take-registers.ensures ∙ ap (λ (v : values.Value). Some v ∷ []) c.object_value.ensures
+      ∙ ap (λ id. Some (values.object (Some id)) ∷ []) c.first_object-object.ensures in
+      let given = given_values (registers_of c.push.new.self.items) args filled in
+      let started = begins_as d (agenda_of d e) (constructing_task own ∷ rest_of d e) e.counted e.counted (world_of e.world) (world_of e.world) c.args.program c.args.program (set_values (registers_of c.push.new.self.items)) args
+      (begins d e c.requires.first) refl refl refl given
+      ∙ sym (begins_before d (world_of e.world) c.args.program args (constructing_task own ∷ []) (rest_of d e) e.counted) in
+      subst (λ (a : Answer Config). Leads c.begin_program.result a (config_of d c.begin_program.new.engine)) started c.begin_program.ensures.acts.step;
+  quiet = search rules;
+  counted = on_ok c.begin_program.result (λ kept. kept.at nothing c.requires.counted) c.begin_program.ensures.acts.counted;
+  room = search rules;
+}

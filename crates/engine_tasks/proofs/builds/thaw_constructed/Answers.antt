@@ -26,17 +26,19 @@ push_task-requires-clause-may c =
     (keeps_change d e c.thaw-slots.new.self id frozen_less _ (frozen_alike d) c.thaw-slots.ensures.changes c.thaw-slots.ensures.beside)
     (lives_on e.world.table.objects id frozen_less _ c.thaw-slots.ensures.changes))
 
-pub returns-clause-step : goal.returns-clause-step
+pub returns : goal.returns
 unfolding thawing_made
-returns-clause-step c =
-    let d = c.args.definition.now in
-    let e = c.args.engine.now in
-    let is = c.first_object-object.ensures in
-    let agenda = c.push_task.ensures.agenda d ∙ ap (λ (ts : List Task). Thawing c.first_object-object.result.0 c.new.result ∷ ts) (begins d e c.requires.first) in
-    rw (c.push_task.ensures.world, c.push_task.ensures.same, agenda, sym is, c.thaw-slots.ensures.changes) (search rules)
-
-pub returns-clause-counted : goal.returns-clause-counted
-returns-clause-counted c =
-    let d = c.args.definition.now in
-    let e = c.args.engine.now in
-    (keeps_on d _ _ _ (keeps_change d e c.thaw-slots.new.self c.first_object-object.result.0 frozen_less _ (frozen_alike d) c.thaw-slots.ensures.changes c.thaw-slots.ensures.beside) (c.push_task.ensures.counted d)).at nothing c.requires.counted
+returns c = record {
+  step =
+      let d = c.args.definition.now in
+      let e = c.args.engine.now in
+      let is = c.first_object-object.ensures in
+      let agenda = c.push_task.ensures.agenda d ∙ ap (λ (ts : List Task). Thawing c.first_object-object.result.0 c.new.result ∷ ts) (begins d e c.requires.first) in
+      rw (c.push_task.ensures.world, c.push_task.ensures.same, agenda, sym is, c.thaw-slots.ensures.changes) (search rules);
+  quiet = search rules;
+  counted =
+      let d = c.args.definition.now in
+      let e = c.args.engine.now in
+      (keeps_on d _ _ _ (keeps_change d e c.thaw-slots.new.self c.first_object-object.result.0 frozen_less _ (frozen_alike d) c.thaw-slots.ensures.changes c.thaw-slots.ensures.beside) (c.push_task.ensures.counted d)).at nothing c.requires.counted;
+  room = search rules;
+}

@@ -1,4 +1,4 @@
-use Rattle.std.proofs.Common.{◌∙◌, sym, ap, subst, Some, None}
+use Rattle.std.proofs.Common.{◌∙◌, sym, ap, subst, Some, None, rules}
 use Rattle.std.specs.Option.{option_map}
 use Rattle.ui_machine.specs.Outcome.{Answer, ◌>>=◌}
 use Rattle.ui_machine.specs.State.Config.{Left}
@@ -14,10 +14,15 @@ use Rattle.engine_world.specs.Able.{Leads}
 use Rattle.engine_world.proofs.Named.{names_as}
 use Rattle.engine_tasks.proofs.calls.answer.Goals as goal
 
-pub returns-then-not-is_asked-clause-step : goal.returns-then-not-is_asked-clause-step
-returns-then-not-is_asked-clause-step c =
-    let w = world_of c.args.engine.now.world in
-    c.pass_over.ensures.closed (sym c.is_asked.ensures ∙ c.if-not-is_asked.true) (Some (reply_of w (call_of c.args.call) (option_map value_view c.args.answer)))
+pub returns-then-not-is_asked : goal.returns-then-not-is_asked
+returns-then-not-is_asked c = record {
+  step =
+      let w = world_of c.args.engine.now.world in
+      c.pass_over.ensures.closed (sym c.is_asked.ensures ∙ c.if-not-is_asked.true) (Some (reply_of w (call_of c.args.call) (option_map value_view c.args.answer)));
+  quiet = search rules;
+  counted = search rules;
+  room = search rules;
+}
 
 pub pass_over-requires-clause-able : goal.pass_over-requires-clause-able
 pass_over-requires-clause-able c =
@@ -63,13 +68,18 @@ conclude-requires-clause-names c =
     let is = asks d w call rest answer (sym c.is_asked.ensures ∙ c.if-not-is_asked.false) in
     names_as (ap (left e.counted) (is ∙ ap (λ a. a >>= goes_on_so d w call rest) c.in_ok-conclusion.ensures)) c.requires.names
 
-pub returns-clause-step : goal.returns-clause-step
-returns-clause-step c =
-    let d = c.args.definition.now in
-    let e = c.args.engine.now in
-    let w = world_of e.world in
-    let call = call_of c.args.call in
-    let rest = agenda_of d e in
-    let answer = option_map value_view c.args.answer in
-    let is = asks d w call rest answer (sym c.is_asked.ensures ∙ c.if-not-is_asked.false) ∙ ap (λ a. a >>= goes_on_so d w call rest) c.in_ok-conclusion.ensures in
-    subst (λ (a : Answer Left). Leads c.conclude.result (left e.counted a) (config_of d c.conclude.new.engine)) (sym is) c.conclude.ensures.step
+pub returns : goal.returns
+returns c = record {
+  step =
+      let d = c.args.definition.now in
+      let e = c.args.engine.now in
+      let w = world_of e.world in
+      let call = call_of c.args.call in
+      let rest = agenda_of d e in
+      let answer = option_map value_view c.args.answer in
+      let is = asks d w call rest answer (sym c.is_asked.ensures ∙ c.if-not-is_asked.false) ∙ ap (λ a. a >>= goes_on_so d w call rest) c.in_ok-conclusion.ensures in
+      subst (λ (a : Answer Left). Leads c.conclude.result (left e.counted a) (config_of d c.conclude.new.engine)) (sym is) c.conclude.ensures.step;
+  quiet = search rules;
+  counted = search rules;
+  room = search rules;
+}

@@ -1,4 +1,4 @@
-use Rattle.std.proofs.Common.{◌∙◌, sym, ap, subst, None}
+use Rattle.std.proofs.Common.{◌∙◌, sym, ap, subst, None, rules}
 use Rattle.ui_machine.specs.Outcome.{Answer, ◌>>=◌}
 use Rattle.ui_machine.specs.State.Config.{Left}
 use Rattle.ui_machine.specs.Steps.{left}
@@ -42,15 +42,20 @@ conclude-requires-clause-names c =
     let is = is_closed d w call rest None (not_asked d w call rest (in_left e.counted _ c.requires.able)) in
     names_as (ap (left e.counted) (is ∙ ap (λ a. a >>= goes_on_so d w call rest) c.in_ok-conclusion.ensures)) c.requires.names
 
-pub returns-clause-step : goal.returns-clause-step
-returns-clause-step c =
-    let d = c.args.definition.now in
-    let e = c.args.engine.now in
-    let w = world_of e.world in
-    let call = call_of c.args.call in
-    let rest = agenda_of d e in
-    let is = is_closed d w call rest None (not_asked d w call rest (in_left e.counted _ c.requires.able)) ∙ ap (λ a. a >>= goes_on_so d w call rest) c.in_ok-conclusion.ensures in
-    subst (λ (a : Answer Left). Leads c.conclude.result (left e.counted a) (config_of d c.conclude.new.engine)) (sym is) c.conclude.ensures.step
+pub returns-clause-executes : goal.returns-clause-executes
+returns-clause-executes c = record {
+  step =
+      let d = c.args.definition.now in
+      let e = c.args.engine.now in
+      let w = world_of e.world in
+      let call = call_of c.args.call in
+      let rest = agenda_of d e in
+      let is = is_closed d w call rest None (not_asked d w call rest (in_left e.counted _ c.requires.able)) ∙ ap (λ a. a >>= goes_on_so d w call rest) c.in_ok-conclusion.ensures in
+      subst (λ (a : Answer Left). Leads c.conclude.result (left e.counted a) (config_of d c.conclude.new.engine)) (sym is) c.conclude.ensures.step;
+  quiet = search rules;
+  counted = search rules;
+  room = search rules;
+}
 
 pub returns-clause-closed : goal.returns-clause-closed
 returns-clause-closed c so reply =

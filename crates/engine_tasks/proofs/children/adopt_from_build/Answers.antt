@@ -1,4 +1,4 @@
-use Rattle.std.proofs.Common.{suc, List, arith, ap, ℕ, Ok, subst, sym, ◌≡◌, ◌∙◌, ◌∷◌, ◌<◌, ◌≤◌}
+use Rattle.std.proofs.Common.{suc, List, arith, ap, ℕ, Ok, subst, sym, ◌≡◌, ◌∙◌, ◌∷◌, ◌<◌, ◌≤◌, rules}
 use Rattle.ui_machine.specs.Rules.Build.{building_child}
 use Rattle.ui_machine.specs.State.Config.{World}
 use Rattle.ui_machine.specs.State.Tasks.{Item, Building, Task}
@@ -58,31 +58,29 @@ join-requires c =
       counted = still_counted d c.args.engine.now c.push_task.new.engine (c.push_task.ensures.counted d) c.requires.counted;
     }
 
-pub returns-clause-step : goal.returns-clause-step
-returns-clause-step c =
-    let d = c.args.definition.now in
-    let e = c.args.engine.now in
-    let w = world_of e.world in
-    let rest = agenda_of d e in
-    let n = e.counted in
-    let new = world_of c.join.new.engine.world in
-    let kin = kin_of c.kin_at-kin.result in
-    let items = build_from d (suc c.args.place.0) c.args.forwards in
-    let one : c.next_place.result.0 ≡ suc c.args.place.0 = c.next_place.ensures in
-    let pushed = c.push_task.ensures.agenda d ∙ ap (λ place. Building (build_from d place c.args.forwards) ∷ rest) one in
-    let agenda = same_agenda d c.push_task.new.engine c.join.new.engine c.join.ensures.same.0 c.join.ensures.handlers ∙ pushed in
-    let counted = c.join.ensures.same.1 ∙ c.push_task.ensures.same in
-    let goes = subst (λ (v : World). Leads c.join.result (joined d v kin.parent kin.child) new) c.push_task.ensures.world c.join.ensures.joins in
-    let a = uncounted rest n (building_child d w c.args.place.0 items) in
-    subst (λ (ts : List Task). Leads c.join.result a (record { world = new; agenda = ts; counted = c.join.new.engine.counted })) (sym agenda)
-    (subst (λ k. Leads c.join.result a (record { world = new; agenda = Building items ∷ rest; counted = k })) (sym counted)
-    (joins_then d w c.args.place.0 items rest n kin c.join.result new c.kin_at-kin.ensures goes))
-
-pub returns-clause-quiet : goal.returns-clause-quiet
-returns-clause-quiet c =
-    subst (λ (v : World). OnErr c.join.result (IsQuiet v (world_of c.join.new.engine.world))) c.push_task.ensures.world c.join.ensures.quiet
-
-pub returns-clause-counted : goal.returns-clause-counted
-returns-clause-counted c =
-    let d = c.args.definition.now in
-    on_ok c.join.result (λ k. keeps_on d _ _ _ (c.push_task.ensures.counted d) k) c.join.ensures.counted
+pub returns : goal.returns
+returns c = record {
+  step =
+      let d = c.args.definition.now in
+      let e = c.args.engine.now in
+      let w = world_of e.world in
+      let rest = agenda_of d e in
+      let n = e.counted in
+      let new = world_of c.join.new.engine.world in
+      let kin = kin_of c.kin_at-kin.result in
+      let items = build_from d (suc c.args.place.0) c.args.forwards in
+      let one : c.next_place.result.0 ≡ suc c.args.place.0 = c.next_place.ensures in
+      let pushed = c.push_task.ensures.agenda d ∙ ap (λ place. Building (build_from d place c.args.forwards) ∷ rest) one in
+      let agenda = same_agenda d c.push_task.new.engine c.join.new.engine c.join.ensures.same.0 c.join.ensures.handlers ∙ pushed in
+      let counted = c.join.ensures.same.1 ∙ c.push_task.ensures.same in
+      let goes = subst (λ (v : World). Leads c.join.result (joined d v kin.parent kin.child) new) c.push_task.ensures.world c.join.ensures.joins in
+      let a = uncounted rest n (building_child d w c.args.place.0 items) in
+      subst (λ (ts : List Task). Leads c.join.result a (record { world = new; agenda = ts; counted = c.join.new.engine.counted })) (sym agenda)
+      (subst (λ k. Leads c.join.result a (record { world = new; agenda = Building items ∷ rest; counted = k })) (sym counted)
+      (joins_then d w c.args.place.0 items rest n kin c.join.result new c.kin_at-kin.ensures goes));
+  quiet = subst (λ (v : World). OnErr c.join.result (IsQuiet v (world_of c.join.new.engine.world))) c.push_task.ensures.world c.join.ensures.quiet;
+  counted =
+      let d = c.args.definition.now in
+      on_ok c.join.result (λ k. keeps_on d _ _ _ (c.push_task.ensures.counted d) k) c.join.ensures.counted;
+  room = search rules;
+}

@@ -1,4 +1,4 @@
-use Rattle.std.proofs.Common.{[], ℕ, suc, List, ◌∷◌, IsSome, option_map, sym, ap, subst, ◌∙◌, arith}
+use Rattle.std.proofs.Common.{[], ℕ, suc, List, ◌∷◌, IsSome, option_map, sym, ap, subst, ◌∙◌, arith, rules}
 use Rattle.ui_machine.specs.Definition.Types.{GType}
 use Rattle.ui_machine.specs.Definition.Signals.{Signal}
 use Rattle.ui_machine.specs.Output.Lines as lines
@@ -87,42 +87,44 @@ start_emission-requires c =
           (subst (λ i. IsSome (living e.world.table.objects i)) (sym same_object) lives));
     }
 
-pub returns-clause-step : goal.returns-clause-step
-returns-clause-step c =
-    let d = c.args.definition.now in
-    let e = c.args.engine.now in
-    let f = c.count.new.engine in
-    let m = c.args.emission in
-    let is = c.count.ensures in
-    let w = world_of f.world in
-    let class = c.class_of-class.result in
-    let rest = agenda_of d e in
-    let n = e.counted in
-    let last = f.world.handlers.last in
-    let s = declared_view c.in-Some.declared in
-    let declared = sym c.signal.ensures ∙ ap (option_map declared_view) c.in-Some.is in
-    let able = able_as (ap (λ (h : Engine). beginning_emission d (world_of h.world) (new_of m)) (sym is)) (in_counted rest n _ c.requires.able).1 in
-    let fit = begin_fit d w (new_of m) class c.class_of-class.ensures s declared able in
-    let g = λ (s : Signal). walk_for last s.accumulator (planned d class m.object.0 m.signal (new_of m).detail s) in
-    let found = ap (option_map (λ (x : Emission). begun x last)) (sym c.in-Some-emission.is) ∙ c.emission.ensures last in
-    let walk = begun_as (λ (x : Emission). begun x last) g c.in-Some-emission.planned _ s found declared in
-    let rises = subst (λ (h : Engine). Numbered 0 h.world.handlers.handlers h.world.handlers.last) (sym is) c.last-last.ensures.rises in
-    let starts_so = beginning_starts d w rises m class c.class_of-class.ensures s declared fit (begun c.in-Some-emission.planned last) walk in
-    let line = c.in_ok-line.ensures ∙ ap (λ (types : List GType). text_of_line types (lines.emit m.object.0 s.name (new_of m).detail (new_of m).args)) c.types-types.ensures.types in
-    let world = c.in_ok-start_emission.ensures.world ∙ ap (λ (text : List ℕ). with_line text w) line in
-    let agenda = c.in_ok-start_emission.ensures.agenda d
-    ∙ ap (λ (ts : Transfers). Emitting (emission_of (begun c.in-Some-emission.planned last) m.args.items m.by_event) (entries_to_come (begun c.in-Some-emission.planned last) f.world.handlers.handlers ts) ∷ agenda_of d f) c.new-transfers.ensures
-    ∙ ap (λ (ts : List Task). Emitting (emission_of (begun c.in-Some-emission.planned last) m.args.items m.by_event) (entries_to_come (begun c.in-Some-emission.planned last) f.world.handlers.handlers (at.Due [])) ∷ ts) (ap (λ (h : Engine). agenda_of d h) is) in
-    ap (λ (h : Engine). counted rest n (beginning_emission d (world_of h.world) (new_of m))) (sym is)
-    ∙ counted_on rest n _ (in_counted rest n _ c.requires.able).0
-    ∙ left_with (world_of c.start_emission.new.engine.world) (agenda_of d c.start_emission.new.engine) (suc n) c.start_emission.new.engine.counted rest (beginning_emission d w (new_of m)) _ _ starts_so world agenda
-    (c.start_emission.ensures.same ∙ ap (λ (h : Engine). h.counted) is)
-
-pub returns-clause-counted : goal.returns-clause-counted
-returns-clause-counted c =
-    let d = c.args.definition.now in
-    let e = c.args.engine.now in
-    let is = c.count.ensures in
-    let kept = keeps_same d e c.count.new.engine (ap (λ (f : Engine). f.world.table) is) (ap (λ (f : Engine). f.world.weak) is) (ap (λ (f : Engine). f.links) is) (subst (λ (f : Engine). PassesGot d f) (sym is)) (ap (λ (f : Engine). f.world.context) is) (ap (λ (f : Engine). f.world.builder) is) (ap (λ (f : Engine). f.stack) is)
-    (ap (λ (f : Engine). f.world.handlers) is) in
-    c.in_ok-start_emission.ensures.counted d (λ o. same o c.args.emission.object.0) (taken_alike d c.count.new.engine _ _ (λ o. omega arith) (kept.at _ c.requires.counted))
+pub returns : goal.returns
+returns c = record {
+  step =
+      let d = c.args.definition.now in
+      let e = c.args.engine.now in
+      let f = c.count.new.engine in
+      let m = c.args.emission in
+      let is = c.count.ensures in
+      let w = world_of f.world in
+      let class = c.class_of-class.result in
+      let rest = agenda_of d e in
+      let n = e.counted in
+      let last = f.world.handlers.last in
+      let s = declared_view c.in-Some.declared in
+      let declared = sym c.signal.ensures ∙ ap (option_map declared_view) c.in-Some.is in
+      let able = able_as (ap (λ (h : Engine). beginning_emission d (world_of h.world) (new_of m)) (sym is)) (in_counted rest n _ c.requires.able).1 in
+      let fit = begin_fit d w (new_of m) class c.class_of-class.ensures s declared able in
+      let g = λ (s : Signal). walk_for last s.accumulator (planned d class m.object.0 m.signal (new_of m).detail s) in
+      let found = ap (option_map (λ (x : Emission). begun x last)) (sym c.in-Some-emission.is) ∙ c.emission.ensures last in
+      let walk = begun_as (λ (x : Emission). begun x last) g c.in-Some-emission.planned _ s found declared in
+      let rises = subst (λ (h : Engine). Numbered 0 h.world.handlers.handlers h.world.handlers.last) (sym is) c.last-last.ensures.rises in
+      let starts_so = beginning_starts d w rises m class c.class_of-class.ensures s declared fit (begun c.in-Some-emission.planned last) walk in
+      let line = c.in_ok-line.ensures ∙ ap (λ (types : List GType). text_of_line types (lines.emit m.object.0 s.name (new_of m).detail (new_of m).args)) c.types-types.ensures.types in
+      let world = c.in_ok-start_emission.ensures.world ∙ ap (λ (text : List ℕ). with_line text w) line in
+      let agenda = c.in_ok-start_emission.ensures.agenda d
+      ∙ ap (λ (ts : Transfers). Emitting (emission_of (begun c.in-Some-emission.planned last) m.args.items m.by_event) (entries_to_come (begun c.in-Some-emission.planned last) f.world.handlers.handlers ts) ∷ agenda_of d f) c.new-transfers.ensures
+      ∙ ap (λ (ts : List Task). Emitting (emission_of (begun c.in-Some-emission.planned last) m.args.items m.by_event) (entries_to_come (begun c.in-Some-emission.planned last) f.world.handlers.handlers (at.Due [])) ∷ ts) (ap (λ (h : Engine). agenda_of d h) is) in
+      ap (λ (h : Engine). counted rest n (beginning_emission d (world_of h.world) (new_of m))) (sym is)
+      ∙ counted_on rest n _ (in_counted rest n _ c.requires.able).0
+      ∙ left_with (world_of c.start_emission.new.engine.world) (agenda_of d c.start_emission.new.engine) (suc n) c.start_emission.new.engine.counted rest (beginning_emission d w (new_of m)) _ _ starts_so world agenda
+      (c.start_emission.ensures.same ∙ ap (λ (h : Engine). h.counted) is);
+  quiet = search rules;
+  counted =
+      let d = c.args.definition.now in
+      let e = c.args.engine.now in
+      let is = c.count.ensures in
+      let kept = keeps_same d e c.count.new.engine (ap (λ (f : Engine). f.world.table) is) (ap (λ (f : Engine). f.world.weak) is) (ap (λ (f : Engine). f.links) is) (subst (λ (f : Engine). PassesGot d f) (sym is)) (ap (λ (f : Engine). f.world.context) is) (ap (λ (f : Engine). f.world.builder) is) (ap (λ (f : Engine). f.stack) is)
+      (ap (λ (f : Engine). f.world.handlers) is) in
+      c.in_ok-start_emission.ensures.counted d (λ o. same o c.args.emission.object.0) (taken_alike d c.count.new.engine _ _ (λ o. omega arith) (kept.at _ c.requires.counted));
+  room = search rules;
+}

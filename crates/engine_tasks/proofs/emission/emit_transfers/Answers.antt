@@ -1,4 +1,4 @@
-use Rattle.std.proofs.Common.{◌∙◌, option_map, sym, ap, subst}
+use Rattle.std.proofs.Common.{◌∙◌, option_map, sym, ap, subst, rules}
 use Rattle.ui_machine.specs.Outcome.{Answer}
 use Rattle.ui_machine.specs.State.Config.{Config}
 use Rattle.signal_core.specs.Emission.{Walk, next_step}
@@ -34,11 +34,16 @@ take_transfer-requires c =
       room = places_kept 1 e.stack.tasks s.tasks n.room n.frames c.requires.room;
     }
 
-pub returns-in-Some-clause-step : goal.returns-in-Some-clause-step
-returns-in-Some-clause-step c =
-    let n = c.next_transfer.ensures in
-    transfer_due c.args.definition.now c.args.engine.now c.requires.first c.next_transfer.new.self n.emits n.emission n.later c.in-Some.due c.in-Some.ensures.next
-    ∙ c.take_transfer.ensures.step
+pub returns-in-Some : goal.returns-in-Some
+returns-in-Some c = record {
+  step =
+      let n = c.next_transfer.ensures in
+      transfer_due c.args.definition.now c.args.engine.now c.requires.first c.next_transfer.new.self n.emits n.emission n.later c.in-Some.due c.in-Some.ensures.next
+      ∙ c.take_transfer.ensures.step;
+  quiet = search rules;
+  counted = search rules;
+  room = search rules;
+}
 
 -- nothing is left
 
@@ -58,19 +63,24 @@ end_first-requires c =
       counted = counts_on d e c.requires.first s n.emits n.emission n.later c.in_default.ensures.next.0 c.in_default.ensures.next.1 u m.emits m.emission c.requires.counted;
     }
 
-pub returns-in_default-next_turn-clause-step : goal.returns-in_default-next_turn-clause-step
-returns-in_default-next_turn-clause-step c =
-    let d = c.args.definition.now in
-    let e = c.args.engine.now in
-    let s = c.next_transfer.new.self in
-    let n = c.next_transfer.ensures in
-    let u = c.next_turn.new.self in
-    let m = c.next_turn.ensures in
-    let hs = e.world.handlers.handlers in
-    let none = no_due (first_emitted e).walk hs (ap (λ (x : Walk). option_map (λ step. step.turn) (next_step x hs)) (sym (walk_past d e c.requires.first s n.emits n.emission n.later)) ∙ sym m.turn ∙ c.in_default-next_turn.is) in
-    subst (λ (a : Answer Config). Leads c.end_first.result a (config_of d c.end_first.new.engine))
-    (sym (ends_on d e c.requires.first s n.emits n.emission n.later c.in_default.ensures.next.0 c.in_default.ensures.next.1 u m.emits m.emission e.world.handlers.last c.last-last.ensures.rises none))
-    c.end_first.ensures.step
+pub returns-in_default-next_turn : goal.returns-in_default-next_turn
+returns-in_default-next_turn c = record {
+  step =
+      let d = c.args.definition.now in
+      let e = c.args.engine.now in
+      let s = c.next_transfer.new.self in
+      let n = c.next_transfer.ensures in
+      let u = c.next_turn.new.self in
+      let m = c.next_turn.ensures in
+      let hs = e.world.handlers.handlers in
+      let none = no_due (first_emitted e).walk hs (ap (λ (x : Walk). option_map (λ step. step.turn) (next_step x hs)) (sym (walk_past d e c.requires.first s n.emits n.emission n.later)) ∙ sym m.turn ∙ c.in_default-next_turn.is) in
+      subst (λ (a : Answer Config). Leads c.end_first.result a (config_of d c.end_first.new.engine))
+      (sym (ends_on d e c.requires.first s n.emits n.emission n.later c.in_default.ensures.next.0 c.in_default.ensures.next.1 u m.emits m.emission e.world.handlers.last c.last-last.ensures.rises none))
+      c.end_first.ensures.step;
+  quiet = search rules;
+  counted = search rules;
+  room = search rules;
+}
 
 -- a program's turn
 
@@ -98,19 +108,24 @@ take_turn-requires c =
       room = places_kept 1 s.tasks u.tasks m.room m.frames (places_kept 1 e.stack.tasks s.tasks n.room n.frames c.requires.room);
     }
 
-pub returns-clause-step : goal.returns-clause-step
-returns-clause-step c =
-    let d = c.args.definition.now in
-    let e = c.args.engine.now in
-    let s = c.next_transfer.new.self in
-    let n = c.next_transfer.ensures in
-    let u = c.next_turn.new.self in
-    let m = c.next_turn.ensures in
-    let w = world_of e.world in
-    let hs = e.world.handlers.handlers in
-    let last = e.world.handlers.last in
-    let rises = c.last-last.ensures.rises in
-    let next = due_of (first_emitted e).walk hs c.in-Some-next_turn.turn (ap (λ (x : Walk). option_map (λ step. step.turn) (next_step x hs)) (sym (walk_past d e c.requires.first s n.emits n.emission n.later)) ∙ sym m.turn ∙ c.in-Some-next_turn.is) in
-    let plain = behind_plain w last rises (first_emitted e).walk c.requires.behind next.0 next.1 in
-    let turns = turns_on d e c.requires.first s n.emits n.emission n.later c.in_default.ensures.next.0 c.in_default.ensures.next.1 u m.emits m.emission last rises next.0 next.1 plain c.in-Some-next_turn.turn next.2 in
-    subst (λ (a : Answer Config). Leads c.take_turn.result a (config_of d c.take_turn.new.engine)) (sym turns) c.take_turn.ensures.step
+pub returns : goal.returns
+returns c = record {
+  step =
+      let d = c.args.definition.now in
+      let e = c.args.engine.now in
+      let s = c.next_transfer.new.self in
+      let n = c.next_transfer.ensures in
+      let u = c.next_turn.new.self in
+      let m = c.next_turn.ensures in
+      let w = world_of e.world in
+      let hs = e.world.handlers.handlers in
+      let last = e.world.handlers.last in
+      let rises = c.last-last.ensures.rises in
+      let next = due_of (first_emitted e).walk hs c.in-Some-next_turn.turn (ap (λ (x : Walk). option_map (λ step. step.turn) (next_step x hs)) (sym (walk_past d e c.requires.first s n.emits n.emission n.later)) ∙ sym m.turn ∙ c.in-Some-next_turn.is) in
+      let plain = behind_plain w last rises (first_emitted e).walk c.requires.behind next.0 next.1 in
+      let turns = turns_on d e c.requires.first s n.emits n.emission n.later c.in_default.ensures.next.0 c.in_default.ensures.next.1 u m.emits m.emission last rises next.0 next.1 plain c.in-Some-next_turn.turn next.2 in
+      subst (λ (a : Answer Config). Leads c.take_turn.result a (config_of d c.take_turn.new.engine)) (sym turns) c.take_turn.ensures.step;
+  quiet = search rules;
+  counted = search rules;
+  room = search rules;
+}

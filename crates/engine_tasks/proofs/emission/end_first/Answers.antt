@@ -1,4 +1,4 @@
-use Rattle.std.proofs.Common.{◌≡◌, ◌∙◌, [], List, refl, sym, ap, subst, arith}
+use Rattle.std.proofs.Common.{◌≡◌, ◌∙◌, [], List, refl, sym, ap, subst, arith, rules}
 use Rattle.std.specs.Prelude.{OnErr}
 use Rattle.ui_machine.specs.Definition.{Definition}
 use Rattle.ui_machine.specs.Outcome.{Answer}
@@ -62,15 +62,17 @@ end_emission-requires c =
           (c.drop_emission-rest.ensures.counted d nothing c.requires.counted);
     }
 
-pub returns-clause-step : goal.returns-clause-step
-returns-clause-step c =
-    let d = c.args.definition.now in
-    let e = c.args.engine.now in
-    let m = c.drop_emission-rest.new.engine in
-    subst (λ (a : Answer Config). Leads c.end_emission.result a (config_of d c.end_emission.new.engine))
-    (sym (ends_off d e m c.drop_emission-rest.result c.drop_emission-rest.ensures.ended (c.drop_emission-rest.ensures.agenda d) c.drop_emission-rest.ensures.only)) c.end_emission.ensures.step
-
-pub returns-clause-quiet : goal.returns-clause-quiet
-returns-clause-quiet c =
-    subst (λ (w : World). OnErr c.end_emission.result (IsQuiet w (world_of c.end_emission.new.engine.world))) (tasks_world c.args.engine.now c.drop_emission-rest.new.engine c.drop_emission-rest.ensures.only)
-    c.end_emission.ensures.quiet
+pub returns : goal.returns
+returns c = record {
+  step =
+      let d = c.args.definition.now in
+      let e = c.args.engine.now in
+      let m = c.drop_emission-rest.new.engine in
+      subst (λ (a : Answer Config). Leads c.end_emission.result a (config_of d c.end_emission.new.engine))
+      (sym (ends_off d e m c.drop_emission-rest.result c.drop_emission-rest.ensures.ended (c.drop_emission-rest.ensures.agenda d) c.drop_emission-rest.ensures.only)) c.end_emission.ensures.step;
+  quiet =
+      subst (λ (w : World). OnErr c.end_emission.result (IsQuiet w (world_of c.end_emission.new.engine.world))) (tasks_world c.args.engine.now c.drop_emission-rest.new.engine c.drop_emission-rest.ensures.only)
+      c.end_emission.ensures.quiet;
+  counted = search rules;
+  room = search rules;
+}

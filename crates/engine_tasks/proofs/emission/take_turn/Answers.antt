@@ -1,4 +1,4 @@
-use Rattle.std.proofs.Common.{◌∙◌, List, sym, ap, subst, arith}
+use Rattle.std.proofs.Common.{◌∙◌, List, sym, ap, subst, arith, rules}
 use Rattle.ui_machine.specs.Definition.Values as values
 use Rattle.ui_machine.specs.Outcome.{Answer}
 use Rattle.ui_machine.specs.State.Config.{Config}
@@ -47,23 +47,25 @@ begin_program-requires c =
       room = subst (λ (x : Engine). HasRoom 1 x) (sym same) c.requires.room;
     }
 
-pub returns-clause-step : goal.returns-clause-step
-returns-clause-step c =
-    let d = c.args.definition.now in
-    let e = c.args.engine.now in
-    let b = c.turn_registers.new.engine in
-    let same = c.turn_registers.ensures.same in
-    let own = emission_found e.stack c.in-Some.emission.now (sym c.in-Some.ensures) in
-    let m = emission_view (first_emitted e) in
-    let runs = c.new-runs.result in
-    let rs = registers_of c.in_ok-registers.registers.items in
-    let given = given_values rs _ c.in_ok-registers.ensures.given ∙ c.new-runs.ensures.given m (ap (λ (x : Emitted). x.walk.object) own ∙ sym c.object.ensures) in
-    subst (λ (a : Answer Config). Leads c.begin_program.result a (config_of d c.begin_program.new.engine))
-    (begins_as d (agenda_of d b) _ b.counted e.counted (world_of b.world) (world_of e.world) runs.program _ (set_values rs) _
-    (ap (λ (x : Engine). agenda_of d x) same) (ap (λ (x : Engine). x.counted) same) (ap (λ (x : Engine). world_of x.world) same) c.new-runs.ensures.program given)
-    c.begin_program.ensures.step
-
-pub returns-clause-counted : goal.returns-clause-counted
-returns-clause-counted c =
-    let d = c.args.definition.now in
-    on_ok c.begin_program.result (λ kept. kept.at nothing (subst (λ (x : Engine). Counts d nothing x) (sym c.turn_registers.ensures.same) c.requires.counted)) c.begin_program.ensures.counted
+pub returns : goal.returns
+returns c = record {
+  step =
+      let d = c.args.definition.now in
+      let e = c.args.engine.now in
+      let b = c.turn_registers.new.engine in
+      let same = c.turn_registers.ensures.same in
+      let own = emission_found e.stack c.in-Some.emission.now (sym c.in-Some.ensures) in
+      let m = emission_view (first_emitted e) in
+      let runs = c.new-runs.result in
+      let rs = registers_of c.in_ok-registers.registers.items in
+      let given = given_values rs _ c.in_ok-registers.ensures.given ∙ c.new-runs.ensures.given m (ap (λ (x : Emitted). x.walk.object) own ∙ sym c.object.ensures) in
+      subst (λ (a : Answer Config). Leads c.begin_program.result a (config_of d c.begin_program.new.engine))
+      (begins_as d (agenda_of d b) _ b.counted e.counted (world_of b.world) (world_of e.world) runs.program _ (set_values rs) _
+      (ap (λ (x : Engine). agenda_of d x) same) (ap (λ (x : Engine). x.counted) same) (ap (λ (x : Engine). world_of x.world) same) c.new-runs.ensures.program given)
+      c.begin_program.ensures.acts.step;
+  quiet = search rules;
+  counted =
+      let d = c.args.definition.now in
+      on_ok c.begin_program.result (λ kept. kept.at nothing (subst (λ (x : Engine). Counts d nothing x) (sym c.turn_registers.ensures.same) c.requires.counted)) c.begin_program.ensures.acts.counted;
+  room = search rules;
+}

@@ -1,4 +1,4 @@
-use Rattle.std.proofs.Common.{◌∷◌, true, ap}
+use Rattle.std.proofs.Common.{◌∷◌, true, ap, rules}
 use Rattle.ui_machine.specs.State.Tasks.{Beginning}
 use Rattle.ui_machine.specs.Steps.{uncounted}
 use Rattle.engine_world.specs.View.{world_of}
@@ -46,12 +46,14 @@ push_task-requires-clause-may c =
     let names = names_there _ (record { world = w; agenda = Beginning (new_of new) ∷ agenda_of d e; counted = e.counted }) (ap (uncounted (agenda_of d e) e.counted) is) c.requires.names in
     pushes_living d e _ c.requires.counted (λ d' o. emission_lives w o (new_of new) names.0)
 
-pub returns-clause-step : goal.returns-clause-step
-returns-clause-step c =
-    let d = c.args.definition.now in
-    let e = c.args.engine.now in
-    let is = emits d (world_of e.world) c.args.place.0 c.args.signal _ _ (agenda_of d e) e.counted _ c.held_object-object.ensures _ c.in_ok-detail.ensures _ c.in_ok-add_operands.ensures in
-    left_with (world_of c.push_task.new.engine.world) (agenda_of d c.push_task.new.engine) e.counted c.push_task.new.engine.counted (agenda_of d e) _ _ _ is c.push_task.ensures.world (c.push_task.ensures.agenda d) c.push_task.ensures.same
-
-pub returns-clause-counted : goal.returns-clause-counted
-returns-clause-counted c = c.push_task.ensures.counted c.args.definition.now
+pub returns : goal.returns
+returns c = record {
+  step =
+      let d = c.args.definition.now in
+      let e = c.args.engine.now in
+      let is = emits d (world_of e.world) c.args.place.0 c.args.signal _ _ (agenda_of d e) e.counted _ c.held_object-object.ensures _ c.in_ok-detail.ensures _ c.in_ok-add_operands.ensures in
+      left_with (world_of c.push_task.new.engine.world) (agenda_of d c.push_task.new.engine) e.counted c.push_task.new.engine.counted (agenda_of d e) _ _ _ is c.push_task.ensures.world (c.push_task.ensures.agenda d) c.push_task.ensures.same;
+  quiet = search rules;
+  counted = c.push_task.ensures.counted c.args.definition.now;
+  room = search rules;
+}

@@ -1,4 +1,5 @@
-use Rattle.std.proofs.Common.{◌≡◌, ℕ, ◌+◌, List, map, refl, ap, arith}
+use Rattle.std.proofs.Common.{◌≡◌, ℕ, ◌+◌, List, map, refl, ap, arith, rules}
+use Rattle.ui_machine.specs.Rules.Events.{release_from_event}
 use Rattle.ui_machine.specs.Seq.{read, total}
 use Rattle.ui_machine.specs.State.Config.{BuilderEntry, builder_entry, released, unbuilt}
 use Rattle.ui_machine.specs.State.References.{in_held, same}
@@ -23,25 +24,31 @@ let_go_any-requires c = record {
       );
 }
 
-pub returns-clause-counted : goal.returns-clause-counted
-returns-clause-counted c =
-    let d = c.args.definition.now in
-    let e = c.args.engine.now in
-    let id = c.held_object-object.result.0 in
-    let place = c.args.place.0 in
-    let b = map held_of e.world.builder.items in
-    let n = map held_of c.set_builder_entry.new.builder.items in
-    let a = agenda_of d e in
-    let f : Engine = record e { world = record e.world { table = c.let_go_any.new.table; builder = c.set_builder_entry.new.builder } } in
-    let less : (o : ℕ) → total (in_held o) n + same o id ≡ total (in_held o) b =
-    λ o. omega (
-      arith,
-      ap (λ (hs : List BuilderEntry). total (in_held o) hs) c.in_ok-set_builder_entry.ensures,
-      total-exchanged (in_held o) unbuilt b place released refl,
-      holds_built o (read unbuilt b place) id c.held_object-object.ensures,
-    ) in
-    keeps_on d e f (record e { world = c.say.new.self })
-    (keeps_by d e f refl refl (λ g. g) refl (stays d e f refl refl) (λ taken _ h.
-    holder_less d taken e.world.table c.let_go_any.new.table b n a a (λ o. same o id) c.let_go_any.ensures.only c.let_go_any.ensures.counts
-    (λ o. omega (arith, less o)) h))
-    (keeps_said d f c.say.new.self c.say.ensures.beside)
+pub returns : goal.returns
+unfolding release_from_event
+returns c = record {
+  step = search rules;
+  quiet = search rules;
+  counted =
+      let d = c.args.definition.now in
+      let e = c.args.engine.now in
+      let id = c.held_object-object.result.0 in
+      let place = c.args.place.0 in
+      let b = map held_of e.world.builder.items in
+      let n = map held_of c.set_builder_entry.new.builder.items in
+      let a = agenda_of d e in
+      let f : Engine = record e { world = record e.world { table = c.let_go_any.new.table; builder = c.set_builder_entry.new.builder } } in
+      let less : (o : ℕ) → total (in_held o) n + same o id ≡ total (in_held o) b =
+      λ o. omega (
+        arith,
+        ap (λ (hs : List BuilderEntry). total (in_held o) hs) c.in_ok-set_builder_entry.ensures,
+        total-exchanged (in_held o) unbuilt b place released refl,
+        holds_built o (read unbuilt b place) id c.held_object-object.ensures,
+      ) in
+      keeps_on d e f (record e { world = c.say.new.self })
+      (keeps_by d e f refl refl (λ g. g) refl (stays d e f refl refl) (λ taken _ h.
+      holder_less d taken e.world.table c.let_go_any.new.table b n a a (λ o. same o id) c.let_go_any.ensures.only c.let_go_any.ensures.counts
+      (λ o. omega (arith, less o)) h))
+      (keeps_said d f c.say.new.self c.say.ensures.beside);
+  room = search rules;
+}

@@ -1,4 +1,4 @@
-use Rattle.std.proofs.Common.{◌≡◌, ℕ, suc, List, [], ◌∷◌, map, false, Some, IsSome, Bor, option_map, sym, ap, subst, ◌∙◌, arith}
+use Rattle.std.proofs.Common.{◌≡◌, ℕ, suc, List, [], ◌∷◌, map, false, Some, IsSome, Bor, option_map, sym, ap, subst, ◌∙◌, arith, rules}
 use Rattle.std.specs.Rc.{rc_str_bytes}
 use Rattle.ui_machine.specs.Definition.Types.{GType}
 use Rattle.ui_machine.specs.Definition.Signals.{Signal}
@@ -93,43 +93,45 @@ start_emission-requires c =
           (subst (λ i. IsSome (living e.world.table.objects i)) (sym same_object) lives));
     }
 
-pub returns-clause-step : goal.returns-clause-step
-returns-clause-step c =
-    let d = c.args.definition.now in
-    let e = c.args.engine.now in
-    let f = c.count.new.engine in
-    let is = c.count.ensures in
-    let w = world_of f.world in
-    let id = c.args.object.0 in
-    let class = c.class_of-class.result in
-    let rest = agenda_of d e in
-    let n = e.counted in
-    let p = spec_view c.in-Some.spec.now in
-    let last = f.world.handlers.last in
-    let some = sym c.spec.ensures ∙ ap (option_map (λ (s : Bor Spec). spec_view s.now)) c.in-Some.is in
-    let name = c.in_ok-name.ensures.cases in
-    let g = λ (detail : List ℕ) (s : Signal). walk_for last s.accumulator (planned d class id 0 (Some detail) s) in
-    let found = ap (option_map (λ (m : Emission). begun m last)) (sym c.in-Some-emission.is) ∙ c.emission.ensures last in
-    let declared = begun_some (λ (m : Emission). begun m last) (g (rc_str_bytes c.in_ok-name.name)) c.in-Some-emission.emission _ found in
-    let walk = begun_as (λ (m : Emission). begun m last) (g (rc_str_bytes c.in_ok-name.name)) c.in-Some-emission.emission _ declared.0 found declared.1 ∙ ap (λ (detail : List ℕ). g detail declared.0) name in
-    let rises = subst (λ (h : Engine). Numbered 0 h.world.handlers.handlers h.world.handlers.last) (sym is) c.last-last.ensures.rises in
-    let due = subst (λ (h : Engine). map entry_of c.args.due ≡ transfers id c.args.slot (world_of h.world).bindings) (sym is) c.requires.due in
-    let starts_so = notifying_starts d w rises id c.args.slot class c.args.due due c.class_of-class.ensures p some declared.0 declared.1 (begun c.in-Some-emission.emission last) walk in
-    let line = (rw c.as_str.ensures.value at c.in_ok-line.ensures) ∙ ap (λ (types : List GType). text_of_line types (lines.notify id p.name)) c.types.ensures.types in
-    let world = c.in_ok-start_emission.ensures.world ∙ ap (λ (text : List ℕ). with_line text w) line in
-    let agenda = c.in_ok-start_emission.ensures.agenda d
-    ∙ ap (λ (vs : List Value). Emitting (emission_of (begun c.in-Some-emission.emission last) vs false) (entries_to_come (begun c.in-Some-emission.emission last) f.world.handlers.handlers (at.Ahead c.args.due)) ∷ agenda_of d f) c.take-args.ensures
-    ∙ ap (λ (ts : List Task). Emitting (emission_of (begun c.in-Some-emission.emission last) [] false) (entries_to_come (begun c.in-Some-emission.emission last) f.world.handlers.handlers (at.Ahead c.args.due)) ∷ ts) (ap (λ (h : Engine). agenda_of d h) is) in
-    ap (λ (h : Engine). counted rest n (notifying d (world_of h.world) id c.args.slot)) (sym is)
-    ∙ counted_on rest n _ (in_counted rest n _ c.requires.able).0
-    ∙ left_with (world_of c.start_emission.new.engine.world) (agenda_of d c.start_emission.new.engine) (suc n) c.start_emission.new.engine.counted rest (notifying d w id c.args.slot) _ _ starts_so world agenda
-    (c.start_emission.ensures.same ∙ ap (λ (h : Engine). h.counted) is)
-
-pub returns-clause-counted : goal.returns-clause-counted
-returns-clause-counted c =
-    let d = c.args.definition.now in
-    let e = c.args.engine.now in
-    let is = c.count.ensures in
-    let same = keeps_same d e c.count.new.engine (ap (λ (f : Engine). f.world.table) is) (ap (λ (f : Engine). f.world.weak) is) (ap (λ (f : Engine). f.links) is) (subst (λ (f : Engine). PassesGot d f) (sym is)) (ap (λ (f : Engine). f.world.context) is) (ap (λ (f : Engine). f.world.builder) is) (ap (λ (f : Engine). f.stack) is)
-    (ap (λ (f : Engine). f.world.handlers) is) in
-    record { at = λ taken h. c.in_ok-start_emission.ensures.counted d taken (taken_alike d c.count.new.engine _ _ (λ o. omega (arith, ap (λ (vs : List Value). total (in_value o) (map value_view vs)) c.take-args.ensures)) (same.at taken h)) }
+pub returns : goal.returns
+returns c = record {
+  step =
+      let d = c.args.definition.now in
+      let e = c.args.engine.now in
+      let f = c.count.new.engine in
+      let is = c.count.ensures in
+      let w = world_of f.world in
+      let id = c.args.object.0 in
+      let class = c.class_of-class.result in
+      let rest = agenda_of d e in
+      let n = e.counted in
+      let p = spec_view c.in-Some.spec.now in
+      let last = f.world.handlers.last in
+      let some = sym c.spec.ensures ∙ ap (option_map (λ (s : Bor Spec). spec_view s.now)) c.in-Some.is in
+      let name = c.in_ok-name.ensures.cases in
+      let g = λ (detail : List ℕ) (s : Signal). walk_for last s.accumulator (planned d class id 0 (Some detail) s) in
+      let found = ap (option_map (λ (m : Emission). begun m last)) (sym c.in-Some-emission.is) ∙ c.emission.ensures last in
+      let declared = begun_some (λ (m : Emission). begun m last) (g (rc_str_bytes c.in_ok-name.name)) c.in-Some-emission.emission _ found in
+      let walk = begun_as (λ (m : Emission). begun m last) (g (rc_str_bytes c.in_ok-name.name)) c.in-Some-emission.emission _ declared.0 found declared.1 ∙ ap (λ (detail : List ℕ). g detail declared.0) name in
+      let rises = subst (λ (h : Engine). Numbered 0 h.world.handlers.handlers h.world.handlers.last) (sym is) c.last-last.ensures.rises in
+      let due = subst (λ (h : Engine). map entry_of c.args.due ≡ transfers id c.args.slot (world_of h.world).bindings) (sym is) c.requires.due in
+      let starts_so = notifying_starts d w rises id c.args.slot class c.args.due due c.class_of-class.ensures p some declared.0 declared.1 (begun c.in-Some-emission.emission last) walk in
+      let line = (rw c.as_str.ensures.value at c.in_ok-line.ensures) ∙ ap (λ (types : List GType). text_of_line types (lines.notify id p.name)) c.types.ensures.types in
+      let world = c.in_ok-start_emission.ensures.world ∙ ap (λ (text : List ℕ). with_line text w) line in
+      let agenda = c.in_ok-start_emission.ensures.agenda d
+      ∙ ap (λ (vs : List Value). Emitting (emission_of (begun c.in-Some-emission.emission last) vs false) (entries_to_come (begun c.in-Some-emission.emission last) f.world.handlers.handlers (at.Ahead c.args.due)) ∷ agenda_of d f) c.take-args.ensures
+      ∙ ap (λ (ts : List Task). Emitting (emission_of (begun c.in-Some-emission.emission last) [] false) (entries_to_come (begun c.in-Some-emission.emission last) f.world.handlers.handlers (at.Ahead c.args.due)) ∷ ts) (ap (λ (h : Engine). agenda_of d h) is) in
+      ap (λ (h : Engine). counted rest n (notifying d (world_of h.world) id c.args.slot)) (sym is)
+      ∙ counted_on rest n _ (in_counted rest n _ c.requires.able).0
+      ∙ left_with (world_of c.start_emission.new.engine.world) (agenda_of d c.start_emission.new.engine) (suc n) c.start_emission.new.engine.counted rest (notifying d w id c.args.slot) _ _ starts_so world agenda
+      (c.start_emission.ensures.same ∙ ap (λ (h : Engine). h.counted) is);
+  quiet = search rules;
+  counted =
+      let d = c.args.definition.now in
+      let e = c.args.engine.now in
+      let is = c.count.ensures in
+      let same = keeps_same d e c.count.new.engine (ap (λ (f : Engine). f.world.table) is) (ap (λ (f : Engine). f.world.weak) is) (ap (λ (f : Engine). f.links) is) (subst (λ (f : Engine). PassesGot d f) (sym is)) (ap (λ (f : Engine). f.world.context) is) (ap (λ (f : Engine). f.world.builder) is) (ap (λ (f : Engine). f.stack) is)
+      (ap (λ (f : Engine). f.world.handlers) is) in
+      record { at = λ taken h. c.in_ok-start_emission.ensures.counted d taken (taken_alike d c.count.new.engine _ _ (λ o. omega (arith, ap (λ (vs : List Value). total (in_value o) (map value_view vs)) c.take-args.ensures)) (same.at taken h)) };
+  room = search rules;
+}

@@ -1,4 +1,4 @@
-use Rattle.std.proofs.Common.{ℕ, List, ◌∷◌, Option, ap, sym, subst, ◌∙◌, arith}
+use Rattle.std.proofs.Common.{ℕ, List, ◌∷◌, Option, ap, sym, subst, ◌∙◌, arith, rules}
 use Rattle.ui_machine.specs.Seq.{total}
 use Rattle.ui_machine.specs.State.References.{in_register}
 use Rattle.ui_machine.specs.Definition.Types.{GType}
@@ -45,24 +45,26 @@ push_program-requires-clause-may c o held =
       lives = values_live (world_of e.world) o (set_values rs) c.requires.names (omega (arith, held, same, set_total o rs c.requires.set));
     }
 
-pub returns-clause-step : goal.returns-clause-step
-returns-clause-step c =
-    let d = c.args.definition.now in
-    let e = c.args.engine.now in
-    let b = c.push_program.new.engine in
-    let p = program_view c.in-Some.program.now in
-    let args = set_values (registers_of c.args.registers.items) in
-    let is = sym c.in-Some.ensures.program in
-    let fit = begins_fit d (world_of e.world) c.args.number args p is (in_uncounted _ _ _ c.requires.able) in
-    let line = c.in_ok-line.ensures ∙ ap (λ (types : List GType). text_of_line types (lines.run c.as_str.result.now)) c.types.ensures.types
-    ∙ ap (λ (name : List ℕ). text_of_line d.types (lines.run name)) c.as_str.ensures.value in
-    let world = c.in_ok-say.ensures.ok ∙ ap (λ (text : List ℕ). with_line text (world_of b.world)) line ∙ ap (λ (w : World). with_line (text_of_line d.types (lines.run p.name)) w) c.push_program.ensures.world in
-    let agenda = ap (λ (h : Connected). tasks_of d h.handlers b.stack) c.say.ensures.handlers ∙ c.push_program.ensures.agenda d
-    ∙ ap (λ (rs : List (Option Value)). Running (first_frame c.args.number p (set_values (registers_of rs))) ∷ agenda_of d e) c.in_ok-registers.ensures.same in
-    left_with _ _ e.counted _ (agenda_of d e) _ _ _
-    (begins_program d (world_of e.world) c.args.number args p is fit) world agenda c.push_program.ensures.same
-
-pub returns-clause-counted : goal.returns-clause-counted
-returns-clause-counted c =
-    let d = c.args.definition.now in
-    keeps_on d _ _ _ (c.push_program.ensures.counted d) (keeps_said d c.push_program.new.engine c.say.new.self c.say.ensures.beside)
+pub returns-clause-acts : goal.returns-clause-acts
+returns-clause-acts c = record {
+  step =
+      let d = c.args.definition.now in
+      let e = c.args.engine.now in
+      let b = c.push_program.new.engine in
+      let p = program_view c.in-Some.program.now in
+      let args = set_values (registers_of c.args.registers.items) in
+      let is = sym c.in-Some.ensures.program in
+      let fit = begins_fit d (world_of e.world) c.args.number args p is (in_uncounted _ _ _ c.requires.able) in
+      let line = c.in_ok-line.ensures ∙ ap (λ (types : List GType). text_of_line types (lines.run c.as_str.result.now)) c.types.ensures.types
+      ∙ ap (λ (name : List ℕ). text_of_line d.types (lines.run name)) c.as_str.ensures.value in
+      let world = c.in_ok-say.ensures.ok ∙ ap (λ (text : List ℕ). with_line text (world_of b.world)) line ∙ ap (λ (w : World). with_line (text_of_line d.types (lines.run p.name)) w) c.push_program.ensures.world in
+      let agenda = ap (λ (h : Connected). tasks_of d h.handlers b.stack) c.say.ensures.handlers ∙ c.push_program.ensures.agenda d
+      ∙ ap (λ (rs : List (Option Value)). Running (first_frame c.args.number p (set_values (registers_of rs))) ∷ agenda_of d e) c.in_ok-registers.ensures.same in
+      left_with _ _ e.counted _ (agenda_of d e) _ _ _
+      (begins_program d (world_of e.world) c.args.number args p is fit) world agenda c.push_program.ensures.same;
+  quiet = search rules;
+  counted =
+      let d = c.args.definition.now in
+      keeps_on d _ _ _ (c.push_program.ensures.counted d) (keeps_said d c.push_program.new.engine c.say.new.self c.say.ensures.beside);
+  room = search rules;
+}

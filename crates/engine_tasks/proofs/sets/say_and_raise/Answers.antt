@@ -28,23 +28,31 @@ push_task-requires-clause-may c =
     (may_on d e _ id c.requires.counted (keeps_change d e c.add.new.self id (raised c.args.slot) _ (raised_alike d c.args.slot) c.in_ok-add.ensures.changes c.add.ensures.beside)
     (lives_on e.world.table.objects id (raised c.args.slot) _ c.in_ok-add.ensures.changes))
 
-pub returns-then-branch-clause-step : goal.returns-then-branch-clause-step
+pub returns-then-branch : goal.returns-then-branch
 unfolding raising
-returns-then-branch-clause-step c =
-    let told : c.args.is_told ≡ true = search rules in
-    let pushed = c.push_task.ensures.agenda c.args.definition.now in
-    let line = string_bytes c.args.line in
-    let world = c.in_ok-say-2.ensures.ok ∙ ap (with_line line) c.push_task.ensures.world in
-    rw (told, world, c.push_task.ensures.same, c.in_ok-say-2.ensures.handlers, pushed) (search rules)
+returns-then-branch c = record {
+  step =
+      let told : c.args.is_told ≡ true = search rules in
+      let pushed = c.push_task.ensures.agenda c.args.definition.now in
+      let line = string_bytes c.args.line in
+      let world = c.in_ok-say-2.ensures.ok ∙ ap (with_line line) c.push_task.ensures.world in
+      rw (told, world, c.push_task.ensures.same, c.in_ok-say-2.ensures.handlers, pushed) (search rules);
+  quiet = search rules;
+  counted =
+      let d = c.args.definition.now in
+      keeps_on d _ _ _ (keeps_change d c.args.engine.now c.add.new.self c.args.object.0 (raised c.args.slot) _ (raised_alike d c.args.slot) c.in_ok-add.ensures.changes c.add.ensures.beside)
+      (keeps_on d _ _ _ (c.push_task.ensures.counted d) (keeps_said d c.push_task.new.engine c.say-then-branch.new.self c.say-then-branch.ensures.beside));
+  room = search rules;
+}
 
-pub returns-then-branch-clause-counted : goal.returns-then-branch-clause-counted
-returns-then-branch-clause-counted c =
-    let d = c.args.definition.now in
-    keeps_on d _ _ _ (keeps_change d c.args.engine.now c.add.new.self c.args.object.0 (raised c.args.slot) _ (raised_alike d c.args.slot) c.in_ok-add.ensures.changes c.add.ensures.beside)
-    (keeps_on d _ _ _ (c.push_task.ensures.counted d) (keeps_said d c.push_task.new.engine c.say-then-branch.new.self c.say-then-branch.ensures.beside))
-
-pub returns-clause-counted : goal.returns-clause-counted
-returns-clause-counted c =
-    let d = c.args.definition.now in
-    keeps_on d _ _ _ (keeps_change d c.args.engine.now c.add.new.self c.args.object.0 (raised c.args.slot) _ (raised_alike d c.args.slot) c.in_ok-add.ensures.changes c.add.ensures.beside)
-    (keeps_said d _ c.say-2.new.self c.say-2.ensures.beside)
+pub returns : goal.returns
+unfolding raising
+returns c = record {
+  step = search rules;
+  quiet = search rules;
+  counted =
+      let d = c.args.definition.now in
+      keeps_on d _ _ _ (keeps_change d c.args.engine.now c.add.new.self c.args.object.0 (raised c.args.slot) _ (raised_alike d c.args.slot) c.in_ok-add.ensures.changes c.add.ensures.beside)
+      (keeps_said d _ c.say-2.new.self c.say-2.ensures.beside);
+  room = search rules;
+}

@@ -1,4 +1,4 @@
-use Rattle.std.proofs.Common.{◌≡◌, true, sym, ap, subst, ◌∙◌}
+use Rattle.std.proofs.Common.{◌≡◌, true, sym, ap, subst, ◌∙◌, rules}
 use Rattle.ui_machine.specs.Definition.Values.{Value}
 use Rattle.ui_machine.specs.State.Objects.{class_in}
 use Rattle.ui_machine.specs.Rules.Sets.{lives, without_disposed, setting, spec_at}
@@ -56,37 +56,47 @@ write_and_notify-requires c =
       room = c.requires.room;
     }
 
-pub returns-then-refuses-clause-step : goal.returns-then-refuses-clause-step
-returns-then-refuses-clause-step c =
-    let d = c.args.definition.now in
-    let w = world_of c.args.engine.now.world in
-    let id = c.args.object.0 in
-    let slot = c.args.slot in
-    let s = c.spec_of-spec.result.now in
-    let is = c.spec_of-spec.ensures.spec in
-    let plain = c.spec_of-spec.ensures.plain in
-    let x = c.with_own_class-known.result in
-    let knows = c.with_own_class-known.ensures.class in
-    let same = c.with_own_class-known.ensures.value in
-    let able = able_as (ap (setting d w id slot) (sym same)) (in_uncounted _ _ _ c.requires.able) in
-    let taken : Takes c.types.result.now s x = rw c.types.ensures.types (taken_so d w id slot s is plain x able) in
-    let told = refused_so d w id slot s is plain x able _ (value_view c.in_ok-original.original) c.if-refuses.ensures (rw c.types.ensures.types at (c.validate-valid.ensures.changed taken (class_in w.objects) knows)) c.in_ok-original.ensures.value in
-    rw (← same) (left_alone d c.args.engine.now c.refuse.new.engine _ _ told (rw c.as_str.ensures.value at c.in_ok-refuse.ensures.ok) c.in_ok-refuse.ensures.same.0 c.in_ok-refuse.ensures.same.1 c.in_ok-refuse.ensures.handlers)
+pub returns-then-refuses : goal.returns-then-refuses
+returns-then-refuses c = record {
+  step =
+      let d = c.args.definition.now in
+      let w = world_of c.args.engine.now.world in
+      let id = c.args.object.0 in
+      let slot = c.args.slot in
+      let s = c.spec_of-spec.result.now in
+      let is = c.spec_of-spec.ensures.spec in
+      let plain = c.spec_of-spec.ensures.plain in
+      let x = c.with_own_class-known.result in
+      let knows = c.with_own_class-known.ensures.class in
+      let same = c.with_own_class-known.ensures.value in
+      let able = able_as (ap (setting d w id slot) (sym same)) (in_uncounted _ _ _ c.requires.able) in
+      let taken : Takes c.types.result.now s x = rw c.types.ensures.types (taken_so d w id slot s is plain x able) in
+      let told = refused_so d w id slot s is plain x able _ (value_view c.in_ok-original.original) c.if-refuses.ensures (rw c.types.ensures.types at (c.validate-valid.ensures.changed taken (class_in w.objects) knows)) c.in_ok-original.ensures.value in
+      rw (← same) (left_alone d c.args.engine.now c.refuse.new.engine _ _ told (rw c.as_str.ensures.value at c.in_ok-refuse.ensures.ok) c.in_ok-refuse.ensures.same.0 c.in_ok-refuse.ensures.same.1 c.in_ok-refuse.ensures.handlers);
+  quiet = search rules;
+  counted = search rules;
+  room = search rules;
+}
 
-pub returns-clause-step : goal.returns-clause-step
-returns-clause-step c =
-    let d = c.args.definition.now in
-    let w = world_of c.args.engine.now.world in
-    let id = c.args.object.0 in
-    let slot = c.args.slot in
-    let s = c.spec_of-spec.result.now in
-    let is = c.spec_of-spec.ensures.spec in
-    let plain = c.spec_of-spec.ensures.plain in
-    let x = c.with_own_class-known.result in
-    let knows = c.with_own_class-known.ensures.class in
-    let same = c.with_own_class-known.ensures.value in
-    let able = able_as (ap (setting d w id slot) (sym same)) (in_uncounted _ _ _ c.requires.able) in
-    let taken : Takes c.types.result.now s x = rw c.types.ensures.types (taken_so d w id slot s is plain x able) in
-    let valid = c.without_disposed-without_disposed.ensures ∙ ap (without_disposed w.objects (spec_view s)) (rw c.types.ensures.types at (c.validate-valid.ensures.value taken (class_in w.objects) knows)) in
-    let told = written_so d w id slot s is plain x able _ (value_view c.without_disposed-without_disposed.result) c.if-refuses.ensures (rw c.types.ensures.types at (c.validate-valid.ensures.changed taken (class_in w.objects) knows)) valid in
-    rw (← same) (ap (uncounted (agenda_of d c.args.engine.now) c.args.engine.now.counted) told ∙ c.in_ok-write_and_notify.ensures.step)
+pub returns : goal.returns
+returns c = record {
+  step =
+      let d = c.args.definition.now in
+      let w = world_of c.args.engine.now.world in
+      let id = c.args.object.0 in
+      let slot = c.args.slot in
+      let s = c.spec_of-spec.result.now in
+      let is = c.spec_of-spec.ensures.spec in
+      let plain = c.spec_of-spec.ensures.plain in
+      let x = c.with_own_class-known.result in
+      let knows = c.with_own_class-known.ensures.class in
+      let same = c.with_own_class-known.ensures.value in
+      let able = able_as (ap (setting d w id slot) (sym same)) (in_uncounted _ _ _ c.requires.able) in
+      let taken : Takes c.types.result.now s x = rw c.types.ensures.types (taken_so d w id slot s is plain x able) in
+      let valid = c.without_disposed-without_disposed.ensures ∙ ap (without_disposed w.objects (spec_view s)) (rw c.types.ensures.types at (c.validate-valid.ensures.value taken (class_in w.objects) knows)) in
+      let told = written_so d w id slot s is plain x able _ (value_view c.without_disposed-without_disposed.result) c.if-refuses.ensures (rw c.types.ensures.types at (c.validate-valid.ensures.changed taken (class_in w.objects) knows)) valid in
+      rw (← same) (ap (uncounted (agenda_of d c.args.engine.now) c.args.engine.now.counted) told ∙ c.in_ok-write_and_notify.ensures.step);
+  quiet = search rules;
+  counted = search rules;
+  room = search rules;
+}

@@ -1,7 +1,7 @@
 use Rattle.bytecode.specs.Computing.{registers_of}
 use Rattle.frames.specs.FrameView.{set_values}
 use Rattle.frames.proofs.FrameRegisters.{given_set, given_values}
-use Rattle.std.proofs.Common.{◌∷◌, [], ap, refl, sym, subst, ◌∙◌}
+use Rattle.std.proofs.Common.{◌∷◌, [], ap, refl, sym, subst, ◌∙◌, rules}
 use Rattle.ui_machine.specs.Outcome.{Answer}
 use Rattle.ui_machine.specs.Rules.MainLoop.{source_data, sourcing}
 use Rattle.ui_machine.specs.State.Config.{Config, Started}
@@ -51,21 +51,23 @@ begin_program-requires c =
       names = begins_names b.counted (agenda_of d b) d (world_of b.world) due.program (set_values (registers_of c.give_data.new.registers.items)) (able_as (sym begins) c.requires.able) (names_as (sym begins) c.requires.names);
     }
 
-pub returns-clause-step : goal.returns-clause-step
-returns-clause-step c =
-    let d = c.args.definition.now in
-    let e = c.args.engine.now in
-    let b = c.push_task.new.engine in
-    let due = c.in-Some.due in
-    let given = source_data (id_of due.arg) in
-    let so = ap (λ (a : Answer Started). uncounted (agenda_of d e) e.counted a) (source_begins d (world_of e.world) c.args.source due c.in-Some.ensures) in
-    let begins = begins_as d (agenda_of d b) _ b.counted e.counted (world_of b.world) (world_of e.world) due.program due.program (set_values (registers_of c.give_data.new.registers.items)) given
-    (c.push_task.ensures.agenda d) c.push_task.ensures.same c.push_task.ensures.world refl (given_values (registers_of c.give_data.new.registers.items) given c.in_ok-give_data.ensures.given)
-    ∙ sym (begins_before d (world_of e.world) due.program given (Answering c.args.source ∷ []) (agenda_of d e) e.counted)
-    ∙ sym so in
-    subst (λ (a : Answer Config). Leads c.begin_program.result a (config_of d c.begin_program.new.engine)) begins c.begin_program.ensures.step
-
-pub returns-clause-counted : goal.returns-clause-counted
-returns-clause-counted c =
-    let d = c.args.definition.now in
-    on_ok c.begin_program.result (λ kept. keeps_on d _ _ _ (c.push_task.ensures.counted d) kept) c.begin_program.ensures.counted
+pub returns : goal.returns
+returns c = record {
+  step =
+      let d = c.args.definition.now in
+      let e = c.args.engine.now in
+      let b = c.push_task.new.engine in
+      let due = c.in-Some.due in
+      let given = source_data (id_of due.arg) in
+      let so = ap (λ (a : Answer Started). uncounted (agenda_of d e) e.counted a) (source_begins d (world_of e.world) c.args.source due c.in-Some.ensures) in
+      let begins = begins_as d (agenda_of d b) _ b.counted e.counted (world_of b.world) (world_of e.world) due.program due.program (set_values (registers_of c.give_data.new.registers.items)) given
+      (c.push_task.ensures.agenda d) c.push_task.ensures.same c.push_task.ensures.world refl (given_values (registers_of c.give_data.new.registers.items) given c.in_ok-give_data.ensures.given)
+      ∙ sym (begins_before d (world_of e.world) due.program given (Answering c.args.source ∷ []) (agenda_of d e) e.counted)
+      ∙ sym so in
+      subst (λ (a : Answer Config). Leads c.begin_program.result a (config_of d c.begin_program.new.engine)) begins c.begin_program.ensures.acts.step;
+  quiet = search rules;
+  counted =
+      let d = c.args.definition.now in
+      on_ok c.begin_program.result (λ kept. keeps_on d _ _ _ (c.push_task.ensures.counted d) kept) c.begin_program.ensures.acts.counted;
+  room = search rules;
+}

@@ -1,4 +1,4 @@
-use Rattle.std.proofs.Common.{◌≡◌, ◌∙◌, sym, ap, subst, option_map}
+use Rattle.std.proofs.Common.{◌≡◌, ◌∙◌, sym, ap, subst, option_map, rules}
 use Rattle.ui_machine.specs.Rules.Transfers.{set_by, transferring}
 use Rattle.ui_machine.specs.Steps.{counted, uncounted}
 use Rattle.g_values.specs.View.{value_view}
@@ -49,26 +49,28 @@ set_by-requires c =
       room = rw is c.requires.room;
     }
 
-pub returns-clause-step : goal.returns-clause-step
-returns-clause-step c =
-    let d = c.args.definition.now in
-    let e = c.args.engine.now in
-    let f = c.count.new.engine in
-    let t = c.in-Some.transfer in
-    let is = c.count.ensures in
-    let rest = agenda_of d e in
-    let v = option_map value_view c.in_ok-value.value in
-    let whole : counted rest e.counted (transferring d (world_of e.world) c.args.number c.args.back) ≡ uncounted (agenda_of d f) f.counted (set_by (world_of f.world) t.number (to_end t) v) =
-    counted_on rest e.counted _ (in_counted rest e.counted _ c.requires.able).0
-    ∙ ap (λ (x : Engine). uncounted (agenda_of d x) x.counted (transferring d (world_of x.world) c.args.number c.args.back)) (sym is)
-    ∙ ap (uncounted (agenda_of d f) f.counted) (transfer_sets d (world_of f.world) c.args.number c.args.back t (sym c.in-Some.is ∙ c.transfer.ensures) v c.in_ok-value.ensures) in
-    whole ∙ c.set_by.ensures.step
-
-pub returns-clause-counted : goal.returns-clause-counted
-returns-clause-counted c =
-    let d = c.args.definition.now in
-    let e = c.args.engine.now in
-    let f = c.count.new.engine in
-    let is = c.count.ensures in
-    let same = keeps_same d e f (ap (λ (x : Engine). x.world.table) is) (ap (λ (x : Engine). x.world.weak) is) (ap (λ (x : Engine). x.links) is) (subst (λ (x : Engine). PassesGot d x) (sym is)) (ap (λ (x : Engine). x.world.context) is) (ap (λ (x : Engine). x.world.builder) is) (ap (λ (x : Engine). x.stack) is) (ap (λ (x : Engine). x.world.handlers) is) in
-    keeps_on d _ _ _ same c.set_by.ensures.counted
+pub returns : goal.returns
+returns c = record {
+  step =
+      let d = c.args.definition.now in
+      let e = c.args.engine.now in
+      let f = c.count.new.engine in
+      let t = c.in-Some.transfer in
+      let is = c.count.ensures in
+      let rest = agenda_of d e in
+      let v = option_map value_view c.in_ok-value.value in
+      let whole : counted rest e.counted (transferring d (world_of e.world) c.args.number c.args.back) ≡ uncounted (agenda_of d f) f.counted (set_by (world_of f.world) t.number (to_end t) v) =
+      counted_on rest e.counted _ (in_counted rest e.counted _ c.requires.able).0
+      ∙ ap (λ (x : Engine). uncounted (agenda_of d x) x.counted (transferring d (world_of x.world) c.args.number c.args.back)) (sym is)
+      ∙ ap (uncounted (agenda_of d f) f.counted) (transfer_sets d (world_of f.world) c.args.number c.args.back t (sym c.in-Some.is ∙ c.transfer.ensures) v c.in_ok-value.ensures) in
+      whole ∙ c.set_by.ensures.step;
+  quiet = search rules;
+  counted =
+      let d = c.args.definition.now in
+      let e = c.args.engine.now in
+      let f = c.count.new.engine in
+      let is = c.count.ensures in
+      let same = keeps_same d e f (ap (λ (x : Engine). x.world.table) is) (ap (λ (x : Engine). x.world.weak) is) (ap (λ (x : Engine). x.links) is) (subst (λ (x : Engine). PassesGot d x) (sym is)) (ap (λ (x : Engine). x.world.context) is) (ap (λ (x : Engine). x.world.builder) is) (ap (λ (x : Engine). x.stack) is) (ap (λ (x : Engine). x.world.handlers) is) in
+      keeps_on d _ _ _ same c.set_by.ensures.counted;
+  room = search rules;
+}
