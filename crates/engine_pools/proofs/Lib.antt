@@ -14,6 +14,7 @@ pub mod Closings
 pub mod Known
 pub mod PeerByPeer
 pub mod Ends
+pub mod Executed
 pub mod Fitting
 pub mod Replies
 pub mod FirstCalls

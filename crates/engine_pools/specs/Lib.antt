@@ -12,3 +12,4 @@ pub mod Ways
 pub mod TurnView
 pub mod Courses
 pub mod Asked
+pub mod Acted

@@ -15,7 +15,7 @@ ghost use Rattle.engine_pools.specs.QuietSteps.{IsSafeView, LeavesKnown, Quietly
 ghost use Rattle.engine_pools.specs.Safety.{NoneUnheld};
 
 use crate::program_steps::run_program;
-use crate::tasks::act;
+use crate::tasks::{act, kind_of};
 use definitions::Definition;
 use engine_tasks::builds::construct;
 use engine_tasks::emission::emit;
@@ -60,9 +60,10 @@ fn take_first_task(engine: &mut Engine, definition: &Definition) -> Result<StepK
         return Ok(sink_first_floating(engine, definition));
     };
     let held = task.object();
-    let made = act(engine, definition, task)?;
+    let kind = kind_of(&task);
+    act(engine, definition, task)?;
     let_go_any(&mut engine.world.table, held);
-    Ok(made)
+    Ok(kind)
 }
 
 // Takes the next step of the first task, if it is a construction that goes on, or makes the step of the first task, which is neither a program

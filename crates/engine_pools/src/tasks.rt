@@ -1,11 +1,11 @@
 //! The step of each task, as the machine makes it.
 
-ghost use Rattle.std.specs.Prelude.{◌≡◌, ◌+◌, ◌≤◌, ◌∷◌, None, length, OnOk, IfOk};
+ghost use Rattle.std.specs.Prelude.{◌≡◌, ◌+◌, ◌≤◌, ◌∷◌, None, length, OnOk};
+ghost use Rattle.ui_machine.specs.Definition as machine;
 ghost use Rattle.ui_machine.specs.Rules.Build.{to_connect, to_make};
 ghost use Rattle.ui_machine.specs.Rules.Connections.{greatest_handler};
 ghost use Rattle.ui_machine.specs.State.Objects.{most_identities};
 ghost use Rattle.ui_machine.specs.State.References.{in_task};
-ghost use Rattle.ui_machine.specs.Steps.{act};
 ghost use Rattle.law_typing.specs.Good.Meanings.{KeepsMeanings};
 ghost use Rattle.engine_world.specs.FirstConstructions.{construction_in};
 ghost use Rattle.engine_world.specs.FirstEmissions.{emission_in};
@@ -16,10 +16,11 @@ ghost use Rattle.engine_world.specs.View.{world_of};
 ghost use Rattle.engine_world.specs.TaskView.{task_in, agenda_of};
 ghost use Rattle.engine_world.specs.Counting.{Counts, in_subject};
 ghost use Rattle.engine_world.specs.EngineView.{IsOfKind};
+ghost use Rattle.engine_world.specs.declared.engine.Engine.{Engine};
 ghost use Rattle.engine_world.specs.Able.{Able, LeadsToLiving};
-ghost use Rattle.engine_world.specs.Standing.{past_turns};
 ghost use Rattle.engine_pools.specs.TaskClosings.{TaskLeaves};
 ghost use Rattle.engine_world.specs.Executions.{ExecutesWithoutGone};
+ghost use Rattle.engine_pools.specs.Acted.{acted};
 
 use definitions::Definition;
 use engine_tasks::binds::bind_from_build;
@@ -38,8 +39,23 @@ use engine_world::references::never_full;
 use engine_world::task::Task;
 use std::alloc::AllocError;
 
-/// Carries out a task, and returns whether that was a counted step. The task is no program, and neither an emission nor a construction that
-/// goes on. The machine must not be stuck there, and a call has to be of a peer that is closed.
+/// Returns whether the step of a task is counted.
+pub(crate) fn kind_of(task: &Task) -> StepKind
+    ensures { (d : machine.Definition) (e : Engine) → IsOfKind result (task_in d e task.now) }
+{
+    let is_counted = matches!(
+        task,
+        Task::Notifying { .. } | Task::Beginning(_) | Task::Transferring { .. } | Task::Running(_)
+    );
+    if is_counted {
+        StepKind::Counted
+    } else {
+        StepKind::Uncounted
+    }
+}
+
+/// Carries out a task, which is no program, and neither an emission nor a construction that goes on. The machine must not be stuck there,
+/// and a call has to be of a peer that is closed.
 ///
 /// # Errors
 ///
@@ -48,13 +64,9 @@ pub(crate) fn act(
     engine: &mut Engine,
     definition: &Definition,
     task: Task,
-) -> Result<StepKind, AllocError>
-    requires able { Able
-        (act definition.now (world_of engine.now.world) None
-        (past_turns (world_of engine.now.world) (task_in definition.now engine.now task) ∷ agenda_of definition.now engine.now) engine.now.counted) }
-    requires names { LeadsToLiving
-        (act definition.now (world_of engine.now.world) None
-        (past_turns (world_of engine.now.world) (task_in definition.now engine.now task) ∷ agenda_of definition.now engine.now) engine.now.counted) }
+) -> Result<(), AllocError>
+    requires able { Able (acted definition.now engine.now task) }
+    requires names { LeadsToLiving (acted definition.now engine.now task) }
     requires identities { length (world_of engine.now.world).objects + to_make (task_in definition.now engine.now task ∷ agenda_of definition.now engine.now) ≤ most_identities }
     requires numbers { (world_of engine.now.world).last_handler + to_connect (task_in definition.now engine.now task ∷ agenda_of definition.now engine.now) ≤ greatest_handler }
     requires meanings { KeepsMeanings definition.now (world_of engine.now.world) }
@@ -65,9 +77,8 @@ pub(crate) fn act(
     requires begins { emission_in task ≡ None }
     requires builds { construction_in task ≡ None }
     ensures executes { ExecutesWithoutGone result definition.now engine.old engine.new (λ o. in_subject o (task_in definition.now engine.old task))
-        (act definition.now (world_of engine.old.world) None (past_turns (world_of engine.old.world) (task_in definition.now engine.old task) ∷ agenda_of definition.now engine.old) engine.old.counted) }
+        (acted definition.now engine.old task) }
     ensures closing { OnOk result (TaskLeaves definition.now (world_of engine.old.world) (task_in definition.now engine.old task) engine.old.closing engine.new.closing) }
-    ensures made { IfOk result (λ made. IsOfKind made (task_in definition.now engine.old task)) }
 {
     // For the proof: what a task holds lives, and what is known of a definition's places.
     never_full(engine);
@@ -77,61 +88,28 @@ pub(crate) fn act(
             object,
             slot,
             value,
-        } => {
-            validate_and_set(engine, definition, object, slot, value)?;
-            Ok(StepKind::Uncounted)
-        }
-        Task::Notifying { object, slot } => {
-            notify(engine, definition, object, slot)?;
-            Ok(StepKind::Counted)
-        }
-        Task::Beginning(emission) => {
-            begin_emission(engine, definition, emission)?;
-            Ok(StepKind::Counted)
-        }
+        } => validate_and_set(engine, definition, object, slot, value),
+        Task::Notifying { object, slot } => notify(engine, definition, object, slot),
+        Task::Beginning(emission) => begin_emission(engine, definition, emission),
         Task::Emitting(_) => unreachable!(),
-        Task::Transferring { number, back } => {
-            transfer(engine, definition, number, back)?;
-            Ok(StepKind::Counted)
-        }
+        Task::Transferring { number, back } => transfer(engine, definition, number, back),
         Task::Unsetting { number } => {
             unset(engine, definition, number);
-            Ok(StepKind::Uncounted)
+            Ok(())
         }
         Task::Running(_) => unreachable!(),
         Task::Thawing { object, slots } => {
             notify_thawed(engine, definition, object, slots);
-            Ok(StepKind::Uncounted)
+            Ok(())
         }
         Task::Constructing(_) => unreachable!(),
-        Task::Building { place, forwards } => {
-            build(engine, definition, place, forwards)?;
-            Ok(StepKind::Uncounted)
-        }
-        Task::Adopting { place, forwards } => {
-            adopt_from_build(engine, definition, place, forwards)?;
-            Ok(StepKind::Uncounted)
-        }
-        Task::Binding { number } => {
-            bind_from_build(engine, definition, number)?;
-            Ok(StepKind::Uncounted)
-        }
-        Task::Connecting { place, number } => {
-            connect_from_build(engine, definition, place, number)?;
-            Ok(StepKind::Uncounted)
-        }
+        Task::Building { place, forwards } => build(engine, definition, place, forwards),
+        Task::Adopting { place, forwards } => adopt_from_build(engine, definition, place, forwards),
+        Task::Binding { number } => bind_from_build(engine, definition, number),
+        Task::Connecting { place, number } => connect_from_build(engine, definition, place, number),
         Task::Answering { .. } => unreachable!(),
-        Task::Calling(call) => {
-            pass_over(engine, definition, call)?;
-            Ok(StepKind::Uncounted)
-        }
-        Task::Due { source } => {
-            run_source(engine, definition, source)?;
-            Ok(StepKind::Uncounted)
-        }
-        Task::Handling(event) => {
-            handle_event(engine, definition, event)?;
-            Ok(StepKind::Uncounted)
-        }
+        Task::Calling(call) => pass_over(engine, definition, call),
+        Task::Due { source } => run_source(engine, definition, source),
+        Task::Handling(event) => handle_event(engine, definition, event),
     }
 }

@@ -49,12 +49,12 @@ returns-in_default c = record {
   room = search rules;
 }
 
-pub returns-in_err-made : goal.returns-in_err-made
-returns-in_err-made c = record {
+pub returns-in_err-act : goal.returns-in_err-act
+returns-in_err-act c = record {
   counted = search rules;
   stepped =
       let p = err_from_is_err_and c.from_residual.result c.from_residual.ensures.1 in
-      rw p.1 c.in_err-made.ensures.executes.quiet;
+      rw p.1 c.in_err-act.ensures.executes.quiet;
   known = search rules;
   grows = search rules;
   room = search rules;
@@ -104,7 +104,7 @@ pub let_go_any-requires : goal.let_go_any-requires
 let_go_any-requires c = record {
   held = λ o.
       let d = c.args.definition.now in
-      omega (arith, c.in_ok-made.ensures.executes.counted.exact o, c.object-held.ensures d c.args.engine.now.world.handlers.handlers o);
+      omega (arith, c.in_ok-act.ensures.executes.counted.exact o, c.object-held.ensures d c.args.engine.now.world.handlers.handlers o);
 }
 
 pub returns : goal.returns
@@ -113,12 +113,12 @@ returns c = record {
       let d = c.args.definition.now in
       let t = task_in d c.args.engine.now c.in-Some.task in
       given_back d c.act.new.engine c.let_go_any.new.table (λ o. in_subject o t) c.let_go_any.ensures.only
-      (λ o. omega (arith, c.let_go_any.ensures.counts o, c.object-held.ensures d c.args.engine.now.world.handlers.handlers o)) c.in_ok-made.ensures.executes.counted;
+      (λ o. omega (arith, c.let_go_any.ensures.counts o, c.object-held.ensures d c.args.engine.now.world.handlers.handlers o)) c.in_ok-act.ensures.executes.counted;
   stepped =
       let d = c.args.definition.now in
-      subst (λ (e : Config). QuietlyStepped (Ok c.in_ok-made.made) d (config_of d c.args.engine.now) e) (sym (config_same d c.act.new.engine c.let_go_any.new.table c.let_go_any.ensures.only))
+      subst (λ (e : Config). QuietlyStepped (Ok c.kind_of-kind.result) d (config_of d c.args.engine.now) e) (sym (config_same d c.act.new.engine c.let_go_any.new.table c.let_go_any.ensures.only))
       (first_stepped d (config_of d c.args.engine.now) (config_of d c.act.new.engine) c.requires.none (task_in d c.args.engine.now c.in-Some.task) (tasks_of d c.args.engine.now.world.handlers.handlers c.pop.new.self) (c.in-Some.ensures.tasks d c.args.engine.now.world.handlers.handlers) c.requires.quiet
-      c.in_ok-made.made c.in_ok-made.ensures.executes.step c.in_ok-made.ensures.made);
+      c.kind_of-kind.result c.in_ok-act.ensures.executes.step (c.kind_of-kind.ensures c.args.definition.now c.args.engine.now));
   known =
       let d = c.args.definition.now in
       let e = c.args.engine.now in
@@ -126,12 +126,12 @@ returns c = record {
       let hs = e.world.handlers.handlers in
       let rest = tasks_of d hs c.pop.new.self in
       let none = subst (λ (ts : List Task). NoneUnheld d (record (config_of d e) { agenda = with_first w ts })) (c.in-Some.ensures.tasks d hs) (first_none d (config_of d e) c.requires.none) in
-      let goes = c.in_ok-made.ensures.executes.step in
+      let goes = c.in_ok-act.ensures.executes.step in
       subst (λ (v : World). LeavesKnown w v c.act.new.engine.closing) (ap (λ (x : Config). x.world) goes.2)
-      (task_known d w rest e.counted (task_in d e c.in-Some.task) goes.0 e.closing c.act.new.engine.closing none goes.1 c.in_ok-made.ensures.closing);
+      (task_known d w rest e.counted (task_in d e c.in-Some.task) goes.0 e.closing c.act.new.engine.closing none goes.1 c.in_ok-act.ensures.closing);
   grows =
       let d = c.args.definition.now in
       first_grows d (config_of d c.args.engine.now) (config_of d c.act.new.engine) c.requires.none (task_in d c.args.engine.now c.in-Some.task) (tasks_of d c.args.engine.now.world.handlers.handlers c.pop.new.self) (c.in-Some.ensures.tasks d c.args.engine.now.world.handlers.handlers) c.requires.quiet
-      c.in_ok-made.made c.in_ok-made.ensures.executes.step;
+      c.kind_of-kind.result c.in_ok-act.ensures.executes.step;
   room = search rules;
 }

@@ -1,25 +1,19 @@
-use Rattle.std.proofs.Common.{rules, Result, Ok, refl, sym, ap, ◌∙◌, arith}
+use Rattle.std.proofs.Common.{Ok, refl, sym, ap, ◌∙◌, arith}
 use Rattle.ui_machine.specs.Rules.Build.{is_connecting, is_making, of_items}
 use Rattle.ui_machine.specs.State.References.{in_task}
-use Rattle.std.specs.declared.alloc.AllocError.{AllocError}
-use Rattle.engine_world.proofs.Counts.{done_plain}
 use Rattle.engine_world.specs.TaskView.{task_in}
 use Rattle.engine_world.specs.declared.task.Task as code
 use Rattle.engine_world.proofs.Floats.{same_self}
 use Rattle.engine_world.proofs.Held.{counted_lives}
 use Rattle.engine_world.proofs.Rooms.{task_counted}
 use Rattle.engine_instructions.proofs.Creating.{making_from}
-use Rattle.engine_instructions.proofs.Whole.{leads_whole}
+use Rattle.engine_pools.proofs.Executed.{acts_plainly, executes_held}
 use Rattle.engine_world.proofs.Signals.{bind_count, build_count}
 use Rattle.engine_world.specs.FirstConstructions.{construction_in}
 use Rattle.engine_world.specs.FirstEmissions.{emission_in}
 use Rattle.engine_world.specs.FirstPrograms.{program_in}
 use Rattle.engine_world.proofs.RoomLeft.{room_less}
 use Rattle.engine_pools.proofs.tasks.act.Goals as goal
-
--- what was done
-abbrev done : Result (Unit {0}) AllocError
-done = Ok tt
 
 -- ** the machine is not stuck there
 
@@ -147,108 +141,56 @@ unreachable-requires-in-Constructing c = let none = sym (ap (λ (t : code.Task).
 pub unreachable-requires-in-Answering : goal.unreachable-requires-in-Answering
 unreachable-requires-in-Answering c = rw c.in-Answering.is at c.requires.able
 
--- ** what is counted, and what was done
+-- ** what was done
 
-pub returns-in_ok-validate_and_set-in-Setting-clause-executes : goal.returns-in_ok-validate_and_set-in-Setting-clause-executes
-returns-in_ok-validate_and_set-in-Setting-clause-executes c = record {
-  step = rw c.in-Setting.is (leads_whole c.args.definition.now c.validate_and_set.new.engine done _ c.in_ok-validate_and_set-in-Setting.ensures.step);
-  quiet = search rules;
-  counted = done_plain c.args.definition.now c.args.engine.now c.validate_and_set.new.engine c.args.task _ c.in-Setting.is (λ o. refl) c.in_ok-validate_and_set-in-Setting.ensures.counted c.requires.counted;
-  room = search rules;
-}
+pub returns-in-Setting-clause-executes : goal.returns-in-Setting-clause-executes
+returns-in-Setting-clause-executes c =
+    acts_plainly c.args.definition.now c.args.engine.now c.validate_and_set.new.engine c.args.task _ c.validate_and_set.result c.in-Setting.is (λ o. refl) c.validate_and_set.ensures c.requires.counted
 
-pub returns-in_ok-notify-in-Notifying-clause-executes : goal.returns-in_ok-notify-in-Notifying-clause-executes
-returns-in_ok-notify-in-Notifying-clause-executes c = record {
-  step = rw c.in-Notifying.is (leads_whole c.args.definition.now c.notify.new.engine done _ c.in_ok-notify-in-Notifying.ensures.step);
-  quiet = search rules;
-  counted = done_plain c.args.definition.now c.args.engine.now c.notify.new.engine c.args.task _ c.in-Notifying.is (λ o. refl) c.in_ok-notify-in-Notifying.ensures.counted c.requires.counted;
-  room = search rules;
-}
+pub returns-in-Notifying-clause-executes : goal.returns-in-Notifying-clause-executes
+returns-in-Notifying-clause-executes c =
+    acts_plainly c.args.definition.now c.args.engine.now c.notify.new.engine c.args.task _ c.notify.result c.in-Notifying.is (λ o. refl) c.notify.ensures c.requires.counted
 
-pub returns-in-Thawing-clause-executes : goal.returns-in-Thawing-clause-executes
-returns-in-Thawing-clause-executes c = record {
-  step = rw c.in-Thawing.is (leads_whole c.args.definition.now c.notify_thawed.new.engine done _ c.notify_thawed.ensures.step);
-  quiet = search rules;
-  counted = done_plain c.args.definition.now c.args.engine.now c.notify_thawed.new.engine c.args.task _ c.in-Thawing.is (λ o. refl) c.notify_thawed.ensures.counted c.requires.counted;
-  room = search rules;
-}
-
-pub returns-in_ok-build-in-Building-clause-executes : goal.returns-in_ok-build-in-Building-clause-executes
-returns-in_ok-build-in-Building-clause-executes c = record {
-  step = rw c.in-Building.is (leads_whole c.args.definition.now c.build.new.engine done _ c.in_ok-build-in-Building.ensures.step);
-  quiet = search rules;
-  counted = done_plain c.args.definition.now c.args.engine.now c.build.new.engine c.args.task _ c.in-Building.is (λ o. refl) c.in_ok-build-in-Building.ensures.counted c.requires.counted;
-  room = search rules;
-}
-
-pub returns-in_ok-adopt_from_build-in-Adopting-clause-executes : goal.returns-in_ok-adopt_from_build-in-Adopting-clause-executes
-returns-in_ok-adopt_from_build-in-Adopting-clause-executes c = record {
-  step = rw c.in-Adopting.is (leads_whole c.args.definition.now c.adopt_from_build.new.engine done _ c.in_ok-adopt_from_build-in-Adopting.ensures.step);
-  quiet = search rules;
-  counted = done_plain c.args.definition.now c.args.engine.now c.adopt_from_build.new.engine c.args.task _ c.in-Adopting.is (λ o. refl) c.in_ok-adopt_from_build-in-Adopting.ensures.counted c.requires.counted;
-  room = search rules;
-}
-
-pub returns-in_ok-handle_event-in-Handling-clause-executes : goal.returns-in_ok-handle_event-in-Handling-clause-executes
-returns-in_ok-handle_event-in-Handling-clause-executes c = record {
-  step = rw c.in-Handling.is (leads_whole c.args.definition.now c.handle_event.new.engine done _ c.in_ok-handle_event-in-Handling.ensures.step);
-  quiet = search rules;
-  counted = done_plain c.args.definition.now c.args.engine.now c.handle_event.new.engine c.args.task _ c.in-Handling.is (λ o. refl) c.in_ok-handle_event-in-Handling.ensures.counted c.requires.counted;
-  room = search rules;
-}
-
-pub returns-in_ok-begin_emission-in-Beginning-clause-executes : goal.returns-in_ok-begin_emission-in-Beginning-clause-executes
-returns-in_ok-begin_emission-in-Beginning-clause-executes c = record {
-  step = rw c.in-Beginning.is (leads_whole c.args.definition.now c.begin_emission.new.engine done _ c.in_ok-begin_emission-in-Beginning.ensures.step);
-  quiet = search rules;
-  counted = search rules;
-  room = search rules;
-}
-
-pub returns-in_ok-connect_from_build-in-Connecting-clause-executes : goal.returns-in_ok-connect_from_build-in-Connecting-clause-executes
-returns-in_ok-connect_from_build-in-Connecting-clause-executes c = record {
-  step = rw c.in-Connecting.is (leads_whole c.args.definition.now c.connect_from_build.new.engine done _ c.in_ok-connect_from_build-in-Connecting.ensures.step);
-  quiet = search rules;
-  counted = done_plain c.args.definition.now c.args.engine.now c.connect_from_build.new.engine c.args.task _ c.in-Connecting.is (λ o. refl) c.in_ok-connect_from_build-in-Connecting.ensures.counted c.requires.counted;
-  room = search rules;
-}
-
-pub returns-in_ok-run_source-in-Due-clause-executes : goal.returns-in_ok-run_source-in-Due-clause-executes
-returns-in_ok-run_source-in-Due-clause-executes c = record {
-  step = rw c.in-Due.is (leads_whole c.args.definition.now c.run_source.new.engine done _ c.in_ok-run_source-in-Due.ensures.step);
-  quiet = search rules;
-  counted = done_plain c.args.definition.now c.args.engine.now c.run_source.new.engine c.args.task _ c.in-Due.is (λ o. refl) c.in_ok-run_source-in-Due.ensures.counted c.requires.counted;
-  room = search rules;
-}
-
-pub returns-in_ok-transfer-in-Transferring-clause-executes : goal.returns-in_ok-transfer-in-Transferring-clause-executes
-returns-in_ok-transfer-in-Transferring-clause-executes c = record {
-  step = rw c.in-Transferring.is (leads_whole c.args.definition.now c.transfer.new.engine done _ c.in_ok-transfer-in-Transferring.ensures.step);
-  quiet = search rules;
-  counted = done_plain c.args.definition.now c.args.engine.now c.transfer.new.engine c.args.task _ c.in-Transferring.is (λ o. refl) c.in_ok-transfer-in-Transferring.ensures.counted c.requires.counted;
-  room = search rules;
-}
+pub returns-in-Transferring-clause-executes : goal.returns-in-Transferring-clause-executes
+returns-in-Transferring-clause-executes c =
+    acts_plainly c.args.definition.now c.args.engine.now c.transfer.new.engine c.args.task _ c.transfer.result c.in-Transferring.is (λ o. refl) c.transfer.ensures c.requires.counted
 
 pub returns-in-Unsetting-clause-executes : goal.returns-in-Unsetting-clause-executes
-returns-in-Unsetting-clause-executes c = record {
-  step = rw c.in-Unsetting.is (leads_whole c.args.definition.now c.unset.new.engine done _ c.unset.ensures.step);
-  quiet = search rules;
-  counted = done_plain c.args.definition.now c.args.engine.now c.unset.new.engine c.args.task _ c.in-Unsetting.is (λ o. refl) c.unset.ensures.counted c.requires.counted;
-  room = search rules;
-}
+returns-in-Unsetting-clause-executes c =
+    acts_plainly c.args.definition.now c.args.engine.now c.unset.new.engine c.args.task _ (Ok tt) c.in-Unsetting.is (λ o. refl) c.unset.ensures c.requires.counted
 
-pub returns-in_ok-bind_from_build-in-Binding-clause-executes : goal.returns-in_ok-bind_from_build-in-Binding-clause-executes
-returns-in_ok-bind_from_build-in-Binding-clause-executes c = record {
-  step = rw c.in-Binding.is (leads_whole c.args.definition.now c.bind_from_build.new.engine done _ c.in_ok-bind_from_build-in-Binding.ensures.step);
-  quiet = search rules;
-  counted = done_plain c.args.definition.now c.args.engine.now c.bind_from_build.new.engine c.args.task _ c.in-Binding.is (λ o. refl) c.in_ok-bind_from_build-in-Binding.ensures.counted c.requires.counted;
-  room = search rules;
-}
+pub returns-in-Thawing-clause-executes : goal.returns-in-Thawing-clause-executes
+returns-in-Thawing-clause-executes c =
+    acts_plainly c.args.definition.now c.args.engine.now c.notify_thawed.new.engine c.args.task _ (Ok tt) c.in-Thawing.is (λ o. refl) c.notify_thawed.ensures c.requires.counted
 
-pub returns-in_ok-pass_over-in-Calling-clause-executes : goal.returns-in_ok-pass_over-in-Calling-clause-executes
-returns-in_ok-pass_over-in-Calling-clause-executes c = record {
-  step = rw c.in-Calling.is (leads_whole c.args.definition.now c.pass_over.new.engine done _ c.in_ok-pass_over-in-Calling.ensures.executes.step);
-  quiet = search rules;
-  counted = search rules;
-  room = search rules;
-}
+pub returns-in-Building-clause-executes : goal.returns-in-Building-clause-executes
+returns-in-Building-clause-executes c =
+    acts_plainly c.args.definition.now c.args.engine.now c.build.new.engine c.args.task _ c.build.result c.in-Building.is (λ o. refl) c.build.ensures c.requires.counted
+
+pub returns-in-Adopting-clause-executes : goal.returns-in-Adopting-clause-executes
+returns-in-Adopting-clause-executes c =
+    acts_plainly c.args.definition.now c.args.engine.now c.adopt_from_build.new.engine c.args.task _ c.adopt_from_build.result c.in-Adopting.is (λ o. refl) c.adopt_from_build.ensures c.requires.counted
+
+pub returns-in-Binding-clause-executes : goal.returns-in-Binding-clause-executes
+returns-in-Binding-clause-executes c =
+    acts_plainly c.args.definition.now c.args.engine.now c.bind_from_build.new.engine c.args.task _ c.bind_from_build.result c.in-Binding.is (λ o. refl) c.bind_from_build.ensures c.requires.counted
+
+pub returns-in-Connecting-clause-executes : goal.returns-in-Connecting-clause-executes
+returns-in-Connecting-clause-executes c =
+    acts_plainly c.args.definition.now c.args.engine.now c.connect_from_build.new.engine c.args.task _ c.connect_from_build.result c.in-Connecting.is (λ o. refl) c.connect_from_build.ensures c.requires.counted
+
+pub returns-in-Due-clause-executes : goal.returns-in-Due-clause-executes
+returns-in-Due-clause-executes c =
+    acts_plainly c.args.definition.now c.args.engine.now c.run_source.new.engine c.args.task _ c.run_source.result c.in-Due.is (λ o. refl) c.run_source.ensures c.requires.counted
+
+pub returns-in-Handling-clause-executes : goal.returns-in-Handling-clause-executes
+returns-in-Handling-clause-executes c =
+    acts_plainly c.args.definition.now c.args.engine.now c.handle_event.new.engine c.args.task _ c.handle_event.result c.in-Handling.is (λ o. refl) c.handle_event.ensures c.requires.counted
+
+pub returns-in-Beginning-clause-executes : goal.returns-in-Beginning-clause-executes
+returns-in-Beginning-clause-executes c =
+    executes_held c.args.definition.now c.args.engine.now c.begin_emission.new.engine c.args.task _ c.begin_emission.result c.in-Beginning.is c.begin_emission.ensures
+
+pub returns-in-Calling-clause-executes : goal.returns-in-Calling-clause-executes
+returns-in-Calling-clause-executes c =
+    executes_held c.args.definition.now c.args.engine.now c.pass_over.new.engine c.args.task _ c.pass_over.result c.in-Calling.is c.pass_over.ensures.executes
