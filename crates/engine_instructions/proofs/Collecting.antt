@@ -22,25 +22,28 @@ use Rattle.g_values.specs.declared.value.Value as values
 use Rattle.instance_tables.specs.Store.{Store, count_of}
 use Rattle.signal_core.specs.Emission.{Due, Walk, is_over, stopped}
 use Rattle.engine_world.specs.Able.{Able}
-use Rattle.engine_world.specs.FirstEmissions.{EmitsKnown, Emitted, IsEmission, IsReemitted, emission_view, emitting, entries_left, first_emitted}
-use Rattle.engine_world.specs.KnownHandlers.{AllTakeKnownHandlers, EndsWithoutTransfers}
+use Rattle.engine_world.specs.FirstEmissions.{IsEmission, first_emitted}
+use Rattle.frame_stacks.specs.FirstEmissions.{EmitsKnown, Emitted, IsReemitted, emission_view, emitting, entries_left}
+use Rattle.frame_stacks.specs.KnownHandlers.{AllTakeKnownHandlers, EndsWithoutTransfers}
 use Rattle.engine_instructions.specs.CollectView.{collected_by, collects, stops_at}
 use Rattle.engine_world.specs.Counting.{Counts, KeepsCounts, MayHold, OnlyTasks}
-use Rattle.engine_world.specs.TaskView.{agenda_of, emission_of, entries_to_come, task_of, tasks_of}
+use Rattle.engine_world.specs.TaskView.{agenda_of}
+use Rattle.frame_stacks.specs.TaskView.{emission_of, entries_to_come, task_of, tasks_of}
 use Rattle.engine_world.specs.declared.engine.Engine.{Engine}
-use Rattle.engine_world.specs.declared.stacks.Stack.{Stack}
-use Rattle.engine_world.specs.declared.task.Task as code
-use Rattle.engine_world.specs.declared.task.Task.TheVariants as tasks
+use Rattle.frame_stacks.specs.declared.stacks.Frames.{Frames}
+use Rattle.frame_stacks.specs.declared.task.Task as code
+use Rattle.frame_stacks.specs.declared.task.Task.TheVariants as tasks
 use Rattle.engine_world.proofs.Ableness.{able_as, first}
 use Rattle.engine_world.proofs.Counts.{restacked}
-use Rattle.engine_world.proofs.FirstEmissions.{begins, first_begun}
+use Rattle.engine_world.proofs.FirstEmissions.{begins}
+use Rattle.frame_stacks.proofs.FirstEmissions.{first_begun}
 use Rattle.engine_world.specs.View.{world_of}
 use Rattle.g_values.specs.View.{value_view}
 use Rattle.engine_instructions.proofs.Tested.{passes}
 use Rattle.engine_instructions.proofs.StoppedEmissions.{over_leaves, stop_leaves, stop_same, turns_alike}
-use Rattle.engine_world.specs.TransferView.{due_later, due_now, entries_due_of}
-use Rattle.engine_world.specs.declared.task.Transfers.{Transfers}
-use Rattle.engine_world.specs.declared.task.Transfers.TheVariants as at
+use Rattle.frame_stacks.specs.TransferView.{due_later, due_now, entries_due_of}
+use Rattle.frame_stacks.specs.declared.task.Transfers.{Transfers}
+use Rattle.frame_stacks.specs.declared.task.Transfers.TheVariants as at
 use Rattle.engine_world.proofs.SameTurns.{entries}
 
 -- ** what an emission takes
@@ -305,7 +308,7 @@ popped_behind d hs (Some task) old new t rest first off =
     first ∙ ap (λ (ts : List Task). t ∷ ts) (sym behind)
 
 -- its task held nothing
-pub popped_source : (d : Definition) (e : Engine) (s : Stack) (taken : ℕ → ℕ) (source : ℕ) → agenda_of d e ≡ Answering source ∷ tasks_of d e.world.handlers.handlers s
+pub popped_source : (d : Definition) (e : Engine) (s : Frames) (taken : ℕ → ℕ) (source : ℕ) → agenda_of d e ≡ Answering source ∷ tasks_of d e.world.handlers.handlers s
     → ((last : ℕ) → AllTakeKnownHandlers last e.stack → AllTakeKnownHandlers last s) → Counts d taken e → Counts d taken (record e { stack = s })
 popped_source d e s taken source first begun h = record {
   knows = h.knows;

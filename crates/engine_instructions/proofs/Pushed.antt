@@ -25,15 +25,17 @@ use Rattle.instance_tables.specs.Store.{Store, id_of, with_objects}
 use Rattle.instance_tables.proofs.Exact.{leave_exact}
 use Rattle.frames.specs.FrameView.{frame_view}
 use Rattle.frames.specs.declared.frame.Frame as code
-use Rattle.engine_world.specs.Counting.{Counts, KeepsCounts, in_frame, nothing}
+use Rattle.engine_world.specs.Counting.{Counts, KeepsCounts, nothing}
+use Rattle.frame_stacks.specs.HeldByTasks.{in_frame}
 use Rattle.engine_world.specs.Able.{Able, Leads}
 use Rattle.ui_machine.specs.declared.arm.Halt.TheVariants as halts
 use Rattle.engine_world.proofs.Ableness.{first, no_arm, none_stops}
 use Rattle.std.specs.declared.alloc.AllocError.{AllocError}
 use Rattle.engine_world.specs.EngineView.{config_of}
 use Rattle.engine_world.specs.KinView.{joined}
-use Rattle.engine_world.specs.FirstPrograms.{IsProgram, first_frame, first_program, rest_of, stack_frame}
-use Rattle.engine_world.specs.declared.stacks.Stack.{Stack}
+use Rattle.engine_world.specs.FirstPrograms.{IsProgram, first_frame, rest_of}
+use Rattle.frame_stacks.specs.FirstPrograms.{first_program, stack_frame}
+use Rattle.frame_stacks.specs.declared.stacks.Frames.{Frames}
 use Rattle.engine_world.specs.TaskView.{agenda_of}
 use Rattle.engine_world.specs.View.{held_of, world_of}
 use Rattle.engine_world.specs.declared.engine.Engine.{Engine}
@@ -99,7 +101,7 @@ module _ (d : Definition) (e : Engine) (first : IsProgram e) where
 module _ (e m : Engine) (same : m.stack ≡ e.stack) where
   -- the first task is the program that it was
   pub program_kept : IsProgram e → IsProgram m
-  program_kept first = subst (λ (s : Stack). IsSome (first_program s.tasks.items)) (sym same) first
+  program_kept first = subst (λ (s : Frames). IsSome (first_program s.tasks.items)) (sym same) first
 
   pub frame_kept : first_frame m ≡ first_frame e
   frame_kept = ap stack_frame same

@@ -1,13 +1,13 @@
 -- What a stop leaves of an emission, and of the tasks.
-use Rattle.engine_world.specs.KnownHandlers.{AllTakeKnownHandlers, EndsWithoutTransfers, TakesKnownHandlers}
-use Rattle.engine_world.specs.FirstEmissions.{StopsBelow, stop_in, with_last}
-use Rattle.engine_world.specs.FirstPrograms.{first_program, stack_frame}
-use Rattle.engine_world.specs.declared.stacks.Stack.{Stack}
-use Rattle.engine_world.proofs.FirstPrograms.{first_of_last, starts}
+use Rattle.frame_stacks.specs.KnownHandlers.{AllTakeKnownHandlers, EndsWithoutTransfers, TakesKnownHandlers}
+use Rattle.frame_stacks.specs.FirstEmissions.{StopsBelow, stop_in, with_last}
+use Rattle.frame_stacks.specs.FirstPrograms.{first_program, stack_frame}
+use Rattle.frame_stacks.specs.declared.stacks.Frames.{Frames}
+use Rattle.frame_stacks.proofs.FirstPrograms.{first_of_last, starts}
 use Rattle.engine_world.proofs.OtherFirst.{head_same}
 use Rattle.engine_world.proofs.Registers.{stack_same_held}
-use Rattle.engine_world.proofs.StopsBelow.{Lasts, below_known, has_last, last_changed, lasts, no_last}
-use Rattle.engine_world.proofs.Vectors.{front_known, last_known}
+use Rattle.frame_stacks.proofs.StopsBelow.{Lasts, below_known, has_last, last_changed, lasts, no_last}
+use Rattle.frame_stacks.proofs.Vectors.{front_known, last_known}
 use Rattle.std.specs.Prelude.{All}
 use Rattle.std.proofs.Common.{IsSome, drop, ◌≡◌, ◌∙◌, refl, sym, ap, subst, ℕ, ◌++◌, Bool, true, false, cond, map, nat_eq, reverse, List, [], ◌∷◌, Option, None, Some, arith}
 use Rattle.std.specs.List.{filter}
@@ -29,13 +29,14 @@ use Rattle.signal_core.specs.declared.stage.Stage.TheVariants as stages
 use Rattle.signal_core.specs.declared.turn.Turn.TheVariants as turns
 use Rattle.bindings.specs.declared.due.DueTransfer.{DueTransfer}
 use Rattle.engine_world.specs.Counting.{Counts, nothing}
-use Rattle.engine_world.specs.TaskView.{agenda_of, emission_of, entries_to_come, task_of, tasks_of}
+use Rattle.engine_world.specs.TaskView.{agenda_of}
+use Rattle.frame_stacks.specs.TaskView.{emission_of, entries_to_come, task_of, tasks_of}
 use Rattle.engine_world.specs.declared.engine.Engine.{Engine}
-use Rattle.engine_world.specs.declared.task.Task as code
-use Rattle.engine_world.specs.declared.task.Task.TheVariants as tasks
-use Rattle.engine_world.specs.TransferView.{due_later, due_now, entries_due_of}
-use Rattle.engine_world.specs.declared.task.Transfers.{Transfers}
-use Rattle.engine_world.specs.declared.task.Transfers.TheVariants as at
+use Rattle.frame_stacks.specs.declared.task.Task as code
+use Rattle.frame_stacks.specs.declared.task.Task.TheVariants as tasks
+use Rattle.frame_stacks.specs.TransferView.{due_later, due_now, entries_due_of}
+use Rattle.frame_stacks.specs.declared.task.Transfers.{Transfers}
+use Rattle.frame_stacks.specs.declared.task.Transfers.TheVariants as at
 use Rattle.engine_world.proofs.SameTurns.{both_entries, entries}
 
 -- ** stops
@@ -227,7 +228,7 @@ module _ (d : Definition) (hs : List Handler) where
           ∙ ap (λ (ts : List Task). machine.stopped ts) (sym (first_of_last d hs front t))
 
 -- the tasks of a stack in which the emission below the program that is the first task was stopped
-pub below_stopped : (d : Definition) (hs : List Handler) (s new : Stack) (last : ℕ) → StopsBelow s new → IsSome (first_program s.tasks.items) → AllTakeKnownHandlers last s
+pub below_stopped : (d : Definition) (hs : List Handler) (s new : Frames) (last : ℕ) → StopsBelow s new → IsSome (first_program s.tasks.items) → AllTakeKnownHandlers last s
     → tasks_of d hs new ≡ config.Running (stack_frame s) ∷ machine.stopped (drop 1 (tasks_of d hs s))
 below_stopped d hs s new last stops first known =
     let all = subst (λ (l : List code.Task). All (TakesKnownHandlers last) l) stops.was known in
@@ -257,7 +258,7 @@ stopped_holds d o (config.Building items ∷ rest) = refl
 stopped_holds d o (config.Handling request ∷ rest) = refl
 stopped_holds d o (config.Due source ∷ rest) = refl
 
-pub below_counts : (d : Definition) (e : Engine) (s : Stack) → StopsBelow e.stack s → IsSome (first_program e.stack.tasks.items) → Counts d nothing e → Counts d nothing (record e { stack = s })
+pub below_counts : (d : Definition) (e : Engine) (s : Frames) → StopsBelow e.stack s → IsSome (first_program e.stack.tasks.items) → Counts d nothing e → Counts d nothing (record e { stack = s })
 below_counts d e s stops first h = stack_same_held d e s
     (λ o.
     let hs = e.world.handlers.handlers in

@@ -13,7 +13,6 @@ pub use Rattle.engine_world.specs.ConnectView
 pub use Rattle.engine_world.specs.Counting
 pub use Rattle.engine_world.specs.EngineView
 pub use Rattle.engine_world.specs.GivenView
-pub use Rattle.engine_world.specs.KnownHandlers
 pub use Rattle.engine_world.specs.Standing
 pub use Rattle.engine_world.specs.TaskView
 pub use Rattle.engine_world.specs.View

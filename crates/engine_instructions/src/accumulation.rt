@@ -8,8 +8,9 @@ ghost use Rattle.ui_machine.specs.State.References.{in_option, in_register};
 ghost use Rattle.g_values.specs.View.{value_view};
 ghost use Rattle.signal_core.specs.Emission.{accumulator_of};
 ghost use Rattle.instance_tables.specs.Store.{count_of, id_of};
-ghost use Rattle.engine_world.specs.KnownHandlers.{AllTakeKnownHandlers};
-ghost use Rattle.engine_world.specs.FirstEmissions.{EmitsKnown, IsEmission, IsReemitted, emission_view, entries_left, first_emission, first_emitted};
+ghost use Rattle.frame_stacks.specs.KnownHandlers.{AllTakeKnownHandlers};
+ghost use Rattle.engine_world.specs.FirstEmissions.{IsEmission, first_emitted};
+ghost use Rattle.frame_stacks.specs.FirstEmissions.{EmitsKnown, IsReemitted, emission_view, entries_left, first_emission};
 ghost use Rattle.engine_world.specs.FirstPrograms.{rest_of};
 ghost use Rattle.engine_world.specs.Able.{Able};
 ghost use Rattle.engine_world.specs.Quiet.{IsQuiet};
@@ -24,7 +25,7 @@ use definitions::Definition;
 use engine_world::engine::Engine;
 use engine_world::references::{accumulated, hold_any, let_go_any, never_full};
 use engine_world::sources::answer_source;
-use engine_world::task::Task;
+use frame_stacks::Task;
 use g_values::Value;
 use signal_core::{Accumulator, is_last};
 use ui_machine::ObjectId;
@@ -127,7 +128,7 @@ fn give_other(engine: &mut Engine, definition: &Definition, given: Option<Value>
         return;
     };
     let source = *source;
-    engine.stack.pop();
+    engine.stack.pop_task();
     answer(engine, source, given);
 }
 

@@ -15,7 +15,8 @@ ghost use Rattle.engine_instructions.specs.CreateView.{created, has_room, protot
 ghost use Rattle.engine_world.specs.PeerPlaces.{is_there};
 ghost use Rattle.engine_world.specs.Able.{Able};
 ghost use Rattle.linked_programs.specs.Linked.{LinksPlace};
-ghost use Rattle.engine_world.specs.TaskView.{agenda_of, task_of};
+ghost use Rattle.engine_world.specs.TaskView.{agenda_of};
+ghost use Rattle.frame_stacks.specs.TaskView.{task_of};
 ghost use Rattle.engine_world.specs.Room.{HasRoom};
 ghost use Rattle.engine_world.specs.View.{world_of};
 ghost use Rattle.engine_world.specs.Executions.{Executes};
@@ -29,7 +30,7 @@ use engine_world::given::{object_or_null, object_value};
 use engine_world::object_peers::{NewPeer, new_peer};
 use engine_world::objects::{begin_construction, make};
 use engine_world::places::entry_at;
-use engine_world::task::Task;
+use frame_stacks::Task;
 use linked_programs::Link;
 use std::alloc::AllocError;
 use ui_machine::Place;

@@ -33,7 +33,7 @@ use engine_world::engine::Engine;
 use engine_world::given::object_or_null;
 use engine_world::lines::Line;
 use engine_world::references::push_task;
-use engine_world::task::{Slots, Task};
+use frame_stacks::{Slots, Task};
 use g_values::Value;
 use linked_programs::Link;
 use std::alloc::AllocError;

@@ -23,7 +23,7 @@ use engine_world::engine::Engine;
 use engine_world::program_frames::first_registers;
 use engine_world::properties::spec_of;
 use engine_world::references::push_task;
-use engine_world::task::Task;
+use frame_stacks::Task;
 use frames::value_at;
 use g_values::Value;
 use linked_programs::Link;

@@ -45,7 +45,7 @@ use Rattle.ui_machine.proofs.Prefixes.{prefix_same, prefix_one}
 use Rattle.machine_laws.proofs.KeptProofs.{only_keeps, running_grows}
 use Rattle.engine_world.specs.Measure.{sets_of_place, weight, waiting_in, waiting}
 use Rattle.engine_world.specs.MakingView.{making_of_object}
-use Rattle.engine_world.proofs.Lists.{total-append}
+use Rattle.frame_stacks.proofs.Lists.{total-append}
 use Rattle.engine_world.proofs.Floats.{Quietly, if_ok_at, bind_ok, one_floats, without_less}
 use Rattle.engine_pools.proofs.Quiet.{Calm, notifying_calm, beginning_calm, carrying_emit_calm, setting_calm, building_forward_calm, carrying_set_calm, carrying_get_calm, carrying_release_calm, thawing_calm, transferring_calm}
 use Rattle.engine_pools.proofs.Falls.{Falls, setting_falls, thawing_falls, thawing_made_falls, building_forward_falls, carrying_set_falls, carrying_get_falls, carrying_emit_falls, carrying_release_falls}

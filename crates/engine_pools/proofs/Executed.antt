@@ -3,11 +3,12 @@ use Rattle.std.proofs.Common.{◌≡◌, ℕ, Result, subst, sym}
 use Rattle.std.specs.declared.alloc.AllocError.{AllocError}
 use Rattle.ui_machine.specs.Definition.{Definition}
 use Rattle.ui_machine.specs.State.References.{in_task}
-use Rattle.engine_world.specs.Counting.{Counts, KeepsCounts, in_subject}
+use Rattle.engine_world.specs.Counting.{Counts, KeepsCounts}
+use Rattle.frame_stacks.specs.HeldByTasks.{in_subject}
 use Rattle.engine_world.specs.Executions.{Acts, ExecutesHolding, ExecutesWithoutGone}
 use Rattle.engine_world.specs.TaskView.{task_in}
 use Rattle.engine_world.specs.declared.engine.Engine.{Engine}
-use Rattle.engine_world.specs.declared.task.Task as code
+use Rattle.frame_stacks.specs.declared.task.Task as code
 use Rattle.engine_world.proofs.Counts.{taken_alike}
 use Rattle.engine_world.proofs.Registers.{on_ok}
 use Rattle.engine_instructions.proofs.Whole.{leads_whole}

@@ -13,13 +13,13 @@ use Rattle.ui_machine.specs.State.References.{mentions, next_unheld}
 use Rattle.ui_machine.specs.Steps.{asked_after, asked_first, question}
 use Rattle.law_peers.specs.Forgetting.{forgotten_reply, forgotten_state}
 use Rattle.native_peers.specs.Seen.{Asks, Relations, Seen}
-use Rattle.engine_world.specs.TaskFrames.{IsFrameless}
-use Rattle.engine_world.specs.TaskView.{task_of}
-use Rattle.engine_world.specs.declared.task.Task as code
-use Rattle.engine_world.specs.declared.task.Task.TheVariants as tasks
-use Rattle.engine_world.proofs.FirstPrograms.{first_of_last}
+use Rattle.frame_stacks.specs.TaskFrames.{IsFrameless}
+use Rattle.frame_stacks.specs.TaskView.{task_of}
+use Rattle.frame_stacks.specs.declared.task.Task as code
+use Rattle.frame_stacks.specs.declared.task.Task.TheVariants as tasks
+use Rattle.frame_stacks.proofs.FirstPrograms.{first_of_last}
 use Rattle.engine_world.proofs.OtherFirst.{IsOther, other_last}
-use Rattle.engine_world.proofs.StopsBelow.{Lasts, has_last, lasts, no_last}
+use Rattle.frame_stacks.proofs.StopsBelow.{Lasts, has_last, lasts, no_last}
 use Rattle.engine_pools.specs.Safety.{NoneUnheld}
 use Rattle.engine_pools.specs.PoolView.{Knows, MayBeAsked, Takes, forgotten_seen}
 use Rattle.engine_pools.proofs.Living.{map_read, no_seen, read_at, seen_at}

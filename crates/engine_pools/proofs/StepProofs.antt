@@ -8,12 +8,13 @@ use Rattle.ui_machine.specs.State.Tasks.{Calling}
 use Rattle.ui_machine.specs.Steps.{left, most_steps}
 use Rattle.ui_machine.specs.State.Peers.{Peer}
 use Rattle.native_peers.specs.Seen.{Relations, Seen}
-use Rattle.engine_world.specs.TaskView.{agenda_of, call_of}
+use Rattle.engine_world.specs.TaskView.{agenda_of}
+use Rattle.frame_stacks.specs.TaskView.{call_of}
 use Rattle.engine_world.specs.View.{world_of}
 use Rattle.engine_world.specs.declared.engine.Engine.{Engine}
 use Rattle.engine_world.specs.declared.engine.StepKind.{StepKind}
 use Rattle.engine_world.specs.declared.engine.StepKind.TheVariants as mades
-use Rattle.engine_world.specs.declared.task.DueCall.{DueCall}
+use Rattle.frame_stacks.specs.declared.task.DueCall.{DueCall}
 use Rattle.engine_world.proofs.Floats.{if_ok_at}
 use Rattle.engine_pools.specs.CallPoints.{Concludes, calling_view}
 use Rattle.engine_pools.specs.Courses.{RanFor}

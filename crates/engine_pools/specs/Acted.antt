@@ -8,7 +8,7 @@ use Rattle.engine_world.specs.Standing.{past_turns}
 use Rattle.engine_world.specs.TaskView.{agenda_of, task_in}
 use Rattle.engine_world.specs.View.{world_of}
 use Rattle.engine_world.specs.declared.engine.Engine.{Engine}
-use Rattle.engine_world.specs.declared.task.Task.{Task}
+use Rattle.frame_stacks.specs.declared.task.Task.{Task}
 
 -- an emission is past the turns that are passed over
 abbrev pub acted : machine.Definition → Engine → Task → Answer Config

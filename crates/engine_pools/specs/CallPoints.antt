@@ -10,10 +10,11 @@ use Rattle.ui_machine.specs.Steps.{left}
 use Rattle.native_peers.specs.Seen.{Seen}
 use Rattle.engine_world.specs.Counting.{Counts}
 use Rattle.engine_world.specs.EngineView.{config_of}
-use Rattle.engine_world.specs.TaskView.{agenda_of, call_of}
+use Rattle.engine_world.specs.TaskView.{agenda_of}
+use Rattle.frame_stacks.specs.TaskView.{call_of}
 use Rattle.engine_world.specs.View.{world_of}
 use Rattle.engine_world.specs.declared.engine.Engine.{Engine}
-use Rattle.engine_world.specs.declared.task.DueCall.{DueCall}
+use Rattle.frame_stacks.specs.declared.task.DueCall.{DueCall}
 use Rattle.engine_pools.specs.Following.{Point}
 use Rattle.engine_pools.specs.Safety.{NoneUnheld}
 

@@ -10,9 +10,10 @@ use Rattle.ui_machine.specs.State.References.{in_task}
 use Rattle.g_values.specs.View.{value_view}
 use Rattle.native_peers.specs.Seen.{Relations}
 use Rattle.engine_world.specs.Counting.{Counts, nothing}
-use Rattle.engine_world.specs.TaskView.{agenda_of, task_of}
+use Rattle.engine_world.specs.TaskView.{agenda_of}
+use Rattle.frame_stacks.specs.TaskView.{task_of}
 use Rattle.engine_world.specs.declared.engine.Engine.{Engine}
-use Rattle.engine_world.specs.declared.task.Task as code
+use Rattle.frame_stacks.specs.declared.task.Task as code
 use Rattle.engine_pools.specs.declared.dispatches.Reply.{Reply}
 use Rattle.engine_pools.specs.Following.{Halting}
 use Rattle.engine_pools.specs.PoolView.{Replied}

@@ -8,7 +8,7 @@ ghost use Rattle.engine_world.specs.View.{world_of};
 ghost use Rattle.engine_pools.specs.PoolView.{IsAskable, closed_in, due, is_due};
 
 use engine_world::engine::Engine;
-use engine_world::task::DueCall;
+use frame_stacks::DueCall;
 use g_values::Value;
 use native_peers::Peers;
 

@@ -9,7 +9,7 @@ ghost use Rattle.engine_world.specs.Counting.{Counts, nothing};
 ghost use Rattle.ui_machine.specs.Steps.{question};
 ghost use Rattle.engine_world.specs.EngineView.{config_of};
 ghost use Rattle.engine_world.specs.Quiet.{IsQuiet};
-ghost use Rattle.engine_world.specs.TaskView.{call_of};
+ghost use Rattle.frame_stacks.specs.TaskView.{call_of};
 ghost use Rattle.engine_world.specs.Room.{SameRoom};
 ghost use Rattle.engine_world.specs.View.{world_of};
 ghost use Rattle.engine_pools.specs.CallPoints.{Concludes, TakesCall, calling_point, calling_view};
@@ -22,7 +22,7 @@ use definitions::Definition;
 use engine_tasks::calls::{answer, question};
 use engine_world::engine::Engine;
 use engine_world::references::let_go_any;
-use engine_world::task::{DueCall, Task};
+use frame_stacks::{DueCall, Task};
 use native_peers::Peers;
 use std::alloc::AllocError;
 
@@ -75,7 +75,7 @@ pub(crate) fn take_call(engine: &mut Engine, definition: &Definition) -> Option<
     if !asks(engine, definition) {
         return None;
     }
-    let Some(task) = engine.stack.pop() else {
+    let Some(task) = engine.stack.pop_task() else {
         unreachable!();
     };
     let Task::Calling(call) = task else {

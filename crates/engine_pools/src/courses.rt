@@ -26,7 +26,7 @@ use crate::dispatches::{Reply, begin_dispatch, end_dispatch};
 use crate::runs::run_for;
 use definitions::Definition;
 use engine_world::engine::Engine;
-use engine_world::task::Task;
+use frame_stacks::Task;
 use g_values::Kind;
 use main_context::{Batch, Due};
 use native_peers::Peers;

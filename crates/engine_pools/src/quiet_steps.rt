@@ -4,9 +4,9 @@ ghost use Rattle.std.specs.Prelude.{◌≡◌, [], None, Ok, vec_capacity};
 ghost use Rattle.ui_machine.specs.Steps.{asked_first, question};
 ghost use Rattle.engine_world.specs.Counting.{Counts, nothing};
 ghost use Rattle.engine_world.specs.EngineView.{config_of};
-ghost use Rattle.engine_world.specs.FirstConstructions.{first_construction};
-ghost use Rattle.engine_world.specs.FirstEmissions.{first_emission};
-ghost use Rattle.engine_world.specs.FirstPrograms.{first_program};
+ghost use Rattle.frame_stacks.specs.FirstConstructions.{first_construction};
+ghost use Rattle.frame_stacks.specs.FirstEmissions.{first_emission};
+ghost use Rattle.frame_stacks.specs.FirstPrograms.{first_program};
 ghost use Rattle.engine_world.specs.Quiet.{IsQuiet};
 ghost use Rattle.engine_world.specs.TaskView.{agenda_of};
 ghost use Rattle.engine_world.specs.Room.{SameRoom};
@@ -56,7 +56,7 @@ fn take_first_task(engine: &mut Engine, definition: &Definition) -> Result<StepK
 {
     // For the proof: what is known of a definition's types.
     let _types = definition.types();
-    let Some(task) = engine.stack.pop() else {
+    let Some(task) = engine.stack.pop_task() else {
         return Ok(sink_first_floating(engine, definition));
     };
     let held = task.object();

@@ -11,11 +11,12 @@ use Rattle.ui_machine.specs.State.Tasks.{ConstructStep, Task}
 use Rattle.ui_machine.specs.Steps.{uncounted}
 use Rattle.instance_tables.specs.Store.{count_of}
 use Rattle.engine_world.specs.Counting.{Counts, nothing}
-use Rattle.engine_world.specs.FirstConstructions.{Constructed, IsConstruction, IsReconstructed, constructing_task, first_constructed, stack_construction}
+use Rattle.engine_world.specs.FirstConstructions.{IsConstruction, first_constructed}
+use Rattle.frame_stacks.specs.FirstConstructions.{Constructed, IsReconstructed, constructing_task, stack_construction}
 use Rattle.engine_world.specs.FirstPrograms.{rest_of}
 use Rattle.engine_world.specs.View.{world_of}
 use Rattle.engine_world.specs.declared.engine.Engine.{Engine}
-use Rattle.engine_world.specs.declared.stacks.Stack.{Stack}
+use Rattle.frame_stacks.specs.declared.stacks.Frames.{Frames}
 use Rattle.engine_world.proofs.FirstConstructions.{begins}
 use Rattle.engine_world.proofs.Floats.{same_self}
 use Rattle.engine_world.proofs.Held.{counted_lives}
@@ -37,7 +38,7 @@ module _ (d : Definition) (e : Engine) (first : IsConstruction e) where
       counted_lives d nothing e dead h own.object
       (let holds = ap (λ (ts : List Task). total (in_task own.object) ts) (begins d e first) in omega (arith, holds, same_self own.object))
 
-  module _ (s : Stack) (constructs : IsReconstructed e.stack s) (now : stack_construction s ≡ record (first_constructed e) { steps = (stack_construction s).steps }) where
+  module _ (s : Frames) (constructs : IsReconstructed e.stack s) (now : stack_construction s ≡ record (first_constructed e) { steps = (stack_construction s).steps }) where
     abbrev past : Constructed
     past = stack_construction s
 

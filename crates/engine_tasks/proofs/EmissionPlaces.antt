@@ -18,17 +18,19 @@ use Rattle.signal_core.specs.declared.stage.Stage.{Stage}
 use Rattle.signal_core.specs.declared.stage.Stage.TheVariants as stages
 use Rattle.signal_core.specs.declared.turn.Turn.{Turn}
 use Rattle.engine_world.specs.Counting.{Counts, nothing}
-use Rattle.engine_world.specs.FirstEmissions.{EmitsKnown, Emitted, IsEmission, IsReemitted, emission_view, emitting, entries_left, first_emitted, first_emitting, stack_emission}
+use Rattle.engine_world.specs.FirstEmissions.{IsEmission, first_emitted, first_emitting}
+use Rattle.frame_stacks.specs.FirstEmissions.{EmitsKnown, Emitted, IsReemitted, emission_view, emitting, entries_left, stack_emission}
 use Rattle.engine_world.specs.FirstPrograms.{rest_of}
-use Rattle.engine_world.specs.KnownHandlers.{EndsWithoutTransfers}
+use Rattle.frame_stacks.specs.KnownHandlers.{EndsWithoutTransfers}
 use Rattle.engine_world.specs.Standing.{past_turns}
 use Rattle.engine_world.specs.TaskView.{agenda_of}
-use Rattle.engine_world.specs.TransferView.{due_later, due_now}
+use Rattle.frame_stacks.specs.TransferView.{due_later, due_now}
 use Rattle.engine_world.specs.View.{world_of}
 use Rattle.engine_world.specs.declared.engine.Engine.{Engine}
-use Rattle.engine_world.specs.declared.stacks.Stack.{Stack}
-use Rattle.engine_world.specs.declared.task.Transfers.TheVariants as at
-use Rattle.engine_world.proofs.FirstEmissions.{begins, first_begun}
+use Rattle.frame_stacks.specs.declared.stacks.Frames.{Frames}
+use Rattle.frame_stacks.specs.declared.task.Transfers.TheVariants as at
+use Rattle.engine_world.proofs.FirstEmissions.{begins}
+use Rattle.frame_stacks.proofs.FirstEmissions.{first_begun}
 use Rattle.engine_world.proofs.Registers.{stack_same_held}
 use Rattle.engine_tasks.specs.TurnView.{given_by, program_of_turn}
 use Rattle.engine_tasks.proofs.EmissionTurns.{IsNext, free_first}
@@ -39,7 +41,7 @@ abbrev pub turned : Emitted → List Handler → Emitted
 turned e hs = record e { walk = record e.walk { stage = stage_after (next_step e.walk hs) } }
 
 -- the engine with another stack
-abbrev pub with_stack : Engine → Stack → Engine
+abbrev pub with_stack : Engine → Frames → Engine
 with_stack e s = record e { stack = s }
 
 module _ (d : Definition) (e : Engine) (first : IsEmission e) where
@@ -56,7 +58,7 @@ module _ (d : Definition) (e : Engine) (first : IsEmission e) where
   before = act d w None (past_turns w (first_emitting e) ∷ rest_of d e) e.counted
 
   -- an emission in its place that holds what the first one held
-  stands : (s : Stack) (x : Emitted) → IsReemitted e.stack s → stack_emission s ≡ x → ((o : ℕ) → in_task o (emitting x hs) ≡ in_task o (emitting own hs))
+  stands : (s : Frames) (x : Emitted) → IsReemitted e.stack s → stack_emission s ≡ x → ((o : ℕ) → in_task o (emitting x hs) ≡ in_task o (emitting own hs))
       → ((last : ℕ) → EmitsKnown last own → EmitsKnown last x) → Counts d nothing e → Counts d nothing (with_stack e s)
   stands s x emits now alike known h =
       stack_same_held d e s
@@ -69,7 +71,7 @@ module _ (d : Definition) (e : Engine) (first : IsEmission e) where
 
   -- ** a transfer is taken, or none is due
 
-  module _ (s : Stack) (emits : IsReemitted e.stack s) (now : stack_emission s ≡ record (first_emitted e) { transfers = (stack_emission s).transfers })
+  module _ (s : Frames) (emits : IsReemitted e.stack s) (now : stack_emission s ≡ record (first_emitted e) { transfers = (stack_emission s).transfers })
       (later : due_later (stack_emission s).transfers ≡ due_later (first_emitted e).transfers) where
     abbrev past : Emitted
     past = stack_emission s
@@ -102,7 +104,7 @@ module _ (d : Definition) (e : Engine) (first : IsEmission e) where
       counts_due h = stands s kept emits now (λ o. refl) (λ last known. (known.0, ends_due known.1)) h
 
     -- none is due
-    module _ (none : from_ready w.bindings (due_now own.transfers) ≡ []) (empty : due_now past.transfers ≡ []) (u : Stack) (again : IsReemitted s u)
+    module _ (none : from_ready w.bindings (due_now own.transfers) ≡ []) (empty : due_now past.transfers ≡ []) (u : Frames) (again : IsReemitted s u)
         (moved : stack_emission u ≡ turned (stack_emission s) e.world.handlers.handlers) where
       abbrev on : Emitted
       on = stack_emission u
@@ -143,7 +145,7 @@ module _ (d : Definition) (e : Engine) (first : IsEmission e) where
           ∙ ap (λ (ts : List Task). uncounted ts e.counted (beginning_program d w (program_of_turn turn) (given_by (emission_view on) turn))) (sym (emits_on.tasks d hs))
 
       -- the bindings' turn
-      module _ (v : Stack) (third : IsReemitted u v) (begun : stack_emission v ≡ record (stack_emission u) { transfers = at.Due (due_later (stack_emission u).transfers) }) where
+      module _ (v : Frames) (third : IsReemitted u v) (begun : stack_emission v ≡ record (stack_emission u) { transfers = at.Due (due_later (stack_emission u).transfers) }) where
         abbrev at_them : Emitted
         at_them = stack_emission v
 

@@ -4,7 +4,7 @@ ghost use Rattle.std.specs.Prelude.{◌≡◌, ◌<◌, ◌≤◌, ◌+◌, List
 ghost use Rattle.ui_machine.specs.Definition.Values as machine_values;
 ghost use Rattle.ui_machine.specs.Rules.Programs.{program_before};
 ghost use Rattle.ui_machine.specs.Definition as definition;
-ghost use Rattle.engine_world.specs.KnownHandlers.{TakesKnownHandlers};
+ghost use Rattle.frame_stacks.specs.KnownHandlers.{TakesKnownHandlers};
 ghost use Rattle.ui_machine.specs.Rules.Construction.{constructed, thawing_made, making, apply_construct_property, constructing};
 ghost use Rattle.ui_machine.specs.State.Handlers.{Handler};
 ghost use Rattle.ui_machine.specs.State.References.{same};
@@ -19,10 +19,11 @@ ghost use Rattle.definition_format.specs.Meaning.{object_count};
 ghost use Rattle.engine_world.specs.Able.{Able, LeadsToLiving};
 ghost use Rattle.engine_world.specs.Room.{HasRoom};
 ghost use Rattle.engine_world.specs.View.{world_of};
-ghost use Rattle.engine_world.specs.TaskFrames.{IsFrameless};
-ghost use Rattle.engine_world.specs.TaskView.{task_of, build_from, build_behind, connects_from};
+ghost use Rattle.frame_stacks.specs.TaskFrames.{IsFrameless};
+ghost use Rattle.frame_stacks.specs.TaskView.{task_of, build_from, build_behind, connects_from};
 ghost use Rattle.engine_world.specs.Counting.{Connects, Counts, IsCounted, nothing};
-ghost use Rattle.engine_world.specs.FirstConstructions.{IsConstruction, constructing_task, first_constructed};
+ghost use Rattle.engine_world.specs.FirstConstructions.{IsConstruction, first_constructed};
+ghost use Rattle.frame_stacks.specs.FirstConstructions.{constructing_task};
 ghost use Rattle.engine_world.specs.FirstPrograms.{rest_of};
 ghost use Rattle.engine_world.specs.Executions.{Acts, Executes, uncounted_step};
 
@@ -30,14 +31,13 @@ use crate::forward_references::set_forward_reference;
 use crate::programs::begin_program;
 use definitions::Definition;
 use engine_world::builder::{BuilderEntry, set_builder_entry};
-use engine_world::construction_frames::ConstructionFrame;
 use engine_world::engine::Engine;
 use engine_world::given::object_value;
 use engine_world::object_peers::own_peer;
 use engine_world::objects::{begin_construction, make};
 use engine_world::places::{entry_at, is_object, next_place};
 use engine_world::references::{hold_any, let_go_any, never_full, push_task};
-use engine_world::task::{ConstructStep, ForwardReferences, Slots, Task};
+use frame_stacks::{ConstructStep, ConstructionFrame, ForwardReferences, Slots, Task};
 use g_values::Value;
 use std::alloc::AllocError;
 use ui_machine::{ObjectId, Place, ProgramId, Slot};
@@ -118,7 +118,7 @@ fn end_first(engine: &mut Engine, definition: &Definition) -> Result<(), AllocEr
     ensures { Executes result definition.now engine.old engine.new
         (uncounted (rest_of definition.now engine.old) engine.old.counted (constructed (world_of engine.old.world) (first_constructed engine.old).object (first_constructed engine.old).held)) }
 {
-    let Some(task) = engine.stack.pop() else {
+    let Some(task) = engine.stack.pop_task() else {
         unreachable!()
     };
     let Task::Constructing(rest) = task else {

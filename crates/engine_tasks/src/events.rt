@@ -19,7 +19,7 @@ use engine_world::lines::Line;
 use engine_world::places::entry_at;
 use engine_world::properties::spec_of;
 use engine_world::references::{let_go_any, push_task};
-use engine_world::task::{NewEmission, Task};
+use frame_stacks::{NewEmission, Task};
 use std::alloc::AllocError;
 use std::rc::RcStr;
 use ui_machine::{Place, SignalId, Slot};

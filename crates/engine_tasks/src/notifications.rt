@@ -19,7 +19,7 @@ use engine_world::counted_steps::count;
 use engine_world::engine::Engine;
 use engine_world::lines::Line;
 use engine_world::references::push_task;
-use engine_world::task::{Slots, Task, Transfers};
+use frame_stacks::{Slots, Task, Transfers};
 use std::alloc::AllocError;
 use ui_machine::{ObjectId, SignalId, Slot};
 

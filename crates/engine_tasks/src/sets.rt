@@ -20,7 +20,7 @@ use engine_world::engine::Engine;
 use engine_world::lines::Line;
 use engine_world::properties::spec_of;
 use engine_world::references::{named, never_full, push_task};
-use engine_world::task::Task;
+use frame_stacks::Task;
 use g_values::{Value, is_same};
 use instance_tables::Table;
 use param_specs::{Spec, validate};

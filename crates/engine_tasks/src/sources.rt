@@ -14,7 +14,7 @@ use definitions::Definition;
 use engine_world::engine::Engine;
 use engine_world::given::object_value;
 use engine_world::references::push_task;
-use engine_world::task::Task;
+use frame_stacks::Task;
 use g_values::Value;
 use std::alloc::AllocError;
 use ui_machine::ObjectId;

@@ -28,21 +28,23 @@ use Rattle.instance_tables.proofs.Held.{total_put}
 use Rattle.instance_tables.proofs.Moves.{less_at}
 use Rattle.instance_tables.proofs.WriteExact.{write_exact}
 use Rattle.engine_world.specs.declared.engine.Engine.{Engine}
-use Rattle.engine_world.specs.declared.stacks.Stack.{Stack}
+use Rattle.frame_stacks.specs.declared.stacks.Frames.{Frames}
 use Rattle.engine_world.specs.declared.world.World.{World}
 use Rattle.bindings.specs.Made.{Made}
 use Rattle.engine_world.specs.EngineView.{config_of}
 use Rattle.engine_world.specs.View.{held_of, world_of}
-use Rattle.engine_world.specs.declared.task.Task as code
-use Rattle.engine_world.specs.TaskView.{task_in, tasks_of, agenda_of}
+use Rattle.frame_stacks.specs.declared.task.Task as code
+use Rattle.engine_world.specs.TaskView.{task_in, agenda_of}
+use Rattle.frame_stacks.specs.TaskView.{tasks_of}
 use Rattle.machine_laws.specs.GoneLaws.{Gone, pruned}
 use Rattle.machine_laws.proofs.GoneProofs.{hold_as}
 use Rattle.engine_world.proofs.Left.{same_agenda}
 use Rattle.signal_core.specs.Connected.{Connected}
 use Rattle.ui_machine.specs.State.Handlers.{Handler}
-use Rattle.engine_world.specs.KnownHandlers.{AllTakeKnownHandlers}
+use Rattle.frame_stacks.specs.KnownHandlers.{AllTakeKnownHandlers}
 use Rattle.linked_programs.specs.Linked.{AreLinked, Linked}
-use Rattle.engine_world.specs.Counting.{OnlyCounts, Connects, Counts, IsCounted, KeepsCounts, PassesGot, PassesIn, in_emitted, in_subject, nothing}
+use Rattle.engine_world.specs.Counting.{OnlyCounts, Connects, Counts, IsCounted, KeepsCounts, PassesGot, PassesIn, nothing}
+use Rattle.frame_stacks.specs.HeldByTasks.{in_emitted, in_subject}
 use Rattle.engine_world.specs.PeerPlaces.{AreAlike, AreGot, AreNumbered}
 use Rattle.engine_world.proofs.Floats.{if_ok_at, bind_ok}
 use Rattle.engine_world.proofs.GotPeers.{alike_got, alike_numbered, lent_got, names_lent}
@@ -203,7 +205,7 @@ stays d e new handlers stack h = record {
   to_come = ap (λ (c : Connected). c.to_come) handlers ∙ h.to_come;
   begun =
       subst (λ (c : Connected). AllTakeKnownHandlers c.last new.stack) (sym handlers)
-      (subst (λ (s : Stack). AllTakeKnownHandlers e.world.handlers.last s) (sym stack) h.begun);
+      (subst (λ (s : Frames). AllTakeKnownHandlers e.world.handlers.last s) (sym stack) h.begun);
 }
 
 -- nothing but the list of handlers differs
@@ -218,11 +220,11 @@ handled d e new hs is only stack h = record {
   to_come = ap (λ (c : Connected). c.to_come) (is ∙ only) ∙ h.to_come;
   begun =
       subst (λ (last : ℕ). AllTakeKnownHandlers last new.stack) (sym (ap (λ (c : Connected). c.last) (is ∙ only)))
-      (subst (λ (s : Stack). AllTakeKnownHandlers e.world.handlers.last s) (sym stack) h.begun);
+      (subst (λ (s : Frames). AllTakeKnownHandlers e.world.handlers.last s) (sym stack) h.begun);
 }
 
 -- the same handlers with other tasks
-pub restacked : (d : Definition) (e : Engine) (s : Stack) → ((last : ℕ) → AllTakeKnownHandlers last e.stack → AllTakeKnownHandlers last s) → Connects d e → Connects d (record e { stack = s })
+pub restacked : (d : Definition) (e : Engine) (s : Frames) → ((last : ℕ) → AllTakeKnownHandlers last e.stack → AllTakeKnownHandlers last s) → Connects d e → Connects d (record e { stack = s })
 restacked d e s begun h = record { most = h.most; to_come = h.to_come; begun = begun e.world.handlers.last h.begun }
 
 module _ (d : Definition) (e new : Engine) where
@@ -322,7 +324,7 @@ config_same d e t only =
     ∙ ap (λ floating. record (config_of d e) { world = record (world_of e.world) { floating = floating } }) only.floating
 
 -- a task that was taken off counts on
-pub taken_off : (d : Definition) (e : Engine) (s : Stack) (t : Task) → agenda_of d e ≡ t ∷ tasks_of d e.world.handlers.handlers s
+pub taken_off : (d : Definition) (e : Engine) (s : Frames) (t : Task) → agenda_of d e ≡ t ∷ tasks_of d e.world.handlers.handlers s
     → ((last : ℕ) → AllTakeKnownHandlers last e.stack → AllTakeKnownHandlers last s) → Counts d nothing e → Counts d (λ o. in_task o t) (record e { stack = s })
 taken_off d e s t first begun h = record {
   knows = h.knows;
@@ -348,7 +350,7 @@ given_back d e t gone only counts h = record {
 }
 
 -- another stack of the same tasks
-pub same_tasks : (d : Definition) (e : Engine) (s : Stack) → tasks_of d e.world.handlers.handlers s ≡ agenda_of d e
+pub same_tasks : (d : Definition) (e : Engine) (s : Frames) → tasks_of d e.world.handlers.handlers s ≡ agenda_of d e
     → ((last : ℕ) → AllTakeKnownHandlers last e.stack → AllTakeKnownHandlers last s) → Counts d nothing e → Counts d nothing (record e { stack = s })
 same_tasks d e s is begun h = record {
   knows = h.knows;
@@ -401,7 +403,7 @@ pub taken_alike : (d : Definition) (e : Engine) (more less : ℕ → ℕ) → ((
 taken_alike d e more less alike h = record { knows = h.knows; links = h.links; passes = h.passes; connects = h.connects; exact = λ o. omega (arith, h.exact o, alike o) }
 
 -- the rest of an emission goes on with what it was given, and holds its object
-pub pushed_rest : (d : Definition) (e : Engine) (t : Store) (s : Stack) (taken : ℕ → ℕ) (m : Emission) (entries : List PlanEntry) → OnlyCounts e.world.table t
+pub pushed_rest : (d : Definition) (e : Engine) (t : Store) (s : Frames) (taken : ℕ → ℕ) (m : Emission) (entries : List PlanEntry) → OnlyCounts e.world.table t
     → ((o : ℕ) → count_of t.counts o ≡ count_of e.world.table.counts o + same o m.object)
     → tasks_of d e.world.handlers.handlers s ≡ Emitting m entries ∷ agenda_of d e → (AllTakeKnownHandlers e.world.handlers.last e.stack → AllTakeKnownHandlers e.world.handlers.last s)
     → Counts d (λ o. taken o + in_emitted o m) e → Counts d taken (record e { world = record e.world { table = t }; stack = s })
@@ -417,7 +419,7 @@ pushed_rest d e t s taken m entries only counts first begun h = record {
 }
 
 -- the first task was taken off, and lets go what it held beside what is held for it from then on
-pub dropped : (d : Definition) (e : Engine) (t : Store) (s : Stack) (taken left gone : ℕ → ℕ) (rest : List Task) → OnlyCounts e.world.table t
+pub dropped : (d : Definition) (e : Engine) (t : Store) (s : Frames) (taken left gone : ℕ → ℕ) (rest : List Task) → OnlyCounts e.world.table t
     → ((o : ℕ) → count_of t.counts o + gone o ≡ count_of e.world.table.counts o)
     → ((o : ℕ) → total (in_task o) (agenda_of d e) + taken o ≡ total (in_task o) rest + (left o + gone o))
     → tasks_of d e.world.handlers.handlers s ≡ rest → ((last : ℕ) → AllTakeKnownHandlers last e.stack → AllTakeKnownHandlers last s)

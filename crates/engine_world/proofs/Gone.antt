@@ -21,13 +21,13 @@ use Rattle.signal_core.specs.declared.stage.Stage.{Stage}
 use Rattle.signal_core.specs.declared.stage.Stage.TheVariants as stages
 use Rattle.signal_core.specs.declared.turn.Turn.TheVariants as turns
 use Rattle.signal_core.proofs.Numbers.{numbered_lower, numbered_within}
-use Rattle.engine_world.specs.declared.stacks.Stack.{Stack}
-use Rattle.engine_world.specs.declared.task.Task as code
-use Rattle.engine_world.specs.declared.task.Task.TheVariants as tasks
+use Rattle.frame_stacks.specs.declared.stacks.Frames.{Frames}
+use Rattle.frame_stacks.specs.declared.task.Task as code
+use Rattle.frame_stacks.specs.declared.task.Task.TheVariants as tasks
 use Rattle.engine_world.specs.Standing.{entries_due, gone_handlers, makes_no_transfer, past_turns, with_first}
-use Rattle.engine_world.specs.TaskView.{emission_of, entries_to_come, task_of, tasks_of}
-use Rattle.engine_world.specs.TransferView.{due_later, due_now, entries_due_of}
-use Rattle.engine_world.specs.declared.task.Transfers.{Transfers}
+use Rattle.frame_stacks.specs.TaskView.{emission_of, entries_to_come, task_of, tasks_of}
+use Rattle.frame_stacks.specs.TransferView.{due_later, due_now, entries_due_of}
+use Rattle.frame_stacks.specs.declared.task.Transfers.{Transfers}
 use Rattle.engine_world.proofs.Notified.{reverse-map}
 
 -- ** who is gone
@@ -277,7 +277,7 @@ module _ (gone : Gone) (free : OnlyHandlers gone) (keeps : Handler → Bool) whe
     all_alike (t ∷ ts) = ap (λ x. x ∷ map (pruned gone) (map (task_of d hs) ts)) (task_alike t) ∙ ap (λ l. task_of d (filter keeps hs) t ∷ l) (all_alike ts)
 
     -- the tasks of the engine, where some handlers are gone
-    pub tasks_alike : (s : Stack) → map (pruned gone) (tasks_of d hs s) ≡ tasks_of d (filter keeps hs) s
+    pub tasks_alike : (s : Frames) → map (pruned gone) (tasks_of d hs s) ≡ tasks_of d (filter keeps hs) s
     tasks_alike s =
         ap (map (pruned gone)) (reverse-map (task_of d hs) s.tasks.items) ∙ all_alike (reverse s.tasks.items)
         ∙ sym (reverse-map (task_of d (filter keeps hs)) s.tasks.items)
@@ -363,7 +363,7 @@ left_by_itself : (gone : Gone) (hs : List Handler) → AreLeft gone (λ (h : Han
 left_by_itself gone [] = tt
 left_by_itself gone (h ∷ hs) = (refl, left_by_itself gone hs)
 
-pub none_gone : (d : Definition) (gone : Gone) → OnlyHandlers gone → (hs : List Handler) (s : Stack) → list_all (λ (h : Handler). not (gone.handlers h.number)) hs ≡ true → map (pruned gone) (tasks_of d hs s) ≡ tasks_of d hs s
+pub none_gone : (d : Definition) (gone : Gone) → OnlyHandlers gone → (hs : List Handler) (s : Frames) → list_all (λ (h : Handler). not (gone.handlers h.number)) hs ≡ true → map (pruned gone) (tasks_of d hs s) ≡ tasks_of d hs s
 none_gone d gone free hs s apart =
     tasks_alike gone free (λ (h : Handler). not (gone.handlers h.number)) d hs (left_by_itself gone hs) s
     ∙ ap (λ (l : List Handler). tasks_of d l s) (all_kept (λ (h : Handler). not (gone.handlers h.number)) hs apart)

@@ -8,15 +8,16 @@ use Rattle.ui_machine.specs.Outcome.{Answer}
 use Rattle.ui_machine.specs.Steps.{left, uncounted}
 use Rattle.signal_core.specs.Connected.{Connected}
 use Rattle.engine_world.specs.View.{world_of}
-use Rattle.engine_world.specs.TaskView.{tasks_of, agenda_of}
+use Rattle.engine_world.specs.TaskView.{agenda_of}
+use Rattle.frame_stacks.specs.TaskView.{tasks_of}
 use Rattle.engine_world.specs.EngineView.{config_of}
 use Rattle.engine_world.specs.declared.engine.Engine.{Engine}
-use Rattle.engine_world.specs.declared.stacks.Stack.{Stack}
+use Rattle.frame_stacks.specs.declared.stacks.Frames.{Frames}
 
 -- the same tasks, where the same handlers are connected
 pub same_agenda : (d : Definition) (e new : Engine) → new.stack ≡ e.stack → new.world.handlers ≡ e.world.handlers → agenda_of d new ≡ agenda_of d e
 same_agenda d e new stack handlers =
-    ap (λ (s : Stack). tasks_of d new.world.handlers.handlers s) stack ∙ ap (λ (h : Connected). tasks_of d h.handlers e.stack) handlers
+    ap (λ (s : Frames). tasks_of d new.world.handlers.handlers s) stack ∙ ap (λ (h : Connected). tasks_of d h.handlers e.stack) handlers
 
 -- a step that leaves these tasks
 pub left_by : (world' : World) (agenda' : List Task) (n counted' : ℕ) (rest : List Task) (a : Answer Started) (w : World) (ts left : List Task)

@@ -1,4 +1,3 @@
-pub mod Lists
 pub mod LivingObjects
 pub mod NewObjects
 pub mod Floats
@@ -30,7 +29,6 @@ pub mod RoomLeft
 pub mod Rooms
 pub mod HandlerAdded
 pub mod Prototypes
-pub mod BuildTasks
 pub mod Dispose
 pub mod Building
 pub mod MakingSteps
@@ -43,7 +41,5 @@ pub mod Ableness
 pub mod FirstPrograms
 pub mod FirstEmissions
 pub mod FirstConstructions
-pub mod Vectors
-pub mod StopsBelow
 pub mod Begun
 pub mod OtherFirst

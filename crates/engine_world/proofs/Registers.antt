@@ -1,5 +1,5 @@
 -- What the registers of a program hold as one is written, and the results that programs take.
-use Rattle.engine_world.specs.KnownHandlers.{AllTakeKnownHandlers}
+use Rattle.frame_stacks.specs.KnownHandlers.{AllTakeKnownHandlers}
 use Rattle.engine_world.proofs.Counts.{stays, restacked}
 use Rattle.std.proofs.Common.{◌≡◌, ◌∙◌, refl, ap, sym, map, option_map, reverse, IsSome, is_some, Bool, true, false, not, ℕ, ◌+◌, ◌<◌, length, List, [], ◌∷◌, Option, None, Some, Result, Ok, Err, zero, suc, arith}
 use Rattle.std.specs.Prelude.{OnOk}
@@ -19,20 +19,22 @@ use Rattle.ui_machine.specs.State.References.{in_object, in_task, same}
 use Rattle.ui_machine.specs.State.Tasks.{Frame, Registers, Running, Task}
 use Rattle.ui_machine.specs.State.Objects.{Objects}
 use Rattle.instance_tables.specs.Store.{Store, count_of}
-use Rattle.engine_world.specs.Counting.{Counts, KeepsCounts, OnlyCounts, OnlyTasks, in_frame}
+use Rattle.engine_world.specs.Counting.{Counts, KeepsCounts, OnlyCounts, OnlyTasks}
+use Rattle.frame_stacks.specs.HeldByTasks.{in_frame}
 use Rattle.engine_world.specs.Able.{Able}
 use Rattle.std.proofs.lemmas.Bool.Decides.{nat_tests}
-use Rattle.engine_world.specs.FirstPrograms.{first_program}
+use Rattle.frame_stacks.specs.FirstPrograms.{first_program}
 use Rattle.engine_world.proofs.Ableness.{first, no_arm, tested}
-use Rattle.engine_world.proofs.FirstPrograms.{starts_else}
+use Rattle.frame_stacks.proofs.FirstPrograms.{starts_else}
 use Rattle.engine_world.proofs.Emits.{stops_on}
 use Rattle.ui_machine.specs.declared.arm.Halt.{Halt}
 use Rattle.engine_world.specs.View.{world_of}
-use Rattle.engine_world.specs.TaskView.{agenda_of, task_of, tasks_of}
+use Rattle.engine_world.specs.TaskView.{agenda_of}
+use Rattle.frame_stacks.specs.TaskView.{task_of, tasks_of}
 use Rattle.engine_world.specs.declared.engine.Engine.{Engine}
-use Rattle.engine_world.specs.declared.stacks.Stack.{Stack}
-use Rattle.engine_world.specs.declared.task.Task as code
-use Rattle.engine_world.specs.declared.task.Task.TheVariants as tasks
+use Rattle.frame_stacks.specs.declared.stacks.Frames.{Frames}
+use Rattle.frame_stacks.specs.declared.task.Task as code
+use Rattle.frame_stacks.specs.declared.task.Task.TheVariants as tasks
 use Rattle.frames.specs.declared.frame.Frame as frames
 
 -- ** registers
@@ -141,7 +143,7 @@ module _ (d : Definition) (hs : List Handler) (v : Option Value) where
 -- ** counts
 
 -- the rest of a program goes on to hold what its registers name
-pub pushed_frame : (d : Definition) (e : Engine) (s : Stack) (taken : ℕ → ℕ) (f : Frame) → tasks_of d e.world.handlers.handlers s ≡ Running f ∷ agenda_of d e
+pub pushed_frame : (d : Definition) (e : Engine) (s : Frames) (taken : ℕ → ℕ) (f : Frame) → tasks_of d e.world.handlers.handlers s ≡ Running f ∷ agenda_of d e
     → ((last : ℕ) → AllTakeKnownHandlers last e.stack → AllTakeKnownHandlers last s) → Counts d (λ o. taken o + in_frame o f) e → Counts d taken (record e { stack = s })
 pushed_frame d e s taken f first begun h = record {
   knows = h.knows;
@@ -194,7 +196,7 @@ takes_able f rest v able = by f.into v able
     by (Some to) (Some x) may = of (with_register to (Some x) f.registers) may
 
 -- other tasks that hold the same
-pub stack_same : (d : Definition) (e : Engine) (s : Stack) → tasks_of d e.world.handlers.handlers s ≡ agenda_of d e
+pub stack_same : (d : Definition) (e : Engine) (s : Frames) → tasks_of d e.world.handlers.handlers s ≡ agenda_of d e
     → ((last : ℕ) → AllTakeKnownHandlers last e.stack → AllTakeKnownHandlers last s) → KeepsCounts d e (record e { stack = s })
 stack_same d e s same_tasks begun = record {
   at = λ taken h. record {
@@ -207,7 +209,7 @@ stack_same d e s same_tasks begun = record {
 }
 
 -- other tasks by which as much is held
-pub stack_same_held : (d : Definition) (e : Engine) (s : Stack) → ((o : ℕ) → total (in_task o) (tasks_of d e.world.handlers.handlers s) ≡ total (in_task o) (agenda_of d e))
+pub stack_same_held : (d : Definition) (e : Engine) (s : Frames) → ((o : ℕ) → total (in_task o) (tasks_of d e.world.handlers.handlers s) ≡ total (in_task o) (agenda_of d e))
     → ((last : ℕ) → AllTakeKnownHandlers last e.stack → AllTakeKnownHandlers last s) → (taken : ℕ → ℕ) → Counts d taken e → Counts d taken (record e { stack = s })
 stack_same_held d e s held begun taken h = record {
   knows = h.knows;
@@ -218,7 +220,7 @@ stack_same_held d e s held begun taken h = record {
 }
 
 -- a program that was taken off
-pub popped_frame : (d : Definition) (e : Engine) (s : Stack) (taken : ℕ → ℕ) (f : Frame) → agenda_of d e ≡ Running f ∷ tasks_of d e.world.handlers.handlers s
+pub popped_frame : (d : Definition) (e : Engine) (s : Frames) (taken : ℕ → ℕ) (f : Frame) → agenda_of d e ≡ Running f ∷ tasks_of d e.world.handlers.handlers s
     → ((last : ℕ) → AllTakeKnownHandlers last e.stack → AllTakeKnownHandlers last s) → Counts d taken e → Counts d (λ o. taken o + in_frame o f) (record e { stack = s })
 popped_frame d e s taken f first begun h = record {
   knows = h.knows;

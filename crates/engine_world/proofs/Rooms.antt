@@ -17,17 +17,19 @@ use Rattle.bytecode.specs.Computing.{registers_of}
 use Rattle.law_typing.specs.Good.Agenda.{frames, is_frame}
 use Rattle.instance_tables.proofs.Few.{same_most, value_most}
 use Rattle.instance_tables.specs.Store.{Store, count_of, may_hold}
-use Rattle.engine_world.proofs.Lists.{total-append}
+use Rattle.frame_stacks.proofs.Lists.{total-append}
 use Rattle.frames.specs.FrameView.{frame_view}
 use Rattle.frames.specs.declared.frame.Frame.{Frame}
-use Rattle.engine_world.specs.Counting.{Counts, IsCounted, in_frame}
-use Rattle.engine_world.specs.TaskFrames.{framed, is_framed}
-use Rattle.engine_world.specs.TaskView.{agenda_of, task_in, task_of, tasks_of}
+use Rattle.engine_world.specs.Counting.{Counts, IsCounted}
+use Rattle.frame_stacks.specs.HeldByTasks.{in_frame}
+use Rattle.frame_stacks.specs.TaskFrames.{framed, is_framed}
+use Rattle.engine_world.specs.TaskView.{agenda_of, task_in}
+use Rattle.frame_stacks.specs.TaskView.{task_of, tasks_of}
 use Rattle.engine_world.specs.View.{held_of}
 use Rattle.engine_world.specs.declared.engine.Engine.{Engine}
-use Rattle.engine_world.specs.declared.stacks.Stack.{Stack}
-use Rattle.engine_world.specs.declared.task.Task.{Task}
-use Rattle.engine_world.specs.declared.task.Task.TheVariants as tasks
+use Rattle.frame_stacks.specs.declared.stacks.Frames.{Frames}
+use Rattle.frame_stacks.specs.declared.task.Task.{Task}
+use Rattle.frame_stacks.specs.declared.task.Task.TheVariants as tasks
 
 -- ** sums
 
@@ -136,7 +138,7 @@ task_counted d e t h = record { taken = λ o. in_task o (task_in d e t); counts 
 pub frame_counted : (d : machine.Definition) (e : Engine) (f : Frame) → Counts d (λ o. in_frame o (frame_view f)) e → IsCounted d e
 frame_counted d e f h = record { taken = λ o. in_frame o (frame_view f); counts = h; little = λ o. omega (arith, task_most d e.world.handlers.handlers o (tasks.Running f)) }
 
-agenda_most : (d : machine.Definition) (hs : List Handler) (s : Stack) (o : ℕ)
+agenda_most : (d : machine.Definition) (hs : List Handler) (s : Frames) (o : ℕ)
     → total (in_task o) (tasks_of d hs s) ≤ length s.tasks.items * 9223372036854775809
 agenda_most d hs s o =
     omega (
@@ -147,7 +149,7 @@ agenda_most d hs s o =
     )
 
 -- as many tasks are left as lie in the stack
-pub tasks_counted : (d : machine.Definition) (hs : List Handler) (s : Stack) → length (tasks_of d hs s) ≡ vec_len s.tasks
+pub tasks_counted : (d : machine.Definition) (hs : List Handler) (s : Frames) → length (tasks_of d hs s) ≡ vec_len s.tasks
 tasks_counted d hs s = length-reverse (map (task_of d hs) s.tasks.items) ∙ length-map s.tasks.items (task_of d hs) ∙ sym s.tasks.ok.0
 
 -- each program and each emission among them is a frame
@@ -174,7 +176,7 @@ total_framed : (d : machine.Definition) (hs : List Handler) (ts : List Task) →
 total_framed d hs [] = omega arith
 total_framed d hs (t ∷ ts) = omega (arith, framed_is_frame d hs t, total_framed d hs ts)
 
-pub frames_few : (d : machine.Definition) (hs : List Handler) (s : Stack) → framed s.tasks ≤ frames (tasks_of d hs s)
+pub frames_few : (d : machine.Definition) (hs : List Handler) (s : Frames) → framed s.tasks ≤ frames (tasks_of d hs s)
 frames_few d hs s =
     omega (
       arith,

@@ -4,7 +4,7 @@ use Rattle.std.proofs.lemmas.Bool.Decides.{nat_tests}
 use Rattle.std.proofs.lemmas.List.Elements.{All-cons, All-head, All-nil, All-tail}
 use Rattle.std.specs.Prelude.{All}
 use Rattle.ui_machine.specs.Rules.EmissionPlan.{runs_for}
-use Rattle.engine_world.specs.KnownHandlers.{AllTakeKnownHandlers, TakesKnownHandlers}
+use Rattle.frame_stacks.specs.KnownHandlers.{AllTakeKnownHandlers, TakesKnownHandlers}
 use Rattle.std.specs.List.{flat_map, filter}
 use Rattle.ui_machine.specs.Definition.{Definition}
 use Rattle.ui_machine.specs.Definition.Properties.{has_flags}
@@ -15,12 +15,12 @@ use Rattle.signal_core.specs.Emission.{Due, Walk, from_after, from_before, from_
 use Rattle.signal_core.specs.Laws.{entries_of, number_at}
 use Rattle.signal_core.specs.declared.stage.Stage.{Stage}
 use Rattle.signal_core.specs.declared.stage.Stage.TheVariants as stages
-use Rattle.engine_world.specs.TaskView.{emission_of, entries_to_come, task_of, tasks_of}
-use Rattle.engine_world.specs.TransferView.{due_later, due_now, entries_due_of}
-use Rattle.engine_world.specs.declared.task.Transfers.{Transfers}
-use Rattle.engine_world.specs.declared.stacks.Stack.{Stack}
-use Rattle.engine_world.specs.declared.task.Task as code
-use Rattle.engine_world.specs.declared.task.Task.TheVariants as tasks
+use Rattle.frame_stacks.specs.TaskView.{emission_of, entries_to_come, task_of, tasks_of}
+use Rattle.frame_stacks.specs.TransferView.{due_later, due_now, entries_due_of}
+use Rattle.frame_stacks.specs.declared.task.Transfers.{Transfers}
+use Rattle.frame_stacks.specs.declared.stacks.Frames.{Frames}
+use Rattle.frame_stacks.specs.declared.task.Task as code
+use Rattle.frame_stacks.specs.declared.task.Task.TheVariants as tasks
 
 -- the entries of these turns, where the bindings have these transfers
 abbrev pub entries : List PlanEntry → List Due → List PlanEntry
@@ -112,7 +112,7 @@ module _ (d : Definition) (hs ks : List Handler) where
   all_same [] is = refl
   all_same (t ∷ ts) is = ap (λ x. x ∷ map (task_of d hs) ts) (task_same t is.0) ∙ ap (λ l. task_of d ks t ∷ l) (all_same ts is.1)
 
-  pub tasks_same : (s : Stack) → OfEmissions Same s.tasks.items → tasks_of d hs s ≡ tasks_of d ks s
+  pub tasks_same : (s : Frames) → OfEmissions Same s.tasks.items → tasks_of d hs s ≡ tasks_of d ks s
   tasks_same s is = ap (λ (l : List config.Task). reverse l) (all_same s.tasks.items is)
 
 -- ** blocks
@@ -173,7 +173,7 @@ module _ (d : Definition) (change : Handler → Handler) (only : OnlyBlocks chan
       by (tasks.Due source) = tt
       by (tasks.Handling event) = tt
 
-  pub blocks_same : (s : Stack) → tasks_of d (map change hs) s ≡ tasks_of d hs s
+  pub blocks_same : (s : Frames) → tasks_of d (map change hs) s ≡ tasks_of d hs s
   blocks_same s = tasks_same d (map change hs) hs s (all_turns s.tasks.items)
 
 -- ** a handler more
@@ -224,11 +224,11 @@ module _ (d : Definition) (h : Handler) (hs : List Handler) (last : ℕ) (later 
       by (tasks.Due source) begun = tt
       by (tasks.Handling event) begun = tt
 
-  pub connected_same : (s : Stack) → AllTakeKnownHandlers last s → tasks_of d (hs ++ h ∷ []) s ≡ tasks_of d hs s
+  pub connected_same : (s : Frames) → AllTakeKnownHandlers last s → tasks_of d (hs ++ h ∷ []) s ≡ tasks_of d hs s
   connected_same s begun = tasks_same d (hs ++ h ∷ []) hs s (begun_turns s.tasks.items begun)
 
 -- what was begun with numbers up to one was so with numbers up to a greater one
-pub begun_more : (last more : ℕ) → last ≤ more → (s : Stack) → AllTakeKnownHandlers last s → AllTakeKnownHandlers more s
+pub begun_more : (last more : ℕ) → last ≤ more → (s : Frames) → AllTakeKnownHandlers last s → AllTakeKnownHandlers more s
 begun_more last more few s begun = all_more s.tasks.items begun
   where
     one_more : (t : code.Task) → TakesKnownHandlers last t → TakesKnownHandlers more t

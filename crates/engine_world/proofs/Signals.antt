@@ -1,11 +1,11 @@
 -- The signals of a definition's objects, in the order in which they are connected.
-use Rattle.std.proofs.Common.{◌≡◌, Ok, Err, ℕ, zero, suc, ◌+◌, ◌-◌, ◌<◌, ◌≤◌, nat_lt, min, Bool, true, false, cond, List, [], ◌∷◌, ◌++◌, length, drop, get_or, map, reverse, Option, Some, None, slice_get, refl, sym, ap, ◌∙◌, arith}
+use Rattle.std.proofs.Common.{◌≡◌, Ok, Err, ℕ, zero, suc, ◌+◌, ◌-◌, ◌<◌, ◌≤◌, nat_lt, min, Bool, true, false, cond, List, [], ◌∷◌, ◌++◌, length, drop, get_or, map, Option, Some, None, slice_get, refl, sym, ap, ◌∙◌, arith}
 use Rattle.std.proofs.lemmas.Bool.Decides.{nat_tests}
-use Rattle.std.proofs.lemmas.List.{length-drop, reverse-append}
+use Rattle.std.proofs.lemmas.List.{length-drop}
 use Rattle.std.proofs.Math.Seq.{drop-cons}
 use Rattle.ui_machine.specs.Rules.Connections.{detail_at, greatest_handler, signal_number}
 use Rattle.engine_world.specs.ConnectView.{Takes, attached_at}
-use Rattle.engine_world.proofs.Lists.{total-append}
+use Rattle.frame_stacks.proofs.Lists.{total-append}
 use Rattle.ui_machine.specs.Definition.{Definition}
 use Rattle.ui_machine.specs.Definition.Lookups.{place_at}
 use Rattle.ui_machine.specs.Definition.Places.{Attached, Bind, Place}
@@ -16,8 +16,8 @@ use Rattle.ui_machine.specs.Outcome.{Answer, known, ◌>>=◌}
 use Rattle.ui_machine.specs.State.Config.{World, starts}
 use Rattle.ui_machine.specs.State.Tasks.{Building, Item, Task, connects}
 use Rattle.ui_machine.specs.State.Tasks as tasks
-use Rattle.engine_world.specs.TaskView.{binds_from, build_end, build_from, connects_from, item_of, signals_of}
-use Rattle.engine_world.specs.declared.task.ForwardReference.{ForwardReference}
+use Rattle.frame_stacks.specs.TaskView.{binds_from, build_end, build_from, connects_from, item_of, signals_of}
+use Rattle.frame_stacks.specs.declared.task.ForwardReference.{ForwardReference}
 use Rattle.definition_format.specs.Meaning.{IsBasic, object_count}
 use Rattle.engine_world.proofs.Prototypes.{connected_past, signals_past}
 
@@ -169,14 +169,6 @@ tasks_left g f xs i x within is =
     ap (λ ys. total (of_items g) (map f ys)) (drop-cons xs i x within)
     ∙ ap (λ y. of_items g (f y) + total (of_items g) (map f (drop (suc i) xs))) (sym is)
     ∙ ap (λ k. of_items g (f x) + total (of_items g) (map f (drop k xs))) (let e : suc i ≡ i + 1 = omega arith in e)
-
--- and so in any order
-pub reversed_count : (g : Item → ℕ) (ts : List Task) → total (of_items g) (reverse ts) ≡ total (of_items g) ts
-reversed_count g [] = refl
-reversed_count g (t ∷ ts) =
-    ap (total (of_items g)) (reverse-append (t ∷ []) ts)
-    ∙ total-append (of_items g) (reverse ts) (t ∷ [])
-    ∙ let rest = reversed_count g ts in omega (arith, rest)
 
 -- ** a signal that is connected
 

@@ -4,8 +4,7 @@ use Rattle.std.specs.Global.{Global}
 use Rattle.ui_machine.specs.Definition.{Definition}
 use Rattle.ui_machine.specs.State.Objects.{living}
 use Rattle.ui_machine.specs.State.Peers.{Peer}
-use Rattle.ui_machine.specs.State.References.{same, in_value, in_register, in_held, in_task, mentions}
-use Rattle.ui_machine.specs.State.Tasks.{Emission, Frame, Task, Beginning, Calling, Emitting, Running}
+use Rattle.ui_machine.specs.State.References.{in_held, in_task, mentions}
 use Rattle.instance_tables.specs.Store.{Store, count_of}
 use Rattle.engine_world.specs.declared.engine.Engine.{Engine}
 use Rattle.engine_world.specs.declared.world.World.{World}
@@ -13,11 +12,11 @@ use Rattle.instance_tables.specs.Weak.{Knows}
 use Rattle.linked_programs.specs.Linked.{AreLinked}
 use Rattle.ui_machine.specs.Seq.{total}
 use Rattle.engine_world.specs.View.{world_of}
-use Rattle.engine_world.specs.KnownHandlers.{AllTakeKnownHandlers}
+use Rattle.frame_stacks.specs.KnownHandlers.{AllTakeKnownHandlers}
 use Rattle.engine_world.specs.PeerPlaces.{AreGot, AreNumbered}
 use Rattle.engine_world.specs.EngineView.{config_of}
 use Rattle.engine_world.specs.TaskView.{agenda_of, task_in}
-use Rattle.engine_world.specs.declared.task.Task as code
+use Rattle.frame_stacks.specs.declared.task.Task as code
 
 -- nothing but the counts of a table differs
 pub record OnlyCounts (old new : Store) : Type 0 where
@@ -91,29 +90,3 @@ pub record KeepsCounts (d : Definition) (old new : Engine) : Type 0 where
 -- nothing was taken off
 abbrev pub nothing : ℕ → ℕ
 nothing o = 0
-
--- ** what is held by a task that is done
-
--- what an emission holds beside its object: its arguments, and the value that it has accumulated
-abbrev pub in_emitted : ℕ → Emission → ℕ
-in_emitted o e = total (in_value o) e.args + in_register o e.value
-
--- what a program that runs holds: what its registers name
-abbrev pub in_frame : ℕ → Frame → ℕ
-in_frame o f = total (in_register o) f.registers
-
--- what a task holds beside its subject
-abbrev pub in_given : ℕ → Task → ℕ
-in_given o (Beginning emission) = in_emitted o emission
-in_given o (Emitting emission entries) = in_emitted o emission
-in_given o (Running frame) = in_frame o frame
-in_given o (Calling call) = total (in_value o) call.args
-in_given o _ = 0
-
--- the object that a task holds; it is let go once the task is done
-abbrev pub in_subject : ℕ → Task → ℕ
-in_subject o (Beginning emission) = same o emission.object
-in_subject o (Emitting emission entries) = same o emission.object
-in_subject o (Running frame) = 0
-in_subject o (Calling call) = same o call.object
-in_subject o task = in_task o task

@@ -11,9 +11,7 @@ pub mod View
 pub mod MakingView
 pub mod LineView
 pub mod TransferView
-pub mod TaskFrames
 pub mod TaskView
-pub mod KnownHandlers
 pub mod ConnectView
 pub mod SourceView
 pub mod Measure
@@ -25,5 +23,4 @@ pub mod Standing
 pub mod Counting
 pub mod Able
 pub mod Executions
-pub mod BuildTasks
 pub mod Room

@@ -1,5 +1,5 @@
--- What a step of a construction denotes in the machine, and what a construction does.
-use Rattle.std.specs.Prelude.{ℕ, cond, List, [], ◌∷◌, ◌++◌, map, reverse}
+-- What the construction of an object does.
+use Rattle.std.specs.Prelude.{ℕ, cond, List, [], ◌∷◌, ◌++◌, map}
 use Rattle.ui_machine.specs.Seq.{read}
 use Rattle.ui_machine.specs.Definition.{Definition}
 use Rattle.ui_machine.specs.Definition.Lookups.{specs_of}
@@ -8,20 +8,8 @@ use Rattle.ui_machine.specs.Definition.Properties.{Spec}
 use Rattle.ui_machine.specs.State.Tasks as config
 use Rattle.ui_machine.specs.State.Config.{World}
 use Rattle.ui_machine.specs.Rules.Construction.{is_forward, not_forward, is_at_construction, given_value, given_at, or_default, set_of, no_spec, construct_sets, constructed_runs, given_sets}
-use Rattle.g_values.specs.View.{value_view}
 use Rattle.definition_format.specs.declared.objects.GivenValue.{GivenValue}
 use Rattle.definition_format.specs.Meaning.{given_property}
-use Rattle.engine_world.specs.declared.task.ConstructStep.{ConstructStep}
-use Rattle.engine_world.specs.declared.task.ConstructStep.TheVariants as makings
-
-abbrev pub making_of_code : ConstructStep → config.ConstructStep
-making_of_code (makings.Set slot v) = config.sets slot (value_view v)
-making_of_code (makings.Run program) = config.runs program
-making_of_code makings.Thaw = config.thaws
-
--- the steps of a list, the last of which is the first
-abbrev pub making_steps : List ConstructStep → List config.ConstructStep
-making_steps steps = reverse (map making_of_code steps)
 
 -- the set of a construct property from this slot, to the given value or its default
 abbrev pub construct_set : World → List GivenProperty → ℕ → Spec → List config.ConstructStep

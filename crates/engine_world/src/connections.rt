@@ -8,7 +8,8 @@ ghost use Rattle.signal_core.specs.Connected.{connection_of, has_room};
 ghost use Rattle.engine_world.specs.ConnectView.{is_connected, is_full, left_by, told_by, Takes};
 ghost use Rattle.engine_world.specs.Counting.{Connects, KeepsCounts};
 ghost use Rattle.engine_world.specs.Quiet.{IsQuiet};
-ghost use Rattle.engine_world.specs.TaskView.{agenda_of, connects_from, signals_of, task_of};
+ghost use Rattle.engine_world.specs.TaskView.{agenda_of};
+ghost use Rattle.frame_stacks.specs.TaskView.{connects_from, signals_of, task_of};
 ghost use Rattle.engine_world.specs.View.{world_of};
 ghost use Rattle.ui_machine.specs.Definition.Lookups.{place_at};
 ghost use Rattle.ui_machine.specs.Seq.{total};
@@ -17,8 +18,8 @@ ghost use Rattle.ui_machine.specs.State.Tasks.{connects};
 
 use crate::engine::Engine;
 use crate::places::FIRST_PLACE;
-use crate::task::Task;
 use definitions::Definition;
+use frame_stacks::Task;
 use instance_tables::Table;
 use signal_core::{ConnectError, Connection};
 use std::alloc::AllocError;
@@ -187,18 +188,16 @@ fn taken_from(definition: &Definition, last: u64, place: Place, number: usize) -
     taken
 }
 
-impl Task {
-    // Returns the number that the last handler has once the builder has connected the signals that this task leaves to connect.
-    fn taken_by(&self, definition: &Definition, last: u64) -> u64
-        ensures { (hs : List Handler) → Takes last (of_items is_connecting (task_of definition.now hs self.now)) result }
-    {
-        match self {
-            Task::Building { .. } => taken_from(definition, last, FIRST_PLACE, 0),
-            Task::Adopting { .. } => taken_from(definition, last, FIRST_PLACE, 0),
-            Task::Binding { .. } => taken_from(definition, last, FIRST_PLACE, 0),
-            Task::Connecting { place, number } => taken_from(definition, last, *place, *number),
-            _ => last,
-        }
+// Returns the number that the last handler has once the builder has connected the signals that this task leaves to connect.
+fn taken_by(task: &Task, definition: &Definition, last: u64) -> u64
+    ensures { (hs : List Handler) → Takes last (of_items is_connecting (task_of definition.now hs task.now)) result }
+{
+    match task {
+        Task::Building { .. } => taken_from(definition, last, FIRST_PLACE, 0),
+        Task::Adopting { .. } => taken_from(definition, last, FIRST_PLACE, 0),
+        Task::Binding { .. } => taken_from(definition, last, FIRST_PLACE, 0),
+        Task::Connecting { place, number } => taken_from(definition, last, *place, *number),
+        _ => last,
     }
 }
 
@@ -209,7 +208,7 @@ fn has_handler_number(engine: &Engine, definition: &Definition) -> bool
     let mut taken = engine.world.handlers.last();
     let build = engine.stack.of_build();
     for task in build {
-        taken = task.taken_by(definition, taken);
+        taken = taken_by(task, definition, taken);
     }
     taken < u64::MAX
 }

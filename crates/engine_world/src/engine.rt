@@ -1,19 +1,18 @@
 //! The engine of a run: its world and the tasks that are left.
 
-ghost use Rattle.std.specs.Prelude.{◌≡◌, None, [], vec_capacity, IfOk};
+ghost use Rattle.std.specs.Prelude.{◌≡◌, ◌+◌, ◌*◌, None, [], vec_capacity, IfOk};
 ghost use Rattle.ui_machine.specs.Definition as machine;
 ghost use Rattle.ui_machine.specs.Runs.{first_world};
-ghost use Rattle.engine_world.specs.KnownHandlers.{AllTakeKnownHandlers};
+ghost use Rattle.frame_stacks.specs.KnownHandlers.{AllTakeKnownHandlers};
 ghost use Rattle.signal_core.specs.Connected.{none_connected};
 ghost use Rattle.engine_world.specs.View.{world_of};
 ghost use Rattle.engine_world.specs.TaskView.{agenda_of};
 
 use crate::reserves::{Room, Spare};
 use crate::seats::Seats;
-use crate::stacks::Stack;
-use crate::task::ConstructStep;
 use crate::world::World;
 use bindings::Bindings;
+use frame_stacks::{ConstructStep, Frames};
 use g_values::Value;
 use instance_tables::{Table, WeakSlots};
 use linked_programs::Links;
@@ -26,7 +25,7 @@ use ui_machine::Limits;
 #[derive(Drop)]
 pub struct Engine {
     pub world: World,
-    pub stack: Stack,
+    pub stack: Frames,
     /// The meanings of the names in programs.
     pub links: Links,
     /// The list in which the first registers of a program are gathered.
@@ -79,12 +78,11 @@ impl Engine {
         ensures begun { IfOk result (λ e. AllTakeKnownHandlers 0 e.stack) }
         ensures closing { IfOk result (λ e. e.closing ≡ None) }
         ensures idle { IfOk result (λ e. (d : machine.Definition) → agenda_of d e ≡ []) }
-        ensures room { IfOk result (λ e. vec_capacity e.stack.tasks ≡ room.tasks) }
+        ensures room { IfOk result (λ e. vec_capacity e.stack.tasks ≡ 2 * room.depth + 4) }
     {
-        let args = room.args.min(room.registers);
-        let stack = Stack::new(alloc, room.tasks, room.registers, args)?;
+        let stack = Frames::new(alloc, room.depth, room.registers)?;
         let spare_registers = Spare::new(alloc, 1, room.registers)?;
-        let mut spare_args = Spare::new(alloc, 1, args)?;
+        let mut spare_args = Spare::new(alloc, 1, room.registers)?;
         spare_args.add_wide(alloc, room.args)?;
         let spare_steps = Spare::new(alloc, room.constructions, room.steps)?;
         Ok(Engine {

@@ -20,15 +20,14 @@ ghost use Rattle.engine_world.specs.TaskView.{agenda_of};
 ghost use Rattle.engine_world.specs.Counting.{KeepsCounts, MayBeHeld};
 
 use crate::construct_steps::{GivenAt, construction};
-use crate::construction_frames::ConstructionFrame;
 use crate::engine::Engine;
 use crate::lines::Line;
 use crate::object_peers::{count_got, numbers_at};
 use crate::places::entry_at;
 use crate::references::push_task;
 use crate::seats::Seats;
-use crate::task::{ConstructSteps, Task};
 use definitions::Definition;
+use frame_stacks::{ConstructSteps, ConstructionFrame, Task};
 use g_values::Value;
 use instance_tables::{Object, Table};
 use std::alloc::{AllocError, Global};

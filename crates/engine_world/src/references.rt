@@ -13,15 +13,17 @@ ghost use Rattle.ui_machine.specs.State.References.{in_option, in_register, in_v
 ghost use Rattle.g_values.specs.View.{value_view};
 ghost use Rattle.bytecode.specs.Computing.{registers_of};
 ghost use Rattle.instance_tables.specs.Store.{id_of, count_of, may_hold, named_by};
-ghost use Rattle.engine_world.specs.KnownHandlers.{TakesKnownHandlers};
+ghost use Rattle.frame_stacks.specs.KnownHandlers.{TakesKnownHandlers};
 ghost use Rattle.engine_world.specs.Room.{TakesRoom};
 ghost use Rattle.engine_world.specs.View.{world_of};
-ghost use Rattle.engine_world.specs.TaskFrames.{IsFrameless};
-ghost use Rattle.engine_world.specs.TaskView.{task_of, task_in, agenda_of};
-ghost use Rattle.engine_world.specs.Counting.{Connects, IsCounted, MayHold, MayPush, OnlyCounts, KeepsCounts, in_given, in_subject};
+ghost use Rattle.frame_stacks.specs.TaskFrames.{IsFrameless};
+ghost use Rattle.engine_world.specs.TaskView.{task_in, agenda_of};
+ghost use Rattle.frame_stacks.specs.TaskView.{task_of};
+ghost use Rattle.engine_world.specs.Counting.{Connects, IsCounted, MayHold, MayPush, OnlyCounts, KeepsCounts};
+ghost use Rattle.frame_stacks.specs.HeldByTasks.{in_given, in_subject};
 
 use crate::engine::Engine;
-use crate::task::Task;
+use frame_stacks::Task;
 use g_values::Value;
 use instance_tables::Table;
 use signal_core::Cursor;
@@ -92,33 +94,6 @@ pub fn accumulated(cursor: &Cursor) -> Option<ObjectId>
     match cursor.accumulated() {
         Some(value) => named(value),
         None => None,
-    }
-}
-
-impl Task {
-    /// Returns the object that a task holds, if it holds one. It is let go once the task is done.
-    pub fn object(&self) -> Option<ObjectId>
-        ensures { (d : machine.Definition) (hs : List Handler) (o : ℕ) → in_option o (id_of result) ≡ in_subject o (task_of d hs self.now) }
-    {
-        match self {
-            Task::Setting { object, .. } => Some(*object),
-            Task::Notifying { object, .. } => Some(*object),
-            Task::Beginning(emission) => Some(emission.object),
-            Task::Emitting(emission) => Some(emission.cursor.object()),
-            Task::Transferring { .. } => None,
-            Task::Unsetting { .. } => None,
-            Task::Running(_) => None,
-            Task::Thawing { object, .. } => Some(*object),
-            Task::Constructing(construction) => Some(construction.object),
-            Task::Building { .. } => None,
-            Task::Adopting { .. } => None,
-            Task::Binding { .. } => None,
-            Task::Connecting { .. } => None,
-            Task::Answering { .. } => None,
-            Task::Calling(call) => Some(call.object),
-            Task::Handling(_) => None,
-            Task::Due { .. } => None,
-        }
     }
 }
 
@@ -214,5 +189,5 @@ pub fn push_task(engine: &mut Engine, task: Task)
     never_full(engine);
     hold_any(&mut engine.world.table, task.object());
     hold_given(&mut engine.world.table, &task);
-    engine.stack.push(task);
+    engine.stack.push_task(task);
 }

@@ -6,11 +6,11 @@ use std::alloc::{AllocError, Global};
 use std::marker::Model;
 use std::mem;
 
-/// The room that a run reserves: for `tasks` tasks, for programs with at most `registers` registers and emissions with at most `args`
-/// arguments, and for `constructions` constructions at a time with `steps` steps each.
+/// The room that a run reserves: for `depth` frames at a time, for programs with at most `registers` registers and emissions with at most
+/// `args` arguments, and for `constructions` constructions at a time with `steps` steps each.
 #[derive(Debug, Drop)]
 pub struct Room {
-    pub tasks: usize,
+    pub depth: u32,
     pub registers: usize,
     pub constructions: usize,
     pub steps: usize,

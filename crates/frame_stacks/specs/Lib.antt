@@ -1,2 +1,12 @@
-pub mod Stack
 pub mod Stocks
+pub mod TransferView
+pub mod MakingView
+pub mod BuildTasks
+pub mod TaskFrames
+pub mod TaskView
+pub mod KnownHandlers
+pub mod HeldByTasks
+pub mod FirstPrograms
+pub mod FirstEmissions
+pub mod FirstConstructions
+pub mod ListedFrames

@@ -1,6 +1,6 @@
 //! Vectors of one room that are not in use.
 
-ghost use Rattle.std.specs.Prelude.{◌≡◌, ◌+◌, ◌<◌, ◌≤◌, [], IfOk, vec_capacity};
+ghost use Rattle.std.specs.Prelude.{◌≡◌, ◌+◌, ◌-◌, ◌<◌, ◌≤◌, [], IfOk, vec_capacity};
 ghost use Rattle.frame_stacks.specs.Stocks.{is_usual};
 
 use std::alloc::{AllocError, Global};
@@ -39,6 +39,16 @@ impl<T: Drop> Stock<T> {
             vectors.push_reserved(Vec::with_capacity(alloc, room)?);
         }
         Ok(Stock { vectors, room })
+    }
+
+    /// Takes a vector of the stock.
+    pub fn take(&mut self) -> Vec<T>
+        requires left { 0 < self.now.count }
+        ensures empty { result.items ≡ [] }
+        ensures room { vec_capacity result ≡ self.old.room }
+        ensures taken { self.new ≡ record self.old { count = self.old.count - 1 } }
+    {
+        self.vectors.pop().unwrap()
     }
 
     /// Takes these values in their vector. A vector of the stock is left in its place if it has the stock's room, and a vector without

@@ -1,6 +1,6 @@
 //! Frames of each kind, pushed out of vectors of any capacity, and popped; and vectors that a stock keeps.
 
-use crate::{Frame, Frames, Stock};
+use crate::{Frame, Frames, Stock, Task};
 use g_values::Value;
 use signal_core::{Emission, Handlers, SignalFlags};
 use std::test::Fail;
@@ -13,7 +13,7 @@ fn the_last_pushed_is_the_first_popped(rt: HostRuntime) -> Result<(), Fail> {
     values.push_reserved(Value::Int(1));
     values.push_reserved(Value::Bool(true));
     frames.push(Frame::Program(7), &mut values);
-    assert!(rt; values.is_empty());
+    assert_eq!(rt; (values.len(), values.capacity()), (0, 5));
     let emission = Emission {
         object: ObjectId(4),
         signal: 2,
@@ -27,16 +27,40 @@ fn the_last_pushed_is_the_first_popped(rt: HostRuntime) -> Result<(), Fail> {
     one.push_reserved(Value::UInt(5));
     frames.push(Frame::Emission(cursor), &mut one);
     frames.push(Frame::Construction(ObjectId(9)), &mut Vec::new(rt.alloc()));
-    assert_eq!(rt; frames.len(), 3);
-    assert!(rt; frames.values().is_empty());
+    assert_eq!(rt; frames.tasks.len(), 3);
     assert!(rt; matches!(frames.pop(), Some(Frame::Construction(ObjectId(9)))));
-    assert!(rt; matches!(frames.values(), [Value::UInt(5)]));
     assert!(rt; matches!(frames.pop(), Some(Frame::Emission(_))));
-    assert!(rt; matches!(frames.values(), [Value::Int(1), Value::Bool(true)]));
     assert!(rt; matches!(frames.pop(), Some(Frame::Program(7))));
     assert!(rt; matches!(frames.pop(), None));
-    assert!(rt; frames.values().is_empty());
-    assert_eq!(rt; (frames.len(), frames.depth(), frames.width()), (0, 3, 2));
+    assert!(rt; frames.tasks.is_empty());
+    Ok(())
+}
+
+#[test]
+fn the_values_of_a_program_are_in_its_first_registers(rt: HostRuntime) -> Result<(), Fail> {
+    let mut frames = Frames::new(rt.alloc(), 1, 2)?;
+    let mut values = Vec::with_capacity(rt.alloc(), 2)?;
+    values.push_reserved(Value::Int(1));
+    values.push_reserved(Value::Bool(true));
+    frames.push(Frame::Program(7), &mut values);
+    match frames.first_program() {
+        Some(frame) => {
+            let registers = frame.registers.as_slice();
+            assert!(rt; matches!(registers, [Some(Value::Int(1)), Some(Value::Bool(true))]));
+        }
+        None => assert!(rt; false),
+    }
+    Ok(())
+}
+
+#[test]
+fn a_frame_is_popped_with_the_tasks_before_it(rt: HostRuntime) -> Result<(), Fail> {
+    let mut frames = Frames::new(rt.alloc(), 2, 2)?;
+    frames.push(Frame::Program(7), &mut Vec::new(rt.alloc()));
+    frames.push_task(Task::Unsetting { number: 3 });
+    frames.push_task(Task::Due { source: 1 });
+    assert!(rt; matches!(frames.pop(), Some(Frame::Program(7))));
+    assert!(rt; frames.tasks.is_empty());
     Ok(())
 }
 

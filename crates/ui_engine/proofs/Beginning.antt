@@ -21,8 +21,9 @@ use Rattle.law_peers.specs.Forgetting.{forgotten}
 use Rattle.law_pools.specs.MatchedPools.{AllFree}
 use Rattle.native_peers.specs.Matching.{as_peer, as_peers}
 use Rattle.native_peers.specs.Seen.{Seen}
-use Rattle.engine_world.specs.declared.task.ForwardReference.{ForwardReference}
-use Rattle.engine_world.specs.TaskView.{agenda_of, item_of, build_from}
+use Rattle.frame_stacks.specs.declared.task.ForwardReference.{ForwardReference}
+use Rattle.engine_world.specs.TaskView.{agenda_of}
+use Rattle.frame_stacks.specs.TaskView.{item_of, build_from}
 use Rattle.law_pools.specs.Needs.{mismatch}
 use Rattle.engine_pools.specs.Dispatched.{IsAtRest}
 use Rattle.engine_pools.specs.PoolView.{forgotten_seen, seen_of, with_seen, world_at}

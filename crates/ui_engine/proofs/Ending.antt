@@ -5,10 +5,11 @@ use Rattle.ui_machine.specs.Runs.{beginning, of_build}
 use Rattle.ui_machine.specs.State.Config.{Config, World}
 use Rattle.ui_machine.specs.State.Peers.{Peer}
 use Rattle.ui_machine.specs.State.Tasks.{Building}
-use Rattle.engine_world.specs.TaskView.{agenda_of, build_from}
+use Rattle.engine_world.specs.TaskView.{agenda_of}
+use Rattle.frame_stacks.specs.TaskView.{build_from}
 use Rattle.engine_world.specs.View.{world_of}
 use Rattle.engine_world.specs.declared.engine.Engine.{Engine}
-use Rattle.engine_world.specs.declared.task.ForwardReference.{ForwardReference}
+use Rattle.frame_stacks.specs.declared.task.ForwardReference.{ForwardReference}
 use Rattle.native_peers.specs.Seen.{Relations, Seen}
 use Rattle.engine_pools.specs.declared.dispatches.Reply.{Reply}
 use Rattle.engine_pools.specs.Dispatched.{Carried}

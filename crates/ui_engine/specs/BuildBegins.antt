@@ -8,7 +8,7 @@ use Rattle.ui_machine.specs.State.Config.{said}
 use Rattle.law_pools.specs.Needs.{mismatch}
 use Rattle.native_peers.specs.Matching.{as_peers}
 use Rattle.native_peers.specs.Seen.{Seen}
-use Rattle.engine_world.specs.TaskView.{item_of}
+use Rattle.frame_stacks.specs.TaskView.{item_of}
 use Rattle.engine_world.specs.View.{world_of}
 use Rattle.engine_pools.specs.Dispatched.{IsAtRest}
 use Rattle.engine_pools.specs.PoolView.{Knows, world_at}

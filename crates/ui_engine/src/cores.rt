@@ -24,7 +24,7 @@ use definition_format::{Event, Request};
 use definitions::Definition;
 use engine_pools::{Course, Progress, Reply, advance, begin_dispatch, begin_next, begin_turn};
 use engine_world::engine::Engine;
-use engine_world::task::Task;
+use frame_stacks::Task;
 use main_context::{Batch, TurnError};
 use native_peers::Peers;
 use std::marker::Model;

@@ -1,6 +1,6 @@
 //! The room that the runs of a definition take. `start` reserves it, so that no program, emission or construction asks for memory to begin.
 
-ghost use Rattle.std.specs.Prelude.{◌≡◌, ◌+◌, ◌*◌, ◌<◌, ◌^◌, length, min, ℕ};
+ghost use Rattle.std.specs.Prelude.{◌≡◌, ◌+◌, ◌<◌, ◌^◌, length, min, ℕ};
 ghost use Rattle.ui_engine.specs.Widths.{HoldsParams, HoldsRegisters, HoldsSignals, HoldsSteps};
 
 use definitions::Definition;
@@ -94,17 +94,16 @@ fn program_count(definition: &Definition) -> usize
 /// is one task at most, and a step puts two tasks where one was. A construction is of the build or of a program, which runs in one frame at
 /// a time.
 pub(crate) fn room_for(definition: &Definition, depth: u32) -> Room
-    ensures tasks { result.tasks ≡ 2 * depth + 4 }
+    ensures depth { result.depth ≡ depth }
     ensures constructions { result.constructions ≡ min depth (length definition.now.programs + 1) }
     ensures steps { (place : ℕ) → HoldsSteps definition.now place result.steps }
     ensures registers { HoldsRegisters definition.now result.registers }
     ensures args { HoldsSignals definition.now result.args }
 {
-    let frames = depth as usize;
     Room {
-        tasks: 2 * frames + 4,
+        depth,
         registers: most_registers(definition),
-        constructions: frames.min(program_count(definition) + 1),
+        constructions: (depth as usize).min(program_count(definition) + 1),
         steps: most_steps(definition),
         args: most_params(definition),
     }

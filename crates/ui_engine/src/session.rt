@@ -29,7 +29,7 @@ use definition_format::Event;
 use definitions::Definition;
 use engine_pools::{Course, Progress, Reply, dispatch};
 use engine_world::places::FIRST_PLACE;
-use engine_world::task::Task;
+use frame_stacks::Task;
 use native_peers::Peers;
 use std::alloc::Global;
 use verified::Verified;

@@ -1,13 +1,13 @@
 //! The beginning of a session: its pool is matched, and an engine is made that knows the pool.
 
-ghost use Rattle.std.specs.Prelude.{◌≡◌, [], ◌∷◌, ◌++◌, codes, map, vec_capacity, Some, IfErr, IfOk, OnOk};
+ghost use Rattle.std.specs.Prelude.{◌≡◌, ◌+◌, ◌*◌, [], ◌∷◌, ◌++◌, codes, map, vec_capacity, Some, IfErr, IfOk, OnOk};
 ghost use Rattle.ui_machine.specs.Output.Lines as lines;
 ghost use Rattle.ui_machine.specs.Runs.{first_world};
 ghost use Rattle.ui_machine.specs.State.Config.{said};
 ghost use Rattle.law_pools.specs.Needs.{mismatch};
 ghost use Rattle.native_peers.specs.Matching.{as_peers, mismatch_view};
 ghost use Rattle.ui_machine.specs.Rules.Build.{forward_items};
-ghost use Rattle.engine_world.specs.TaskView.{item_of};
+ghost use Rattle.frame_stacks.specs.TaskView.{item_of};
 ghost use Rattle.engine_world.specs.View.{world_of};
 ghost use Rattle.engine_pools.specs.Dispatched.{IsAtRest};
 ghost use Rattle.ui_engine.specs.BuildBegins.{IsBegun};
@@ -22,7 +22,7 @@ use engine_world::engine::Engine;
 use engine_world::object_peers::peer_numbers;
 use engine_world::reserves::Room;
 use engine_world::seats::Seats;
-use engine_world::task::ForwardReferences;
+use frame_stacks::ForwardReferences;
 use engine_world::weak_slots::weak_slots;
 use linked_programs::Links;
 use native_peers::{MatchFault, Peers};
@@ -55,7 +55,7 @@ fn first_engine(
 ) -> Result<Engine, AllocError>
     ensures rests { IfOk result (IsAtRest definition.now) }
     ensures world { IfOk result (λ engine. world_of engine.world ≡ said definition.now (first_world definition.now seats) lines.build) }
-    ensures room { IfOk result (λ engine. vec_capacity engine.stack.tasks ≡ room.tasks) }
+    ensures room { IfOk result (λ engine. vec_capacity engine.stack.tasks ≡ 2 * room.depth + 4) }
 {
     let weak = weak_slots(alloc, definition)?;
     let links = Links::new(alloc, definition)?;
@@ -77,7 +77,7 @@ fn first_beginning(
     ensures rests { IfOk result (λ b. IsAtRest definition.now b.engine) }
     ensures world { IfOk result (λ b. world_of b.engine.world ≡ said definition.now (first_world definition.now seats) lines.build) }
     ensures forwards { IfOk result (λ b. map item_of b.forwards ≡ forward_items 0 definition.now.places) }
-    ensures room { IfOk result (λ b. vec_capacity b.engine.stack.tasks ≡ room.tasks) }
+    ensures room { IfOk result (λ b. vec_capacity b.engine.stack.tasks ≡ 2 * room.depth + 4) }
 {
     let engine = first_engine(alloc, definition, seats, room)?;
     let forwards = forward_references(alloc, definition)?;

@@ -2,8 +2,9 @@ use Rattle.std.proofs.Common.{Bool, [], cond, Some, option_map, ap, refl, ◌∙
 use Rattle.ui_machine.specs.State.References.{in_register}
 use Rattle.g_values.specs.View.{value_view}
 use Rattle.signal_core.specs.Emission.{accumulator_of, collected}
-use Rattle.engine_world.specs.FirstEmissions.{Emitted, first_emitted}
-use Rattle.engine_world.specs.declared.task.Transfers.TheVariants as at
+use Rattle.engine_world.specs.FirstEmissions.{first_emitted}
+use Rattle.frame_stacks.specs.FirstEmissions.{Emitted}
+use Rattle.frame_stacks.specs.declared.task.Transfers.TheVariants as at
 use Rattle.engine_instructions.specs.CollectView.{collects}
 use Rattle.engine_world.proofs.Counts.{both_only}
 use Rattle.engine_world.proofs.Held.{may_less}

@@ -3,11 +3,12 @@ use Rattle.ui_machine.specs.Rules.Accumulation.{given_down}
 use Rattle.ui_machine.specs.State.Tasks.{Task}
 use Rattle.g_values.specs.View.{value_view}
 use Rattle.engine_world.specs.Able.{Able}
-use Rattle.engine_world.specs.TaskFrames.{emission_in, program_in}
-use Rattle.engine_world.specs.TaskView.{agenda_of, task_of, tasks_of}
+use Rattle.frame_stacks.specs.TaskFrames.{emission_in, program_in}
+use Rattle.engine_world.specs.TaskView.{agenda_of}
+use Rattle.frame_stacks.specs.TaskView.{task_of, tasks_of}
 use Rattle.engine_world.specs.View.{world_of}
-use Rattle.engine_world.specs.declared.task.Task as code
-use Rattle.engine_world.specs.declared.task.Task.TheVariants as tasks
+use Rattle.frame_stacks.specs.declared.task.Task as code
+use Rattle.frame_stacks.specs.declared.task.Task.TheVariants as tasks
 use Rattle.engine_instructions.proofs.Collecting.{TakesNone, gives_last, gives_nothing, gives_other, gives_source, popped_behind, popped_source, source_able}
 use Rattle.engine_world.proofs.Left.{same_agenda}
 use Rattle.engine_instructions.proofs.accumulation.give_other.Goals as goal
@@ -51,8 +52,8 @@ returns-in_default-task-clause-step c =
     other (tasks.Due source) is = tt
     other (tasks.Handling event) is = tt
 
-pub pop-requires : goal.pop-requires
-pop-requires c = record {
+pub pop_task-requires : goal.pop_task-requires
+pop_task-requires c = record {
   program = sym (c.in-Some.ensures.program) ∙ ap (λ (t : code.Task). program_in t) c.in-Answering.is;
   emission = c.requires.none;
 }
@@ -62,10 +63,10 @@ answer-requires-clause-able c =
     let d = c.args.definition.now in
     let e = c.args.engine.now in
     let hs = e.world.handlers.handlers in
-    let rest = tasks_of d hs c.pop.new.self in
+    let rest = tasks_of d hs c.pop_task.new.self in
     let given = option_map value_view c.args.given in
     let before = c.in-Some.ensures.tasks d hs in
-    let first = popped_behind d hs c.pop.result (agenda_of d e) rest _ before.0 (before.1 ∙ ap (λ (t : code.Task). task_of d hs t ∷ before.0) c.in-Answering.is) (c.pop.ensures.tasks d hs) in
+    let first = popped_behind d hs c.pop_task.result (agenda_of d e) rest _ before.0 (before.1 ∙ ap (λ (t : code.Task). task_of d hs t ∷ before.0) c.in-Answering.is) (c.pop_task.ensures.tasks d hs) in
     source_able d (world_of e.world) c.in-Answering.source rest given (subst (λ (ts : List Task). Able (given_down d (world_of e.world) ts given)) first c.requires.able)
 
 pub returns-clause-step : goal.returns-clause-step
@@ -73,11 +74,11 @@ returns-clause-step c =
     let d = c.args.definition.now in
     let e = c.args.engine.now in
     let hs = e.world.handlers.handlers in
-    let rest = tasks_of d hs c.pop.new.self in
+    let rest = tasks_of d hs c.pop_task.new.self in
     let given = option_map value_view c.args.given in
     let before = c.in-Some.ensures.tasks d hs in
-    let first = popped_behind d hs c.pop.result (agenda_of d e) rest _ before.0 (before.1 ∙ ap (λ (t : code.Task). task_of d hs t ∷ before.0) c.in-Answering.is) (c.pop.ensures.tasks d hs) in
-    let back = same_agenda d (record e { stack = c.pop.new.self }) c.answer.new.engine c.answer.ensures.same.0 c.answer.ensures.handlers in
+    let first = popped_behind d hs c.pop_task.result (agenda_of d e) rest _ before.0 (before.1 ∙ ap (λ (t : code.Task). task_of d hs t ∷ before.0) c.in-Answering.is) (c.pop_task.ensures.tasks d hs) in
+    let back = same_agenda d (record e { stack = c.pop_task.new.self }) c.answer.new.engine c.answer.ensures.same.0 c.answer.ensures.handlers in
     ap (λ (ts : List Task). given_down d (world_of e.world) ts given) first
     ∙ gives_source d (world_of e.world) c.in-Answering.source rest given (world_of c.answer.new.engine.world) (agenda_of d c.answer.new.engine) back c.answer.ensures.kept
 
@@ -86,7 +87,7 @@ returns-clause-counted c =
     let d = c.args.definition.now in
     let e = c.args.engine.now in
     let hs = e.world.handlers.handlers in
-    let rest = tasks_of d hs c.pop.new.self in
+    let rest = tasks_of d hs c.pop_task.new.self in
     let before = c.in-Some.ensures.tasks d hs in
-    let first = popped_behind d hs c.pop.result (agenda_of d e) rest _ before.0 (before.1 ∙ ap (λ (t : code.Task). task_of d hs t ∷ before.0) c.in-Answering.is) (c.pop.ensures.tasks d hs) in
-    record { at = λ taken h. (c.answer.ensures.counted d).at taken (popped_source d e c.pop.new.self taken c.in-Answering.source first c.pop.ensures.begun h) }
+    let first = popped_behind d hs c.pop_task.result (agenda_of d e) rest _ before.0 (before.1 ∙ ap (λ (t : code.Task). task_of d hs t ∷ before.0) c.in-Answering.is) (c.pop_task.ensures.tasks d hs) in
+    record { at = λ taken h. (c.answer.ensures.counted d).at taken (popped_source d e c.pop_task.new.self taken c.in-Answering.source first c.pop_task.ensures.begun h) }

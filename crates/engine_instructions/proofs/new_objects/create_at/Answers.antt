@@ -1,4 +1,4 @@
-use Rattle.engine_world.specs.declared.stacks.Stack.{Stack}
+use Rattle.frame_stacks.specs.declared.stacks.Frames.{Frames}
 use Rattle.std.proofs.Common.{◌≡◌, ◌<◌, ℕ, IfSome, IsSome, List, Option, length, false, ap, subst, sym, ◌∙◌, rules}
 use Rattle.std.proofs.lemmas.Result.{err_from_is_err_and}
 use Rattle.ui_machine.specs.Definition.Values as values
@@ -12,7 +12,7 @@ use Rattle.law_typing.specs.Good.Living.{NamesLiving}
 use Rattle.g_values.specs.View.{value_view}
 use Rattle.engine_world.specs.Counting.{nothing}
 use Rattle.engine_world.specs.NewObjects.{begun}
-use Rattle.engine_world.specs.TaskFrames.{HasPlaces}
+use Rattle.frame_stacks.specs.TaskFrames.{HasPlaces}
 use Rattle.engine_world.specs.View.{world_of}
 use Rattle.engine_instructions.proofs.Creating.{create_world, create_written, made_able, write_able}
 use Rattle.engine_instructions.proofs.Holding.{lives_held}
@@ -65,7 +65,7 @@ begin_construction-requires c =
           (subst (λ (ps : List Peer). IfSome c.args.peer (λ number. number < length ps)) (sym seats) c.requires.peer);
       room =
           room_still 1 m c.write_register.new.engine c.write_register.ensures.room
-          (subst (λ (s : Stack). HasPlaces 1 s.tasks) (sym c.make.ensures.same.0) c.requires.room);
+          (subst (λ (s : Frames). HasPlaces 1 s.tasks) (sym c.make.ensures.same.0) c.requires.room);
       may = lives_held d c.write_register.new.engine new.object.0 c.write_register.ensures.executes.counted (subst (λ (w : World). IsSome (living w.objects new.object.0)) (sym world) c.in_ok-new.ensures.live);
     }
 

@@ -5,10 +5,10 @@ use Rattle.engine_world.specs.ClosingView.{or_number}
 use Rattle.engine_world.specs.Counting.{KeepsCounts}
 use Rattle.engine_world.specs.Standing.{gone_handlers}
 use Rattle.signal_core.specs.Connected.{Connected, without_object}
-use Rattle.engine_world.specs.TaskView.{tasks_of}
+use Rattle.frame_stacks.specs.TaskView.{tasks_of}
 use Rattle.engine_world.specs.View.{world_of}
 use Rattle.engine_world.specs.declared.engine.Engine.{Engine}
-use Rattle.engine_world.specs.declared.stacks.Stack.{Stack}
+use Rattle.frame_stacks.specs.declared.stacks.Frames.{Frames}
 use Rattle.engine_world.specs.declared.world.World.{World}
 use Rattle.engine_instructions.proofs.Disposing.{keeps_disposed}
 use Rattle.engine_world.proofs.Finalising.{code_gone, closing_able, disposed_so, finalised_agenda}
@@ -34,7 +34,7 @@ returns-clause-agenda c =
     let new = c.say_and_close.new.engine in
     let beside = c.say_and_close.ensures.beside in
     let handlers = ap (λ (g : Engine). g.world.handlers) beside in
-    ap (λ (s : Stack). tasks_of d new.world.handlers.handlers s) (ap (λ (g : Engine). g.stack) beside)
+    ap (λ (s : Frames). tasks_of d new.world.handlers.handlers s) (ap (λ (g : Engine). g.stack) beside)
     ∙ finalised_agenda d c.args.engine.now c.disconnect_object.new.self new.world c.args.object.0 c.disconnect_object.ensures.left handlers c.last-last.ensures.rises
 
 pub returns-clause-counted : goal.returns-clause-counted

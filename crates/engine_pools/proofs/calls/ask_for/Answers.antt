@@ -1,7 +1,8 @@
 use Rattle.std.proofs.Common.{refl}
 use Rattle.std.proofs.lemmas.Result.{err_from_is_err_and}
 use Rattle.engine_world.specs.EngineView.{config_of}
-use Rattle.engine_world.specs.TaskView.{agenda_of, call_of}
+use Rattle.engine_world.specs.TaskView.{agenda_of}
+use Rattle.frame_stacks.specs.TaskView.{call_of}
 use Rattle.engine_world.specs.View.{world_of}
 use Rattle.engine_instructions.proofs.Whole.{engine_whole}
 use Rattle.std.specs.Prelude.{option_map}

@@ -3,8 +3,9 @@ use Rattle.std.specs.Prelude.{IsSome}
 use Rattle.ui_machine.specs.State.Tasks.{Calling, Task}
 use Rattle.ui_machine.specs.Steps.{asked_first}
 use Rattle.engine_world.specs.EngineView.{config_of}
-use Rattle.engine_world.specs.TaskView.{agenda_of, call_of, task_of, tasks_of}
-use Rattle.engine_world.specs.declared.task.Task as code
+use Rattle.engine_world.specs.TaskView.{agenda_of}
+use Rattle.frame_stacks.specs.TaskView.{call_of, task_of, tasks_of}
+use Rattle.frame_stacks.specs.declared.task.Task as code
 use Rattle.engine_world.specs.View.{world_of}
 use Rattle.engine_world.proofs.Counts.{taken_off}
 use Rattle.engine_pools.specs.Safety.{NoneUnheld}
@@ -14,8 +15,8 @@ use Rattle.engine_pools.proofs.calls.take_call.Goals as goal
 pub returns-then-not-asks-clause-taken : goal.returns-then-not-asks-clause-taken
 returns-then-not-asks-clause-taken c = (refl, none_asked _ (sym c.if-not-asks.true ∙ c.asks.ensures))
 
-pub pop-requires : goal.pop-requires
-pop-requires c =
+pub pop_task-requires : goal.pop_task-requires
+pop_task-requires c =
     let d = c.args.definition.now in
     let e = c.args.engine.now in
     let asks = asked_first_so d (config_of d e) (sym c.asks.ensures ∙ c.if-not-asks.false) in
@@ -37,7 +38,7 @@ unreachable-requires-in_default-task c =
     let e = c.args.engine.now in
     let hs = e.world.handlers.handlers in
     let asks = asked_first_so d (config_of d e) (sym c.asks.ensures ∙ c.if-not-asks.false) in
-    let calls = calls_only d hs (world_of e.world) c.in-Some.task (tasks_of d hs c.pop.new.self) (subst (λ (ts : List Task). IsSome (asked_first (world_of e.world) ts)) (c.in-Some.ensures.tasks d hs) asks.1) in
+    let calls = calls_only d hs (world_of e.world) c.in-Some.task (tasks_of d hs c.pop_task.new.self) (subst (λ (ts : List Task). IsSome (asked_first (world_of e.world) ts)) (c.in-Some.ensures.tasks d hs) asks.1) in
     c.in_default-task.not-Calling calls.0 calls.1
 
 pub returns-clause-taken : goal.returns-clause-taken
@@ -46,12 +47,12 @@ returns-clause-taken c =
     let e = c.args.engine.now in
     let hs = e.world.handlers.handlers in
     let call = call_of c.in-Calling.call in
-    let rest = tasks_of d hs c.pop.new.self in
+    let rest = tasks_of d hs c.pop_task.new.self in
     let asks = asked_first_so d (config_of d e) (sym c.asks.ensures ∙ c.if-not-asks.false) in
     let first : agenda_of d e ≡ Calling call ∷ rest = subst (λ (t : code.Task). agenda_of d e ≡ task_of d hs t ∷ rest) c.in-Calling.is (c.in-Some.ensures.tasks d hs) in
     record {
       first = ap (λ (ts : List Task). record (config_of d e) { agenda = ts }) first;
       none = subst (λ (ts : List Task). NoneUnheld d (record (config_of d e) { agenda = ts })) first asks.0;
       asked = asks_open (world_of e.world) call rest (subst (λ (ts : List Task). IsSome (asked_first (world_of e.world) ts)) first asks.1);
-      counted = taken_off d e c.pop.new.self (Calling call) first c.in-Some.ensures.begun c.requires.counted;
+      counted = taken_off d e c.pop_task.new.self (Calling call) first c.in-Some.ensures.begun c.requires.counted;
     }

@@ -17,14 +17,15 @@ use Rattle.bytecode.specs.View.{instruction_view, program_view}
 use Rattle.engine_world.specs.Counting.{Counts, PassesGot, nothing}
 use Rattle.engine_world.specs.EngineView.{config_of}
 use Rattle.engine_world.specs.Able.{LeadsWithoutGone}
-use Rattle.engine_world.specs.FirstPrograms.{IsProgram, IsRewritten, first_frame, rest_of, stack_frame}
-use Rattle.engine_world.specs.KnownHandlers.{AllTakeKnownHandlers}
+use Rattle.engine_world.specs.FirstPrograms.{IsProgram, first_frame, rest_of}
+use Rattle.frame_stacks.specs.FirstPrograms.{IsRewritten, stack_frame}
+use Rattle.frame_stacks.specs.KnownHandlers.{AllTakeKnownHandlers}
 use Rattle.engine_world.proofs.Ableness.{able_as, in_counted_left, no_arm}
 use Rattle.engine_world.proofs.FirstPrograms.{begins}
 use Rattle.engine_world.proofs.Registers.{stack_same_held}
 use Rattle.engine_world.specs.View.{world_of}
 use Rattle.engine_world.specs.declared.engine.Engine.{Engine}
-use Rattle.engine_world.specs.declared.stacks.Stack.{Stack}
+use Rattle.frame_stacks.specs.declared.stacks.Frames.{Frames}
 use Rattle.engine_world.proofs.Counts.{keeps_same}
 use Rattle.engine_world.proofs.Named.{names_as}
 use Rattle.engine_instructions.specs.ClosedPeers.{LeavesClosed}
@@ -46,7 +47,7 @@ module _ (d : Definition) (e b : Engine) (is : b ≡ record e { counted = suc e.
   took : (p : Program) (o : Option Taken) → taken_in p (first_frame b) ≡ o → taken_in p (first_frame e) ≡ o
   took p o at = ap (λ (g : Frame). taken_in p g) (sym frame_same) ∙ at
 
-  module _ (p : Program) (at : program_at d (first_frame e).program ≡ Some p) (s : Stack) (rewritten : IsRewritten b.stack s) (t : Taken) (taken : taken_in p (first_frame e) ≡ Some t)
+  module _ (p : Program) (at : program_at d (first_frame e).program ≡ Some p) (s : Frames) (rewritten : IsRewritten b.stack s) (t : Taken) (taken : taken_in p (first_frame e) ≡ Some t)
       (few : e.counted < most_steps) where
     abbrev after : Engine
     after = record b { stack = s }

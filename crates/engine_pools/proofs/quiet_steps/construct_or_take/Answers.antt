@@ -3,7 +3,8 @@ use Rattle.std.proofs.lemmas.Result.{err_from_is_err_and}
 use Rattle.ui_machine.specs.State.Config.{Config, World}
 use Rattle.ui_machine.specs.State.Tasks.{Task}
 use Rattle.engine_world.specs.EngineView.{config_of}
-use Rattle.engine_world.specs.FirstConstructions.{constructing_task, first_constructed, first_construction}
+use Rattle.engine_world.specs.FirstConstructions.{first_constructed}
+use Rattle.frame_stacks.specs.FirstConstructions.{constructing_task, first_construction}
 use Rattle.engine_world.specs.FirstPrograms.{rest_of}
 use Rattle.engine_world.specs.Standing.{with_first}
 use Rattle.engine_world.specs.View.{world_of}

@@ -3,7 +3,8 @@ use Rattle.std.proofs.lemmas.Result.{err_from_is_err_and}
 use Rattle.ui_machine.specs.State.Config.{Config, World}
 use Rattle.ui_machine.specs.State.Tasks.{Task}
 use Rattle.engine_world.specs.EngineView.{config_of}
-use Rattle.engine_world.specs.FirstEmissions.{first_emission, first_emitting}
+use Rattle.engine_world.specs.FirstEmissions.{first_emitting}
+use Rattle.frame_stacks.specs.FirstEmissions.{first_emission}
 use Rattle.engine_world.specs.FirstPrograms.{rest_of}
 use Rattle.engine_world.specs.Standing.{with_first}
 use Rattle.engine_world.specs.View.{world_of}

@@ -3,7 +3,8 @@ use Rattle.std.proofs.lemmas.Result.{err_from_is_err_and}
 use Rattle.ui_machine.specs.State.Config.{Config, World}
 use Rattle.ui_machine.specs.State.Tasks.{Running, Task}
 use Rattle.engine_world.specs.EngineView.{config_of}
-use Rattle.engine_world.specs.FirstPrograms.{first_frame, first_program, rest_of}
+use Rattle.engine_world.specs.FirstPrograms.{first_frame, rest_of}
+use Rattle.frame_stacks.specs.FirstPrograms.{first_program}
 use Rattle.engine_world.specs.Standing.{with_first}
 use Rattle.engine_world.specs.View.{world_of}
 use Rattle.engine_world.specs.declared.engine.StepKind.TheVariants as mades

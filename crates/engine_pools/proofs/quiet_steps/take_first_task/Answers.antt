@@ -3,14 +3,15 @@ use Rattle.ui_machine.specs.Rules.Build.{to_connect, to_make}
 use Rattle.ui_machine.specs.Rules.Connections.{greatest_handler}
 use Rattle.ui_machine.specs.State.Objects.{most_identities}
 use Rattle.ui_machine.specs.State.Config.{Config, World}
-use Rattle.engine_world.specs.Counting.{in_subject}
+use Rattle.frame_stacks.specs.HeldByTasks.{in_subject}
 use Rattle.std.proofs.Common.{List}
 use Rattle.std.proofs.lemmas.Result.{err_from_is_err_and}
 use Rattle.ui_machine.specs.State.Tasks.{Task}
 use Rattle.engine_pools.specs.QuietSteps.{LeavesKnown, QuietlyStepped}
 use Rattle.engine_pools.specs.Safety.{NoneUnheld}
 use Rattle.engine_world.specs.Standing.{with_first}
-use Rattle.engine_world.specs.TaskView.{task_in, tasks_of}
+use Rattle.engine_world.specs.TaskView.{task_in}
+use Rattle.frame_stacks.specs.TaskView.{tasks_of}
 use Rattle.engine_pools.proofs.LeftClosings.{task_known}
 use Rattle.engine_world.proofs.Ableness.{none_stops}
 use Rattle.engine_world.specs.EngineView.{config_of}
@@ -34,7 +35,7 @@ pub sink_first_floating-requires-clause-counted : goal.sink_first_floating-requi
 sink_first_floating-requires-clause-counted c =
     let d = c.args.definition.now in
     let none = c.in_default.ensures.tasks d c.args.engine.now.world.handlers.handlers in
-    same_tasks d c.args.engine.now c.pop.new.self (none.1 ∙ sym none.0) c.in_default.ensures.begun c.requires.counted
+    same_tasks d c.args.engine.now c.pop_task.new.self (none.1 ∙ sym none.0) c.in_default.ensures.begun c.requires.counted
 
 pub returns-in_default : goal.returns-in_default
 returns-in_default c = record {
@@ -67,12 +68,12 @@ act-requires c = record {
       let e = c.args.engine.now in
       let hs = e.world.handlers.handlers in
       none_stops _
-      (first_can d (config_of d e) (config_of d e) c.requires.none (task_in d e c.in-Some.task) (tasks_of d hs c.pop.new.self) (c.in-Some.ensures.tasks d hs) c.requires.quiet c.requires.safe);
+      (first_can d (config_of d e) (config_of d e) c.requires.none (task_in d e c.in-Some.task) (tasks_of d hs c.pop_task.new.self) (c.in-Some.ensures.tasks d hs) c.requires.quiet c.requires.safe);
   names =
       let d = c.args.definition.now in
       let e = c.args.engine.now in
       let hs = e.world.handlers.handlers in
-      first_names_so d (config_of d e) (config_of d e) c.requires.none (task_in d e c.in-Some.task) (tasks_of d hs c.pop.new.self) (c.in-Some.ensures.tasks d hs) c.requires.quiet c.requires.safe;
+      first_names_so d (config_of d e) (config_of d e) c.requires.none (task_in d e c.in-Some.task) (tasks_of d hs c.pop_task.new.self) (c.in-Some.ensures.tasks d hs) c.requires.quiet c.requires.safe;
   identities =
       let d = c.args.definition.now in
       let e = c.args.engine.now in
@@ -88,8 +89,8 @@ act-requires c = record {
       let hs = e.world.handlers.handlers in
       let few = view_few d (vec_capacity e.stack.tasks) (config_of d e) c.requires.safe in
       let first = ap (λ (ts : List Task). length ts) (c.in-Some.ensures.tasks d hs) in
-      let same = c.pop.ensures.room in
-      (omega (arith, few.0, first, tasks_counted d hs c.pop.new.self, same), omega (arith, few.1, frames_few d hs e.stack, c.pop.ensures.frames, same));
+      let same = c.pop_task.ensures.room in
+      (omega (arith, few.0, first, tasks_counted d hs c.pop_task.new.self, same), omega (arith, few.1, frames_few d hs e.stack, c.pop_task.ensures.frames, same));
   other = c.in-Some.ensures.frameless.program;
   begins = c.in-Some.ensures.frameless.emission;
   builds = c.in-Some.ensures.construction ∙ c.requires.builds;
@@ -97,7 +98,7 @@ act-requires c = record {
   counted =
       let d = c.args.definition.now in
       let e = c.args.engine.now in
-      taken_off d e c.pop.new.self (task_in d e c.in-Some.task) (c.in-Some.ensures.tasks d e.world.handlers.handlers) c.in-Some.ensures.begun c.requires.counted;
+      taken_off d e c.pop_task.new.self (task_in d e c.in-Some.task) (c.in-Some.ensures.tasks d e.world.handlers.handlers) c.in-Some.ensures.begun c.requires.counted;
 }
 
 pub let_go_any-requires : goal.let_go_any-requires
@@ -117,21 +118,21 @@ returns c = record {
   stepped =
       let d = c.args.definition.now in
       subst (λ (e : Config). QuietlyStepped (Ok c.kind_of-kind.result) d (config_of d c.args.engine.now) e) (sym (config_same d c.act.new.engine c.let_go_any.new.table c.let_go_any.ensures.only))
-      (first_stepped d (config_of d c.args.engine.now) (config_of d c.act.new.engine) c.requires.none (task_in d c.args.engine.now c.in-Some.task) (tasks_of d c.args.engine.now.world.handlers.handlers c.pop.new.self) (c.in-Some.ensures.tasks d c.args.engine.now.world.handlers.handlers) c.requires.quiet
+      (first_stepped d (config_of d c.args.engine.now) (config_of d c.act.new.engine) c.requires.none (task_in d c.args.engine.now c.in-Some.task) (tasks_of d c.args.engine.now.world.handlers.handlers c.pop_task.new.self) (c.in-Some.ensures.tasks d c.args.engine.now.world.handlers.handlers) c.requires.quiet
       c.kind_of-kind.result c.in_ok-act.ensures.executes.step (c.kind_of-kind.ensures c.args.definition.now c.args.engine.now));
   known =
       let d = c.args.definition.now in
       let e = c.args.engine.now in
       let w = world_of e.world in
       let hs = e.world.handlers.handlers in
-      let rest = tasks_of d hs c.pop.new.self in
+      let rest = tasks_of d hs c.pop_task.new.self in
       let none = subst (λ (ts : List Task). NoneUnheld d (record (config_of d e) { agenda = with_first w ts })) (c.in-Some.ensures.tasks d hs) (first_none d (config_of d e) c.requires.none) in
       let goes = c.in_ok-act.ensures.executes.step in
       subst (λ (v : World). LeavesKnown w v c.act.new.engine.closing) (ap (λ (x : Config). x.world) goes.2)
       (task_known d w rest e.counted (task_in d e c.in-Some.task) goes.0 e.closing c.act.new.engine.closing none goes.1 c.in_ok-act.ensures.closing);
   grows =
       let d = c.args.definition.now in
-      first_grows d (config_of d c.args.engine.now) (config_of d c.act.new.engine) c.requires.none (task_in d c.args.engine.now c.in-Some.task) (tasks_of d c.args.engine.now.world.handlers.handlers c.pop.new.self) (c.in-Some.ensures.tasks d c.args.engine.now.world.handlers.handlers) c.requires.quiet
+      first_grows d (config_of d c.args.engine.now) (config_of d c.act.new.engine) c.requires.none (task_in d c.args.engine.now c.in-Some.task) (tasks_of d c.args.engine.now.world.handlers.handlers c.pop_task.new.self) (c.in-Some.ensures.tasks d c.args.engine.now.world.handlers.handlers) c.requires.quiet
       c.kind_of-kind.result c.in_ok-act.ensures.executes.step;
   room = search rules;
 }

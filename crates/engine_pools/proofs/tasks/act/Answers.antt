@@ -2,16 +2,16 @@ use Rattle.std.proofs.Common.{Ok, refl, sym, ap, ◌∙◌, arith}
 use Rattle.ui_machine.specs.Rules.Build.{is_connecting, is_making, of_items}
 use Rattle.ui_machine.specs.State.References.{in_task}
 use Rattle.engine_world.specs.TaskView.{task_in}
-use Rattle.engine_world.specs.declared.task.Task as code
+use Rattle.frame_stacks.specs.declared.task.Task as code
 use Rattle.engine_world.proofs.Floats.{same_self}
 use Rattle.engine_world.proofs.Held.{counted_lives}
 use Rattle.engine_world.proofs.Rooms.{task_counted}
 use Rattle.engine_instructions.proofs.Creating.{making_from}
 use Rattle.engine_pools.proofs.Executed.{acts_plainly, executes_held}
 use Rattle.engine_world.proofs.Signals.{bind_count, build_count}
-use Rattle.engine_world.specs.FirstConstructions.{construction_in}
-use Rattle.engine_world.specs.FirstEmissions.{emission_in}
-use Rattle.engine_world.specs.FirstPrograms.{program_in}
+use Rattle.frame_stacks.specs.FirstConstructions.{construction_in}
+use Rattle.frame_stacks.specs.FirstEmissions.{emission_in}
+use Rattle.frame_stacks.specs.FirstPrograms.{program_in}
 use Rattle.engine_world.proofs.RoomLeft.{room_less}
 use Rattle.engine_pools.proofs.tasks.act.Goals as goal
 

@@ -10,10 +10,11 @@ use Rattle.instance_tables.specs.Weak.{Knows}
 use Rattle.engine_world.specs.ClosingView.{closed_with, or_number}
 use Rattle.engine_world.specs.Counting.{KeepsCounts, PassesGot}
 use Rattle.engine_world.specs.declared.engine.Engine.{Engine}
-use Rattle.engine_world.specs.declared.stacks.Stack.{Stack}
+use Rattle.frame_stacks.specs.declared.stacks.Frames.{Frames}
 use Rattle.engine_world.specs.declared.world.World.{World}
 use Rattle.engine_world.specs.View.{world_of}
-use Rattle.engine_world.specs.TaskView.{tasks_of, agenda_of}
+use Rattle.engine_world.specs.TaskView.{agenda_of}
+use Rattle.frame_stacks.specs.TaskView.{tasks_of}
 use Rattle.signal_core.specs.Connected.{Connected, without_object}
 use Rattle.engine_world.proofs.Counts.{keeps_on, keeps_same, keeps_finalised, only_list}
 use Rattle.machine_laws.specs.GoneLaws.{pruned}
@@ -66,7 +67,7 @@ returns-clause-agenda c =
     let new = c.say_and_close.new.engine in
     let beside = c.say_and_close.ensures.beside in
     let handlers = ap (λ (g : Engine). g.world.handlers) beside in
-    ap (λ (s : Stack). tasks_of d new.world.handlers.handlers s) (ap (λ (g : Engine). g.stack) beside)
+    ap (λ (s : Frames). tasks_of d new.world.handlers.handlers s) (ap (λ (g : Engine). g.stack) beside)
     ∙ finalised_agenda d f c.disconnect_object.new.self new.world c.args.object.0 c.disconnect_object.ensures.left handlers c.last-last.ensures.rises
     ∙ ap (λ (g : Engine). map (pruned (gone_handlers (world_of new.world))) (agenda_of d g)) c.count.ensures
 

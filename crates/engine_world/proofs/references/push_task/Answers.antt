@@ -2,9 +2,11 @@ use Rattle.std.proofs.Common.{List, refl, ap, map, arith}
 use Rattle.ui_machine.specs.Seq.{total}
 use Rattle.ui_machine.specs.State.References.{in_task}
 use Rattle.ui_machine.specs.State.Tasks.{Task}
-use Rattle.engine_world.specs.Counting.{MayHold, in_subject}
+use Rattle.engine_world.specs.Counting.{MayHold}
+use Rattle.frame_stacks.specs.HeldByTasks.{in_subject}
 use Rattle.engine_world.specs.View.{held_of}
-use Rattle.engine_world.specs.TaskView.{task_in, task_of, tasks_of, agenda_of}
+use Rattle.engine_world.specs.TaskView.{task_in, agenda_of}
+use Rattle.frame_stacks.specs.TaskView.{task_of, tasks_of}
 use Rattle.engine_world.proofs.Counts.{keeps_by, holder_more, both_only}
 use Rattle.engine_world.proofs.Held.{any, may_after, may_by, may_less}
 use Rattle.engine_world.proofs.Parts.{parts, task_alike}
@@ -34,7 +36,7 @@ hold_given-requires c = record {
 
 pub returns-clause-connects : goal.returns-clause-connects
 returns-clause-connects c d h =
-    record { most = h.most; to_come = h.to_come; begun = c.push.ensures.begun c.args.engine.now.world.handlers.last c.requires.begun h.begun }
+    record { most = h.most; to_come = h.to_come; begun = c.push_task.ensures.begun c.args.engine.now.world.handlers.last c.requires.begun h.begun }
 
 pub returns-clause-counted : goal.returns-clause-counted
 returns-clause-counted c d =
@@ -43,7 +45,7 @@ returns-clause-counted c d =
     let hs = e.world.handlers.handlers in
     let t = task_in d e c.args.task in
     let only = both_only e.world.table c.hold_any.new.table c.hold_given.new.table c.hold_any.ensures.only c.hold_given.ensures.only in
-    keeps_by d e _ refl refl (λ g. g) refl (λ h. record { most = h.most; to_come = h.to_come; begun = c.push.ensures.begun e.world.handlers.last c.requires.begun h.begun }) (λ taken _ h.
-    holder_more d taken e.world.table c.hold_given.new.table b b (agenda_of d e) (tasks_of d hs c.push.new.self) (λ o. in_task o t) only
+    keeps_by d e _ refl refl (λ g. g) refl (λ h. record { most = h.most; to_come = h.to_come; begun = c.push_task.ensures.begun e.world.handlers.last c.requires.begun h.begun }) (λ taken _ h.
+    holder_more d taken e.world.table c.hold_given.new.table b b (agenda_of d e) (tasks_of d hs c.push_task.new.self) (λ o. in_task o t) only
     (λ o. omega (arith, c.hold_any.ensures.counts o, c.hold_given.ensures.counts d hs o, c.object.ensures d hs o, parts d hs c.args.task o))
-    (λ o. omega (arith, ap (λ (ts : List Task). total (in_task o) ts) (c.push.ensures.tasks d hs))) h)
+    (λ o. omega (arith, ap (λ (ts : List Task). total (in_task o) ts) (c.push_task.ensures.tasks d hs))) h)

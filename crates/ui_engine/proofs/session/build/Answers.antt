@@ -6,7 +6,7 @@ use Rattle.ui_machine.specs.State.Config.{Config}
 use Rattle.ui_machine.specs.State.Tasks.{Building}
 use Rattle.native_peers.specs.Matching.{as_peers}
 use Rattle.engine_world.specs.View.{world_of}
-use Rattle.engine_world.specs.TaskView.{build_from}
+use Rattle.frame_stacks.specs.TaskView.{build_from}
 use Rattle.engine_pools.specs.Dispatched.{IsAtRest}
 use Rattle.engine_pools.specs.PoolView.{world_at}
 use Rattle.engine_pools.specs.Safety.{IsSafe}

@@ -12,4 +12,4 @@ returns-clause-begun g c =
     ap (λ (ns : List Need). mismatch_with ns (as_peers pool)) (sym c.in_ok-needs.ensures ∙ ap (map need_view) (sym c.as_slice.ensures.value))
     ∙ sym c.matches.ensures ∙ ap mismatch_of c.in_default.is in
     begun_at d pool c.in_ok-seats.seats c.in_ok-beginning.beginning matches c.in_ok-seats.ensures c.in_ok-beginning.ensures.rests c.in_ok-beginning.ensures.world c.in_ok-beginning.ensures.forwards
-    (λ a. let depth = c.requires.depth a in let most = c.room_for-room.ensures.tasks in let room = c.in_ok-beginning.ensures.room in omega (arith, depth, most, room))
+    (λ a. let depth = c.requires.depth a in let most = c.room_for-room.ensures.depth in let room = c.in_ok-beginning.ensures.room in omega (arith, depth, most, room))

@@ -7,7 +7,7 @@ use Rattle.engine_world.specs.declared.engine.Engine.{Engine}
 use Rattle.ui_machine.specs.State.Peers.{Peer}
 use Rattle.engine_world.specs.Counting.{Connects, PassesGot}
 use Rattle.engine_world.specs.PeerPlaces.{AreNumbered}
-use Rattle.engine_world.specs.KnownHandlers.{AllTakeKnownHandlers}
+use Rattle.frame_stacks.specs.KnownHandlers.{AllTakeKnownHandlers}
 use Rattle.engine_world.specs.TaskView.{agenda_of}
 use Rattle.engine_world.proofs.GotPeers.{zeros_got}
 use Rattle.ui_engine.proofs.Beginning.{none_counted_with}
