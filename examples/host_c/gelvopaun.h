@@ -32,7 +32,8 @@ enum {
   GELVOPAUN_DEFINITION_REFUSED = 1,
   /* There is no session. */
   GELVOPAUN_NO_SESSION = 2,
-  /* No memory was found. The session, if there is one, carries nothing out any more; its lines can still be taken. */
+  /* No memory was found. Where it was not found as a line was read, nothing was done, and the session is as it was. Elsewhere the session, if
+   * there is one, carries nothing out any more; its lines can still be taken. */
   GELVOPAUN_STOPPED = 3,
   /* The line is refused, and the session is as it was. */
   GELVOPAUN_LINE_REFUSED = 5,

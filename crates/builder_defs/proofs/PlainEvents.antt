@@ -6,7 +6,7 @@ use Rattle.serde_json.specs.Data.{Data, Items, array, item, no_items, string}
 use Rattle.serde_json.specs.Read.{read}
 use Rattle.ui_machine.specs.Definition as machine
 use Rattle.ui_machine.specs.Limits.{most_line_bytes}
-use Rattle.definition_format.specs.EventMeaning.{event_meant, set_event, get_event, release_event, emit_event, line_value}
+use Rattle.definition_format.specs.EventMeaning.{event_meant, set_event, get_event, release_event, emit_event, turn_event, line_value}
 use Rattle.definition_parts.proofs.Values.{line_value-text}
 use Rattle.plain_lines.specs.LineData.{line_data, one_member, words_data}
 use Rattle.plain_lines.specs.declared.lines.PlainLine.{PlainLine}
@@ -27,6 +27,10 @@ plain_release d id = refl
 pub plain_emit : (d : machine.Definition) (id name : List ℕ) (args : Items) → event_meant d (one_member (codes "emit") (words_data id name (item (array args) no_items))) ≡ emit_of d (record { id = id; name = name; args = args; detail = None })
 unfolding event_meant emit_event
 plain_emit d id name args = refl
+
+pub plain_turn : (d : machine.Definition) (moment : Data) → event_meant d (one_member (codes "turn") moment) ≡ turn_event moment
+unfolding event_meant
+plain_turn d moment = refl
 
 -- a text that is a plain line, in the bytes that are that text
 pub plain_value : (bs text : List ℕ) (line : Option PlainLine) → length bs ≤ most_line_bytes → IsUtf8 bs → text ≡ bs → IfSome line (λ p. read text ≡ Some (line_data p)) → IfSome line (λ p. line_value bs ≡ Ok (line_data p))

@@ -7,7 +7,7 @@ ghost use Rattle.law_sessions.specs.Sessions.{EventRead};
 ghost use Rattle.plain_lines.specs.LineData.{line_data};
 
 use crate::emit_reading::emit_of;
-use crate::event_reading::{MAX_LINE_BYTES, event_of_line, get_of, release_of, set_of};
+use crate::event_reading::{MAX_LINE_BYTES, event_of_line, get_of, release_of, set_of, turn_in};
 use definition_format::{Event, EventError};
 use definitions::Definition;
 use plain_lines::{PlainLine, Scratch};
@@ -38,7 +38,7 @@ fn plain_line<'a>(
 }
 
 // Returns the event that a plain line denotes.
-#[tactic(auto, using(crate::proofs::PlainEvents::plain_set, crate::proofs::PlainEvents::plain_get, crate::proofs::PlainEvents::plain_release, crate::proofs::PlainEvents::plain_emit))]
+#[tactic(auto, using(crate::proofs::PlainEvents::plain_set, crate::proofs::PlainEvents::plain_get, crate::proofs::PlainEvents::plain_release, crate::proofs::PlainEvents::plain_emit, crate::proofs::PlainEvents::plain_turn))]
 fn event_of_plain(
     alloc: Global,
     definition: &Definition,
@@ -53,6 +53,7 @@ fn event_of_plain(
         PlainLine::Emit { id, name, args } => {
             emit_of(alloc, definition, id, name, args.as_slice(), None)
         }
+        PlainLine::Turn { moment } => turn_in(&moment),
     }
 }
 

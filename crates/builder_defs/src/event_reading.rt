@@ -243,7 +243,7 @@ fn release_in(alloc: Global, definition: &Definition, word: &Value) -> Result<Ev
 
 // Reads a turn from its moment.
 #[tactic(auto, unfolding(definition_format::specs::EventMeaning::turn_event))]
-fn turn_in(word: &Value) -> Result<Event, EventError>
+pub(crate) fn turn_in(word: &Value) -> Result<Event, EventError>
     ensures { Gives event_of result (turn_event (view word.now)) }
 {
     let Some(number) = word.as_number() else {

@@ -12,7 +12,8 @@ pub enum Status {
     DefinitionRefused,
     /// The handle has no session.
     NoSession,
-    /// Memory was refused. If there is a session it has stopped, and carries nothing out any more.
+    /// Memory was refused. If it was refused while a line was read, nothing was done, and the session is as it was. Otherwise the session, if
+    /// there is one, has stopped, and carries nothing out any more.
     Stopped,
     /// The line is refused, and the session goes on as it was.
     LineRefused,

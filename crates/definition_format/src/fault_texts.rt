@@ -215,8 +215,12 @@ fn value_cause_text(cause: JsonFault) -> &'static str
     }
 }
 
-// Returns a path or a name in its printed form.
-fn printed(alloc: Global, text: &str) -> Result<String, AllocError>
+/// Returns a path or a name in its printed form: each byte outside 33 to 126 as `%` and two hexadecimal digits.
+///
+/// # Errors
+///
+/// `AllocError` if memory is refused.
+pub fn printed(alloc: Global, text: &str) -> Result<String, AllocError>
     ensures { IfOk result (λ out. string_bytes out ≡ printed text.now) }
 {
     let mut out = String::new(alloc);

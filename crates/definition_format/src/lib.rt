@@ -13,6 +13,7 @@ mod paths;
 
 pub use event_faults::{EventError, EventFault};
 pub use events::{Event, Request};
+pub use fault_texts::printed;
 pub use faults::{DefinitionFault, DefinitionLimit, ReadError, SpecCause, TypeCause};
 pub use objects::{Attached, Bind, Given, GivenValue, ObjectBody, PrototypeBody};
 pub use paths::Path;

@@ -8,3 +8,6 @@ pub mod Positions
 pub mod Once
 pub mod PairedLists
 pub mod Prefixes
+pub mod UnnamedSignals
+pub mod BusySignals
+pub mod BusyLists

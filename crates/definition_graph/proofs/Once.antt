@@ -1,6 +1,6 @@
 -- No channel of a definition is there twice.
 use Rattle.std.proofs.Common.{◌≡◌, ◌∙◌, inl, inr, ◌⊎◌, refl, sym, ap, subst, ℕ, zero, suc, ◌+◌, ◌<◌, ◌≤◌, Bool, true, false, cond, List, [], ◌∷◌, ◌++◌, length, Some, slice_get, arith}
-use Rattle.std.specs.List.{flat_map}
+use Rattle.std.specs.List.{filter, flat_map}
 use Rattle.std.proofs.lemmas.Option.{none-some, same_Some}
 use Rattle.ui_machine.specs.Seq.{listed}
 use Rattle.ui_machine.specs.Definition.{Definition}
@@ -10,6 +10,7 @@ use Rattle.ui_machine.specs.Definition.Signals.{Signal}
 use Rattle.law_typing.specs.Graph.Channels.{Channel, constructed, property, signal, channels, channels_at, constructed_at, emitted_at, is_filled, of_class, readable_at, readable_from, signals_at, signals_from}
 use Rattle.law_typing.specs.Graph.{place_of_channel}
 use Rattle.law_typing.specs.Rules.RegisterKinds.{class_at}
+use Rattle.law_idle.specs.Idle.{busy_channels, is_busy}
 use Rattle.definition_graph.specs.Numbers.{IsOnce}
 
 -- ** lists that rise
@@ -70,6 +71,23 @@ all_to P Q (x ∷ xs) f all = (f x all.0, all_to P Q xs f all.1)
 rises_both : (xs ys : List Channel) → Rises xs → Rises ys → All (λ x. All (Before x) ys) xs → Rises (xs ++ ys)
 rises_both [] ys a b apart = b
 rises_both (x ∷ xs) ys a b apart = (all_both (Before x) xs ys a.0 apart.0, rises_both xs ys a.1 b apart.1)
+
+all_kept : (P : Channel → Type 0) (test : Channel → Bool) (xs : List Channel) → All P xs → All P (filter test xs)
+all_kept P test [] all = tt
+all_kept P test (x ∷ xs) all = by (test x) (all_kept P test xs all.1)
+  where
+    by : (b : Bool) → All P (filter test xs) → All P (cond b (x ∷ filter test xs) (filter test xs))
+    by true later = (all.0, later)
+    by false later = later
+
+-- what is kept of a list that rises rises
+rises_kept : (test : Channel → Bool) (xs : List Channel) → Rises xs → Rises (filter test xs)
+rises_kept test [] rises = tt
+rises_kept test (x ∷ xs) rises = by (test x) (rises_kept test xs rises.1)
+  where
+    by : (b : Bool) → Rises (filter test xs) → Rises (cond b (x ∷ filter test xs) (filter test xs))
+    by true later = (all_kept (Before x) test xs rises.0, later)
+    by false later = later
 
 -- ** at a place
 
@@ -191,10 +209,17 @@ module _ (d : Definition) where
           same zero f g e = refl
           same (suc k) f g e = ap (λ x. x ∷ listed (λ i. f (suc i)) k) (e 0) ∙ ap (λ xs. g 0 ∷ xs) (same k (λ i. f (suc i)) (λ i. g (suc i)) (λ i. e (suc i)))
 
+  same : (k : ℕ) (f g : ℕ → ℕ) → ((i : ℕ) → f i ≡ g i) → listed f k ≡ listed g k
+  same zero f g e = refl
+  same (suc k) f g e = ap (λ x. x ∷ listed (λ i. f (suc i)) k) (e 0) ∙ ap (λ xs. g 0 ∷ xs) (same k (λ i. f (suc i)) (λ i. g (suc i)) (λ i. e (suc i)))
+
+  channels_rise : Rises (channels d)
+  channels_rise = subst (λ xs. Rises (flat_map (channels_at d) xs)) (same (length d.places) (λ i. 0 + i) (λ i. i) (λ i. omega arith)) (places_rise 0 (length d.places))
+
   -- no channel of a definition is there twice
   pub channels_once : IsOnce (channels d)
-  channels_once = once_of (channels d) (subst (λ xs. Rises (flat_map (channels_at d) xs)) (same (length d.places) (λ i. 0 + i) (λ i. i) (λ i. omega arith)) (places_rise 0 (length d.places)))
-    where
-      same : (k : ℕ) (f g : ℕ → ℕ) → ((i : ℕ) → f i ≡ g i) → listed f k ≡ listed g k
-      same zero f g e = refl
-      same (suc k) f g e = ap (λ x. x ∷ listed (λ i. f (suc i)) k) (e 0) ∙ ap (λ xs. g 0 ∷ xs) (same k (λ i. f (suc i)) (λ i. g (suc i)) (λ i. e (suc i)))
+  channels_once = once_of (channels d) channels_rise
+
+  -- and no busy one
+  pub busy_once : IsOnce (busy_channels d)
+  busy_once = once_of (busy_channels d) (rises_kept (is_busy d) (channels d) channels_rise)

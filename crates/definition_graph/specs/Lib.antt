@@ -1,3 +1,4 @@
+pub mod Busy
 pub mod ChannelView
 pub mod Makings
 pub mod Numbering

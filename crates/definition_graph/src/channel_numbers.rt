@@ -2,10 +2,12 @@
 
 ghost use Rattle.std.specs.Prelude.{◌≡◌, ◌<◌, ◌≤◌, ℕ, length, slice_get, Some, IfNone, IfOk, IfSome};
 ghost use Rattle.law_typing.specs.Graph.Channels.{channels};
+ghost use Rattle.law_idle.specs.Idle.{busy_channels};
 ghost use Rattle.definition_graph.specs.ChannelView.{channel_of, channels_of};
 ghost use Rattle.definition_graph.specs.Numbering.{AreNumbered, key_of};
 ghost use Rattle.definition_graph.specs.Numbers.{AreCountable, number_of};
 
+use crate::busy_channels::busy_channels;
 use crate::report_channels::channels;
 use operand_types::Lookups;
 use std::alloc::{AllocError, Global};
@@ -81,6 +83,19 @@ impl ChannelNumbers {
         ensures { IfOk result (λ numbers. numbers ≡ channels lookups.now) }
     {
         let channels = channels(alloc, lookups)?;
+        let numbers = numbers_of(alloc, channels.as_slice())?;
+        Ok(ChannelNumbers { channels, numbers })
+    }
+
+    /// Numbers the busy channels of a definition: all but the signals at which nothing runs, and which no program names.
+    ///
+    /// # Errors
+    ///
+    /// `AllocError` if memory is refused.
+    pub fn of_busy(alloc: Global, lookups: &Lookups<'_>) -> Result<ChannelNumbers, AllocError>
+        ensures { IfOk result (λ numbers. numbers ≡ busy_channels lookups.now) }
+    {
+        let channels = busy_channels(alloc, lookups)?;
         let numbers = numbers_of(alloc, channels.as_slice())?;
         Ok(ChannelNumbers { channels, numbers })
     }

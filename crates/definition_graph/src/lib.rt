@@ -5,6 +5,8 @@
 #![tactic(auto)]
 
 mod bound_channels;
+mod busy_channels;
+mod busy_signals;
 mod channel_numbers;
 mod forward_values;
 mod makings;

@@ -65,8 +65,8 @@ fn add_property(
     Ok(())
 }
 
-// Adds the readable properties of a place with this class.
-fn add_properties(
+/// Adds the readable properties of a place with this class.
+pub(crate) fn add_properties(
     channels: &mut Vec<Channel>,
     lookups: &Lookups<'_>,
     place: Place,

@@ -1,5 +1,5 @@
 -- The channels of a definition's graph, and their numbers.
-use Rattle.std.proofs.Common.{◌≡◌, ◌∙◌, refl, sym, ap, subst, ℕ, zero, suc, ◌+◌, ◌<◌, Bool, true, false, cond, List, [], ◌∷◌, ◌++◌, length, map, Option, None, Some, slice_get, arith}
+use Rattle.std.proofs.Common.{◌≡◌, ◌∙◌, inl, inr, refl, sym, ap, subst, ℕ, zero, suc, ◌+◌, ◌<◌, Bool, true, false, cond, List, [], ◌∷◌, ◌++◌, length, map, Option, None, Some, slice_get, arith}
 use Rattle.std.specs.Prelude.{◌||◌, is_some}
 use Rattle.std.specs.List.{cons_option, filter, list_any}
 use Rattle.std.proofs.lemmas.Bool.Decides.{nat_tests}
@@ -13,13 +13,16 @@ use Rattle.law_typing.specs.Graph.{Connection, Graph, Raised, connections, graph
 use Rattle.law_typing.specs.Graph.Channels.{Channel, channels, channels_at, constructed, constructed_at, emitted_at, is_channel, is_filled, present, readable_at, same_channel, signals_at, signals_from}
 use Rattle.law_typing.specs.Graph.Ranks.{is_raised}
 use Rattle.law_typing.specs.Rules.RegisterKinds.{place_numbers}
+use Rattle.law_typing.specs.Laws.{IsIn}
 use Rattle.law_typing.specs.Rules.Sites.{sites}
 use Rattle.law_typing.specs.Verdict.Accepted.{Each}
 use Rattle.law_typing.proofs.EdgeProofs.{channel_is_raised, readable_there}
 use Rattle.law_typing.proofs.Lists.{each_append, each_flat}
 use Rattle.graph_sketches.specs.Sketches.{AreNamed, AreOnce, channels_in}
+use Rattle.law_idle.specs.Idle.{busy_channels, busy_graph, is_busy}
+use Rattle.law_idle.proofs.Resting.{same_any}
 use Rattle.definition_graph.specs.Numbers.{number_from, number_of, numbers_of}
-use Rattle.definition_graph.proofs.Once.{channels_once}
+use Rattle.definition_graph.proofs.Once.{busy_once}
 use Rattle.definition_graph.proofs.Positions.{found_is}
 
 each_get : {A : Type 0} (P : A → Type 0) (xs : List A) (n : ℕ) (x : A) → Each P xs → slice_get xs n ≡ Some x → P x
@@ -65,15 +68,29 @@ module _ (g : Graph) where
 -- ** those of a definition
 
 module _ (d : Definition) where
+  busy_back : (ns : List Connection) (cs : List Channel) → filter (λ (r : Raised). is_busy d r.channel) (map (raised_at d ns) cs) ≡ map (raised_at d ns) (filter (is_busy d) cs)
+  busy_back ns [] = refl
+  busy_back ns (c ∷ cs) = by (is_busy d c) (busy_back ns cs)
+    where
+      by : (b : Bool) → filter (λ (r : Raised). is_busy d r.channel) (map (raised_at d ns) cs) ≡ map (raised_at d ns) (filter (is_busy d) cs) →
+          cond b (raised_at d ns c ∷ filter (λ (r : Raised). is_busy d r.channel) (map (raised_at d ns) cs)) (filter (λ (r : Raised). is_busy d r.channel) (map (raised_at d ns) cs))
+          ≡ map (raised_at d ns) (cond b (c ∷ filter (is_busy d) cs) (filter (is_busy d) cs))
+      by true later = ap (λ rs. raised_at d ns c ∷ rs) later
+      by false later = later
+
+  -- what runs at the busy channels
+  pub busy_raised : (busy_graph d).raised ≡ map (raised_at d (connections d (sites d))) (busy_channels d)
+  busy_raised = busy_back (connections d (sites d)) (channels d)
+
   channels_back : (ns : List Connection) (cs : List Channel) → map (λ (r : Raised). r.channel) (map (raised_at d ns) cs) ≡ cs
   channels_back ns [] = refl
   channels_back ns (c ∷ cs) = ap (λ xs. c ∷ xs) (channels_back ns cs)
 
-  pub graph_channels : channels_in (graph d) ≡ channels d
-  graph_channels = channels_back (connections d (sites d)) (channels d)
+  pub graph_channels : channels_in (busy_graph d) ≡ busy_channels d
+  graph_channels = ap (map (λ (r : Raised). r.channel)) busy_raised ∙ channels_back (connections d (sites d)) (busy_channels d)
 
-  pub graph_once : AreOnce (graph d)
-  graph_once = subst (λ (cs : List Channel). (i j : ℕ) (c : Channel) → slice_get cs i ≡ Some c → slice_get cs j ≡ Some c → i ≡ j) (sym graph_channels) (channels_once d)
+  pub graph_once : AreOnce (busy_graph d)
+  graph_once = subst (λ (cs : List Channel). (i j : ℕ) (c : Channel) → slice_get cs i ≡ Some c → slice_get cs j ≡ Some c → i ≡ j) (sym graph_channels) (busy_once d)
 
   abbrev There : Channel → Type 0
   There c = is_channel d c ≡ true
@@ -101,38 +118,63 @@ module _ (d : Definition) where
       (constructed_there place (is_filled (constructed_at d place)) refl)
       (each_append There (readable_at d place) (emitted_at place (signals_at d place)) (readable_there d place) (emitted_there place (signals_at d place) refl)))
 
-  -- a channel is raised where it is one
-  pub raised_is : (c : Channel) → is_channel d c ≡ is_raised (graph d) c
-  raised_is c = by (is_channel d c) refl (number_of (channels_in (graph d)) c) refl
+  each_kept : (test : Channel → Bool) (cs : List Channel) → Each There cs → Each There (filter test cs)
+  each_kept test [] all = tt
+  each_kept test (c ∷ cs) all = by (test c) (each_kept test cs all.1)
     where
-      by : (b : Bool) → is_channel d c ≡ b → (o : Option ℕ) → number_of (channels_in (graph d)) c ≡ o → b ≡ is_raised (graph d) c
-      by true is o number = sym (channel_is_raised d c is)
-      by false is None number = sym (raised_from (graph d).raised 0 c ∙ ap is_some number)
-      by false is (Some n) number =
-          let at : slice_get (channels d) n ≡ Some c = ap (λ cs. slice_get cs n) (sym graph_channels) ∙ found_is (channels_in (graph d)) c n number in
-          let there = each_get There (channels d) n c each_channel at in
+      by : (b : Bool) → Each There (filter test cs) → Each There (cond b (c ∷ filter test cs) (filter test cs))
+      by true later = (all.0, later)
+      by false later = later
+
+  -- and so is each busy one
+  each_busy : Each There (busy_channels d)
+  each_busy = each_kept (is_busy d) (channels d) each_channel
+
+  -- a busy channel is raised where it is one
+  pub busy_is_raised : (c : Channel) → is_busy d c ≡ true → is_channel d c ≡ true → is_raised (busy_graph d) c ≡ true
+  busy_is_raised c busy is = same_any (is_busy d) c busy (graph d).raised ∙ channel_is_raised d c is
+
+  not_raised : (c : Channel) → is_channel d c ≡ false → is_raised (busy_graph d) c ≡ false
+  not_raised c is = by (number_of (channels_in (busy_graph d)) c) refl
+    where
+      by : (o : Option ℕ) → number_of (channels_in (busy_graph d)) c ≡ o → is_raised (busy_graph d) c ≡ false
+      by None number = raised_from (busy_graph d).raised 0 c ∙ ap is_some number
+      by (Some n) number =
+          let at : slice_get (busy_channels d) n ≡ Some c = ap (λ cs. slice_get cs n) (sym graph_channels) ∙ found_is (channels_in (busy_graph d)) c n number in
+          let there = each_get There (busy_channels d) n c each_busy at in
           absurd (cc)
 
-  -- the numbers of those that are there
-  pub named_present : (cs : List Channel) → AreNamed (graph d) (numbers_of (channels_in (graph d)) cs) (present d cs)
-  named_present cs = subst (AreNamed (graph d) (numbers_of (channels_in (graph d)) cs)) (sym (kept cs)) (named_raised (graph d) cs)
+  -- the numbers of those that are there, where these are busy
+  pub named_present : (cs : List Channel) → ((c : Channel) → IsIn c (present d cs) → is_busy d c ≡ true) →
+      AreNamed (busy_graph d) (numbers_of (channels_in (busy_graph d)) cs) (present d cs)
+  named_present cs busy = subst (AreNamed (busy_graph d) (numbers_of (channels_in (busy_graph d)) cs)) (sym (kept cs busy)) (named_raised (busy_graph d) cs)
     where
-      kept : (xs : List Channel) → filter (is_channel d) xs ≡ filter (is_raised (graph d)) xs
-      kept [] = refl
-      kept (x ∷ xs) = ap (λ b. cond b (x ∷ filter (is_channel d) xs) (filter (is_channel d) xs)) (raised_is x) ∙ ap (λ ys. cond (is_raised (graph d) x) (x ∷ ys) ys) (kept xs)
+      kept : (xs : List Channel) → ((c : Channel) → IsIn c (present d xs) → is_busy d c ≡ true) → filter (is_channel d) xs ≡ filter (is_raised (busy_graph d)) xs
+      kept [] busy = refl
+      kept (x ∷ xs) busy = by (is_channel d x) refl busy (kept xs)
+        where
+          by : (b : Bool) → is_channel d x ≡ b → ((c : Channel) → IsIn c (cond b (x ∷ present d xs) (present d xs)) → is_busy d c ≡ true) →
+              (((c : Channel) → IsIn c (present d xs) → is_busy d c ≡ true) → filter (is_channel d) xs ≡ filter (is_raised (busy_graph d)) xs) →
+              cond b (x ∷ filter (is_channel d) xs) (filter (is_channel d) xs)
+              ≡ cond (is_raised (busy_graph d) x) (x ∷ filter (is_raised (busy_graph d)) xs) (filter (is_raised (busy_graph d)) xs)
+          by true is all later =
+              ap (λ ys. x ∷ ys) (later (λ c h. all c (inr h)))
+              ∙ sym (ap (λ b. cond b (x ∷ filter (is_raised (busy_graph d)) xs) (filter (is_raised (busy_graph d)) xs)) (busy_is_raised x (all x (inl refl)) is))
+          by false is all later =
+              later all ∙ sym (ap (λ b. cond b (x ∷ filter (is_raised (busy_graph d)) xs) (filter (is_raised (busy_graph d)) xs)) (not_raised x is))
 
-  pub named_there : (cs : List Channel) → Each There cs → AreNamed (graph d) (numbers_of (channels_in (graph d)) cs) cs
-  named_there cs all = named_each (graph d) cs (to cs all)
+  pub named_there : (cs : List Channel) → Each There cs → ((c : Channel) → IsIn c cs → is_busy d c ≡ true) → AreNamed (busy_graph d) (numbers_of (channels_in (busy_graph d)) cs) cs
+  named_there cs all busy = named_each (busy_graph d) cs (to cs all busy)
     where
-      to : (xs : List Channel) → Each There xs → Each (λ c. is_raised (graph d) c ≡ true) xs
-      to [] all = tt
-      to (x ∷ xs) all = (channel_is_raised d x all.0, to xs all.1)
+      to : (xs : List Channel) → Each There xs → ((c : Channel) → IsIn c xs → is_busy d c ≡ true) → Each (λ c. is_raised (busy_graph d) c ≡ true) xs
+      to [] all busy = tt
+      to (x ∷ xs) all busy = (busy_is_raised x (busy x (inl refl)) all.0, to xs all.1 (λ c h. busy c (inr h)))
 
   -- ** makings
 
-  each_kept : (cs : List Channel) → Each There (present d cs)
-  each_kept [] = tt
-  each_kept (c ∷ cs) = by (is_channel d c) refl (each_kept cs)
+  each_present : (cs : List Channel) → Each There (present d cs)
+  each_present [] = tt
+  each_present (c ∷ cs) = by (is_channel d c) refl (each_present cs)
     where
       by : (b : Bool) → is_channel d c ≡ b → Each There (present d cs) → Each There (cond b (c ∷ present d cs) (present d cs))
       by true is later = (is, later)
@@ -140,28 +182,25 @@ module _ (d : Definition) where
 
   made_there : (place : ℕ) (ps : List Place) (n : ℕ) → Each There (read [] (makings_from d place ps) n)
   made_there place [] n = tt
-  made_there place (p ∷ ps) zero = each_kept (constructed place ∷ set_from place p.given 0 (specs_of d p.class))
+  made_there place (p ∷ ps) zero = each_present (constructed place ∷ set_from place p.given 0 (specs_of d p.class))
   made_there place (p ∷ ps) (suc n) = made_there (suc place) ps n
 
   pub making_there : (o : Option ℕ) → Each There (making_of d o)
   making_there None = tt
   making_there (Some place) = made_there 0 d.places place
 
-  -- a channel has a number
-  pub has_number : (c : Channel) → is_channel d c ≡ true → is_some (number_of (channels_in (graph d)) c) ≡ true
-  has_number c is = sym (raised_from (graph d).raised 0 c) ∙ channel_is_raised d c is
+  -- a busy channel has a number
+  pub has_number : (c : Channel) → is_busy d c ≡ true → is_channel d c ≡ true → is_some (number_of (channels_in (busy_graph d)) c) ≡ true
+  has_number c busy is = sym (raised_from (busy_graph d).raised 0 c) ∙ busy_is_raised c busy is
+
+  -- one that has a number is one
+  pub channel_there : (c : Channel) (n : ℕ) → slice_get (channels_in (busy_graph d)) n ≡ Some c → is_channel d c ≡ true
+  channel_there c n at = each_get There (busy_channels d) n c each_busy (ap (λ cs. slice_get cs n) (sym graph_channels) ∙ at)
 
   -- and what is none has none
-  pub no_channel : (c : Channel) (n : ℕ) → slice_get (channels_in (graph d)) n ≡ Some c → is_channel d c ≡ false → ⊥
-  no_channel c n at is =
-      let there = each_get There (channels d) n c each_channel (ap (λ cs. slice_get cs n) (sym graph_channels) ∙ at) in
-      let e : is_channel d c ≡ true = there in
-      no (is_channel d c) e is
+  pub no_channel : (c : Channel) (n : ℕ) → slice_get (channels_in (busy_graph d)) n ≡ Some c → is_channel d c ≡ false → ⊥
+  no_channel c n at is = no (is_channel d c) (channel_there c n at) is
     where
       no : (b : Bool) → b ≡ true → b ≡ false → ⊥
       no true p q = absurd (cc)
       no false p q = absurd (cc)
-
-  -- one that has a number is one
-  pub channel_there : (c : Channel) (n : ℕ) → slice_get (channels_in (graph d)) n ≡ Some c → is_channel d c ≡ true
-  channel_there c n at = each_get There (channels d) n c each_channel (ap (λ cs. slice_get cs n) (sym graph_channels) ∙ at)

@@ -1,4 +1,4 @@
-mod GraphChannels
+pub mod GraphChannels
 mod NoFaults
 mod PairEnds
 mod Sketched

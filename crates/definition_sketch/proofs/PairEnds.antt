@@ -6,19 +6,19 @@ use Rattle.std.proofs.lemmas.Bool.{or_parts}
 use Rattle.std.proofs.lemmas.Option.{none-some, same_Some}
 use Rattle.ui_machine.specs.Definition.{Definition}
 use Rattle.ui_machine.specs.Definition.Places.{Bind}
-use Rattle.law_typing.specs.Graph.{graph, in_order, is_before, pairs_of}
+use Rattle.law_typing.specs.Graph.{in_order, is_before, pairs_of}
 use Rattle.law_typing.specs.Graph.Channels.{Channel, is_pair, is_paired, partner_in, same_channel, source_of, target_of}
 use Rattle.law_typing.specs.Graph.Costs.{other_end, other_end_in}
 use Rattle.law_typing.specs.Graph.Ranks.{node_in}
 use Rattle.law_typing.specs.Rules.BindingRules.{binding_faults, pair_faults, shares_end, word_of}
 use Rattle.law_typing.specs.Verdict.Accepted.{Each}
-use Rattle.law_typing.proofs.EdgeProofs.{channel_is_raised}
 use Rattle.law_typing.proofs.Lists.{same_channel_refl, same_channel_true}
 use Rattle.law_typing.proofs.PairProofs.{NoSecond, later_apart, no_second, no_words, pair_read}
 use Rattle.graph_sketches.specs.Sketches.{IsRaisedProperty, channels_in}
+use Rattle.law_idle.specs.Idle.{busy_graph}
 use Rattle.definition_graph.specs.Numbers.{number_of}
 use Rattle.definition_graph.specs.Paired.{HaveNumbers, other_number}
-use Rattle.definition_sketch.proofs.GraphChannels.{has_number}
+use Rattle.definition_sketch.proofs.GraphChannels.{busy_is_raised, has_number}
 
 -- ** pairs that are apart
 
@@ -191,19 +191,19 @@ order_both P c e x y = by (is_before e c)
     by true = (y, x)
     by false = (x, y)
 
-have_numbers : (d : Definition) (bs : List Bind) → Each (λ b. word_of d b ≡ None) bs → HaveNumbers (channels_in (graph d)) (pairs_of bs)
+have_numbers : (d : Definition) (bs : List Bind) → Each (λ b. word_of d b ≡ None) bs → HaveNumbers (channels_in (busy_graph d)) (pairs_of bs)
 have_numbers d [] all = tt
 have_numbers d (b ∷ bs) all = by (is_pair b) refl (have_numbers d bs all.1)
   where
-    by : (p : Bool) → is_pair b ≡ p → HaveNumbers (channels_in (graph d)) (pairs_of bs) →
-        HaveNumbers (channels_in (graph d)) (map (λ x. in_order (source_of x) (target_of x)) (cond p (b ∷ filter is_pair bs) (filter is_pair bs)))
+    by : (p : Bool) → is_pair b ≡ p → HaveNumbers (channels_in (busy_graph d)) (pairs_of bs) →
+        HaveNumbers (channels_in (busy_graph d)) (map (λ x. in_order (source_of x) (target_of x)) (cond p (b ∷ filter is_pair bs) (filter is_pair bs)))
     by true h rest =
         let r = pair_read d b h all.0 in
-        let both = order_both (λ c. is_some (number_of (channels_in (graph d)) c) ≡ true) (source_of b) (target_of b) (has_number d (source_of b) r.source) (has_number d (target_of b) r.target) in
+        let both = order_both (λ c. is_some (number_of (channels_in (busy_graph d)) c) ≡ true) (source_of b) (target_of b) (has_number d (source_of b) refl r.source) (has_number d (target_of b) refl r.target) in
         (both.0, both.1, rest)
     by false h rest = rest
 
-pub pairs_numbered : (d : Definition) → binding_faults d ≡ [] → HaveNumbers (channels_in (graph d)) (pairs_of d.bindings)
+pub pairs_numbered : (d : Definition) → binding_faults d ≡ [] → HaveNumbers (channels_in (busy_graph d)) (pairs_of d.bindings)
 pairs_numbered d bindings = have_numbers d d.bindings (no_words d 0 d.bindings bindings)
 
 -- ** only properties that are raised are in pairs
@@ -219,14 +219,14 @@ end_is P (p ∷ ps) c e all is = by (same_channel p.0 c) (same_channel p.1 c) re
     by false true f g k more = subst P (same_channel_true p.1 c g) all.0.1
     by false false f g k more = more k
 
-pub ends_raised : (d : Definition) → binding_faults d ≡ [] → (c e : Channel) → other_end (graph d) c ≡ Some e → IsRaisedProperty (graph d) c
+pub ends_raised : (d : Definition) → binding_faults d ≡ [] → (c e : Channel) → other_end (busy_graph d) c ≡ Some e → IsRaisedProperty (busy_graph d) c
 ends_raised d bindings c e is =
-    end_is (IsRaisedProperty (graph d)) (pairs_of d.bindings) c e
-    (each_pair (λ (p : Channel × Channel). IsRaisedProperty (graph d) p.0 × IsRaisedProperty (graph d) p.1) d.bindings
+    end_is (IsRaisedProperty (busy_graph d)) (pairs_of d.bindings) c e
+    (each_pair (λ (p : Channel × Channel). IsRaisedProperty (busy_graph d) p.0 × IsRaisedProperty (busy_graph d) p.1) d.bindings
     (each_to (λ b. word_of d b ≡ None)
-    (λ b. is_pair b ≡ true → IsRaisedProperty (graph d) (in_order (source_of b) (target_of b)).0 × IsRaisedProperty (graph d) (in_order (source_of b) (target_of b)).1) d.bindings
+    (λ b. is_pair b ≡ true → IsRaisedProperty (busy_graph d) (in_order (source_of b) (target_of b)).0 × IsRaisedProperty (busy_graph d) (in_order (source_of b) (target_of b)).1) d.bindings
     (λ b none h. (let r = pair_read d b h none in
-    order_both (IsRaisedProperty (graph d)) (source_of b) (target_of b) (channel_is_raised d (source_of b) r.source) (channel_is_raised d (target_of b) r.target)))
+    order_both (IsRaisedProperty (busy_graph d)) (source_of b) (target_of b) (busy_is_raised d (source_of b) refl r.source) (busy_is_raised d (target_of b) refl r.target)))
     (no_words d 0 d.bindings bindings))) is
 
 -- an other end has a number

@@ -4,8 +4,8 @@ use Rattle.std.specs.Prelude.{not, ◌&&◌, is_some, nat_lt, option_and_then}
 use Rattle.std.specs.List.{filter, filter_map, list_any}
 use Rattle.std.proofs.lemmas.Option.{none-some, same_Some}
 use Rattle.ui_machine.specs.Definition.{Definition}
-use Rattle.law_typing.specs.Graph.{Connection, class_handler_for, connectable_at, connections, graph, may_be_at, pairs_of, raised_at, targets_from}
-use Rattle.law_typing.specs.Graph.Channels.{Channel, channels, constructed, is_pair, of_class, property, same_channel, signal, source_of, target_of}
+use Rattle.law_typing.specs.Graph.{Connection, class_handler_for, connectable_at, connections, may_be_at, pairs_of, raised_at, targets_from}
+use Rattle.law_typing.specs.Graph.Channels.{Channel, constructed, is_pair, of_class, property, same_channel, signal, source_of, target_of}
 use Rattle.law_typing.specs.Graph.Costs.{other_end, other_end_in}
 use Rattle.law_typing.specs.Graph.Ranks.{is_raised, node, node_in}
 use Rattle.law_typing.specs.Rules.BindingRules.{binding_faults, pair_faults}
@@ -13,6 +13,8 @@ use Rattle.law_typing.specs.Rules.RegisterKinds.{class_at}
 use Rattle.law_typing.specs.Rules.Sites.{sites}
 use Rattle.graph_sketches.specs.Pointwise.{Pointwise}
 use Rattle.graph_sketches.specs.Sketches.{AreNamed, IsPairedIn, IsQuiet, IsSketch, IsSketchedChannel, Names, NamesIf, Sketch, SketchedChannel, channels_in}
+use Rattle.law_idle.specs.Idle.{busy_channels, busy_graph}
+use Rattle.law_idle.proofs.IdleProofs.{others_are_idle}
 use Rattle.definition_graph.specs.Numbers.{number_of}
 use Rattle.definition_graph.specs.Paired.{ArePaired, HaveNumbers, other_number}
 use Rattle.definition_graph.specs.Paired as numbered
@@ -22,7 +24,7 @@ use Rattle.definition_graph.proofs.Positions.{found_is, number_is}
 use Rattle.raised_channels.specs.Raised.{AreSketched, IsSketchedAt}
 use Rattle.started_channels.specs.SketchedCode.{ArePrograms}
 use Rattle.started_channels.specs.Tables.{AreOfSome}
-use Rattle.definition_sketch.proofs.GraphChannels.{channel_there, graph_channels, graph_once, named_raised}
+use Rattle.definition_sketch.proofs.GraphChannels.{busy_raised, channel_there, graph_channels, graph_once, named_raised}
 use Rattle.definition_sketch.proofs.PairEnds.{Disjoint, Ends, alone_node, ends_of, ends_raised, other_has, pairs_disjoint, pairs_numbered}
 use Rattle.definition_sketch.proofs.Starts.{places_named, programs_right, starts_named}
 
@@ -67,28 +69,28 @@ module _ (d : Definition) where
 
 -- ** channels
 
-module _ (d : Definition) (paired : PairedNumbers) (are : ArePaired (channels_in (graph d)) (pairs_of d.bindings) paired.firsts.items paired.others.items)
-    (there : HaveNumbers (channels_in (graph d)) (pairs_of d.bindings)) where
+module _ (d : Definition) (paired : PairedNumbers) (are : ArePaired (channels_in (busy_graph d)) (pairs_of d.bindings) paired.firsts.items paired.others.items)
+    (there : HaveNumbers (channels_in (busy_graph d)) (pairs_of d.bindings)) where
   abbrev all : List Channel
-  all = channels_in (graph d)
+  all = channels_in (busy_graph d)
 
-  first_named : (n : ℕ) (c : Channel) (k : SketchedChannel) → slice_get all n ≡ Some c → Some k.first ≡ slice_get paired.firsts.items n → Names (graph d) k.first (node (graph d) c)
+  first_named : (n : ℕ) (c : Channel) (k : SketchedChannel) → slice_get all n ≡ Some c → Some k.first ≡ slice_get paired.firsts.items n → Names (busy_graph d) k.first (node (busy_graph d) c)
   first_named n c k at is = found_is all (node_in (pairs_of d.bindings) c) k.first (are.first there n c at ∙ sym is)
 
   other_is : (n : ℕ) (c : Channel) (k : SketchedChannel) → slice_get all n ≡ Some c → Some k.other ≡ slice_get paired.others.items n → k.other ≡ other_number all (pairs_of d.bindings) c
   other_is n c k at is = same_Some _ _ (is ∙ are.other there n c at)
 
-  other_named : (n : ℕ) (c : Channel) (k : SketchedChannel) → slice_get all n ≡ Some c → Some k.other ≡ slice_get paired.others.items n → NamesIf (graph d) k.other (other_end (graph d) c)
+  other_named : (n : ℕ) (c : Channel) (k : SketchedChannel) → slice_get all n ≡ Some c → Some k.other ≡ slice_get paired.others.items n → NamesIf (busy_graph d) k.other (other_end (busy_graph d) c)
   other_named n c k at is = by k.other (other_end_in (pairs_of d.bindings) c) refl (other_is n c k at is)
     where
-      by : (o : Option ℕ) (e : Option Channel) → other_end_in (pairs_of d.bindings) c ≡ e → o ≡ option_and_then (number_of all) e → NamesIf (graph d) o e
+      by : (o : Option ℕ) (e : Option Channel) → other_end_in (pairs_of d.bindings) c ≡ e → o ≡ option_and_then (number_of all) e → NamesIf (busy_graph d) o e
       by None None found same = tt
       by (Some m) None found same = absurd (none-some m (sym same))
       by None (Some e) found same = absurd (let h = other_has all (pairs_of d.bindings) c e there found in let q = ap is_some same in cc)
       by (Some m) (Some e) found same = found_is all e m (sym same)
 
   channel_right : (groups : List (List ℕ)) (n : ℕ) (c : Channel) (k : SketchedChannel) → slice_get all n ≡ Some c → IsSketchedAt d all paired groups n c k →
-      IsSketchedChannel (graph d) groups k (raised_at d (connections d (sites d)) c)
+      IsSketchedChannel (busy_graph d) groups k (raised_at d (connections d (sites d)) c)
   channel_right groups n c k at is = record {
     emits = is.emits;
     quiet = quiet d (connections d (sites d)) c;
@@ -97,7 +99,7 @@ module _ (d : Definition) (paired : PairedNumbers) (are : ArePaired (channels_in
     handlers = is.handlers;
     connectable = is.connectable;
     transfers = is.transfers;
-    targets = subst (λ ns. AreNamed (graph d) ns (filter (is_raised (graph d)) (targets_from d c))) (sym is.targets) (named_raised (graph d) (targets_from d c));
+    targets = subst (λ ns. AreNamed (busy_graph d) ns (filter (is_raised (busy_graph d)) (targets_from d c))) (sym is.targets) (named_raised (busy_graph d) (targets_from d c));
     first = first_named n c k at is.first;
     other = other_named n c k at is.other;
   }
@@ -105,7 +107,7 @@ module _ (d : Definition) (paired : PairedNumbers) (are : ArePaired (channels_in
   channels_from : (groups : List (List ℕ)) (m : ℕ) (cs : List Channel) (ks : List SketchedChannel) → length ks ≡ length cs →
       ((n : ℕ) (c : Channel) → slice_get cs n ≡ Some c → slice_get all (m + n) ≡ Some c) →
       ((n : ℕ) (c : Channel) (k : SketchedChannel) → slice_get cs n ≡ Some c → slice_get ks n ≡ Some k → IsSketchedAt d all paired groups (m + n) c k) →
-      Pointwise (IsSketchedChannel (graph d) groups) ks (map (raised_at d (connections d (sites d))) cs)
+      Pointwise (IsSketchedChannel (busy_graph d) groups) ks (map (raised_at d (connections d (sites d))) cs)
   channels_from groups m [] [] same at each = tt
   channels_from groups m [] (k ∷ ks) same at each = absurd (omega (arith, same))
   channels_from groups m (c ∷ cs) [] same at each = absurd (omega (arith, same))
@@ -117,12 +119,13 @@ module _ (d : Definition) (paired : PairedNumbers) (are : ArePaired (channels_in
   )
 
   pub channels_right : (groups : List (List ℕ)) (ks : List SketchedChannel) → AreSketched d all paired groups ks →
-      Pointwise (IsSketchedChannel (graph d) groups) ks (graph d).raised
+      Pointwise (IsSketchedChannel (busy_graph d) groups) ks (busy_graph d).raised
   channels_right groups ks sketched =
-      channels_from groups 0 (channels d) ks (sketched.count ∙ ap length (graph_channels d))
+      subst (Pointwise (IsSketchedChannel (busy_graph d) groups) ks) (sym (busy_raised d))
+      (channels_from groups 0 (busy_channels d) ks (sketched.count ∙ ap length (graph_channels d))
       (λ n c is. (let z : 0 + n ≡ n = omega arith in ap (slice_get all) z ∙ (ap (λ cs. slice_get cs n) (graph_channels d) ∙ is)))
       (λ n c k is also. (let z : n ≡ 0 + n = omega arith in
-      subst (λ i. IsSketchedAt d all paired groups i c k) z (sketched.each n c k (ap (λ cs. slice_get cs n) (graph_channels d) ∙ is) also)))
+      subst (λ i. IsSketchedAt d all paired groups i c k) z (sketched.each n c k (ap (λ cs. slice_get cs n) (graph_channels d) ∙ is) also))))
 
   -- ** pairs
 
@@ -205,9 +208,9 @@ module _ (d : Definition) (paired : PairedNumbers) (are : ArePaired (channels_in
 -- ** the whole
 
 pub sketch_right : (d : Definition) (s : Sketch) (paired : PairedNumbers) → binding_faults d ≡ [] → pair_faults d ≡ [] →
-    ArePaired (channels d) (pairs_of d.bindings) paired.firsts.items paired.others.items → AreSketched d (channels d) paired s.groups s.channels →
-    ArePrograms d (channels d) s.starts s.programs d.programs → AreOfSome d (channels d) s.starts → s.paired ≡ listed (numbered.paired_at d (channels d) paired.others.items) (length d.places) →
-    IsSketch (graph d) s
+    ArePaired (busy_channels d) (pairs_of d.bindings) paired.firsts.items paired.others.items → AreSketched d (busy_channels d) paired s.groups s.channels →
+    ArePrograms d (busy_channels d) s.starts s.programs d.programs → AreOfSome d (busy_channels d) s.starts → s.paired ≡ listed (numbered.paired_at d (busy_channels d) paired.others.items) (length d.places) →
+    IsSketch (busy_graph d) s
 sketch_right d s paired bindings pairs are channels_are programs_are starts_are places_are =
     record {
       once = graph_once d;
@@ -216,7 +219,7 @@ sketch_right d s paired bindings pairs are channels_are programs_are starts_are 
           paired_right d paired are_in (pairs_numbered d bindings) (pairs_disjoint d bindings pairs) s.groups s.channels channels_in_are;
       programs =
           programs_right d paired.others.items there others_are s.paired listed_are s refl s.programs d.programs
-          (subst (λ cs. ArePrograms d cs s.starts s.programs d.programs) (sym (graph_channels d)) programs_are);
+          (others_are_idle d).starts (subst (λ cs. ArePrograms d cs s.starts s.programs d.programs) (sym (graph_channels d)) programs_are);
       ends = ends_raised d bindings;
       starts =
           starts_named d paired.others.items there others_are s.paired listed_are s.starts
@@ -224,18 +227,18 @@ sketch_right d s paired bindings pairs are channels_are programs_are starts_are 
       places = places_named d paired.others.items there others_are s.paired listed_are;
     }
   where
-    are_in : ArePaired (channels_in (graph d)) (pairs_of d.bindings) paired.firsts.items paired.others.items
+    are_in : ArePaired (channels_in (busy_graph d)) (pairs_of d.bindings) paired.firsts.items paired.others.items
     are_in = subst (λ cs. ArePaired cs (pairs_of d.bindings) paired.firsts.items paired.others.items) (sym (graph_channels d)) are
 
-    channels_in_are : AreSketched d (channels_in (graph d)) paired s.groups s.channels
+    channels_in_are : AreSketched d (channels_in (busy_graph d)) paired s.groups s.channels
     channels_in_are = subst (λ cs. AreSketched d cs paired s.groups s.channels) (sym (graph_channels d)) channels_are
 
-    there : HaveNumbers (channels_in (graph d)) (pairs_of d.bindings)
+    there : HaveNumbers (channels_in (busy_graph d)) (pairs_of d.bindings)
     there = pairs_numbered d bindings
 
-    others_are : (n : ℕ) (c : Channel) → slice_get (channels_in (graph d)) n ≡ Some c →
-        slice_get paired.others.items n ≡ Some (other_number (channels_in (graph d)) (pairs_of d.bindings) c)
+    others_are : (n : ℕ) (c : Channel) → slice_get (channels_in (busy_graph d)) n ≡ Some c →
+        slice_get paired.others.items n ≡ Some (other_number (channels_in (busy_graph d)) (pairs_of d.bindings) c)
     others_are = are_in.other there
 
-    listed_are : s.paired ≡ listed (numbered.paired_at d (channels_in (graph d)) paired.others.items) (length d.places)
+    listed_are : s.paired ≡ listed (numbered.paired_at d (channels_in (busy_graph d)) paired.others.items) (length d.places)
     listed_are = subst (λ cs. s.paired ≡ listed (numbered.paired_at d cs paired.others.items) (length d.places)) (sym (graph_channels d)) places_are

@@ -3,8 +3,7 @@
 
 ghost use Rattle.std.specs.Prelude.{◌≡◌, None, IfOk};
 ghost use Rattle.law_judging.specs.FirstFaults.{first_fault};
-ghost use Rattle.law_typing.specs.Graph.{graph};
-ghost use Rattle.law_typing.specs.Graph.Channels.{channels};
+ghost use Rattle.law_idle.specs.Idle.{busy_channels, busy_graph};
 ghost use Rattle.graph_sketches.specs.Sizes.{IsSmall};
 ghost use Rattle.graph_sketches.specs.Sketches.{IsSketch};
 ghost use Rattle.graph_sketches.specs.View.{sketch_view};
@@ -16,7 +15,7 @@ use raised_channels::raised_channels;
 use started_channels::sketched_programs;
 use std::alloc::{AllocError, Global};
 
-/// Returns the graph of a definition by the numbers of its channels. It is right if the definition breaks no rule of instructions,
+/// Returns the graph of a definition without its idle channels, by the numbers of the busy ones. It is right if the definition breaks no rule of instructions,
 /// handlers, bindings and pairs, of which only the rule of pairs is needed. It is always small enough for its nodes to be numbered.
 ///
 /// # Errors
@@ -27,8 +26,8 @@ pub fn sketch(
     lookups: &Lookups<'_>,
     numbers: &ChannelNumbers,
 ) -> Result<Sketch, AllocError>
-    requires { numbers.now ≡ channels lookups.now }
-    ensures sketch { IfOk result (λ s. first_fault lookups.now ≡ None → IsSketch (graph lookups.now) (sketch_view s)) }
+    requires { numbers.now ≡ busy_channels lookups.now }
+    ensures sketch { IfOk result (λ s. first_fault lookups.now ≡ None → IsSketch (busy_graph lookups.now) (sketch_view s)) }
     ensures small { IfOk result (λ s. IsSmall (sketch_view s)) }
 {
     // For the proof: there are few channels.

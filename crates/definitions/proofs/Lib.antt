@@ -2,3 +2,5 @@ pub mod Ids
 pub mod ClassHandlers
 pub mod ShapeLines
 pub mod SlotPlaces
+pub mod ClassNames
+pub mod Spelled

@@ -1,2 +1,3 @@
 pub mod PartsView
 pub mod EntryView
+pub mod ClassNames

@@ -16,6 +16,7 @@ ghost use Rattle.signal_core.specs.Laws.{walk_for};
 ghost use Rattle.signal_core.specs.SignalView.{declared_view};
 ghost use Rattle.definition_format.specs.Meaning.{AreLimits, IsBasic, bind_view, places_of, class_at, object_count, object_place, plain_object, plain_prototype, planned, meaning};
 ghost use Rattle.definition_format.specs.Origin.{IsDenoted};
+ghost use Rattle.definitions.specs.ClassNames.{AreSignals};
 ghost use Rattle.definitions.specs.EntryView.{entry_view};
 ghost use Rattle.definitions.specs.PartsView.{AreRead, parts_of};
 
@@ -24,9 +25,11 @@ use crate::parts::Parts;
 use crate::places::{Objects, Prototypes, place_in, position_of};
 use crate::programs::{Programs, number_of};
 use crate::shapes::{Shapes, shape_number};
+use crate::signal_names::{number_in, signal_names};
 use crate::types::type_name;
 use bytecode::Program;
 use definition_format::Bind;
+use name_tables::NameTable;
 use param_specs::{SlotTable, Spec, SpecTable};
 use peer_shapes::Shape;
 use signal_core::{ClassHandler, DeclaredSignal, Emission, SignalRows, SignalTable};
@@ -57,6 +60,8 @@ pub struct Definition {
     // The declarations behind the slots and the signal numbers of each class.
     slots: SlotTable,
     rows: SignalRows,
+    // The numbers of the signals of each class, by name.
+    signal_names: NameTable,
 }
 
 impl Model for Definition {
@@ -69,7 +74,7 @@ impl Model for Definition {
 
     ghost view = { λ d. meaning (parts d.types d.specs d.signals d.constructed.items d.shapes.entries d.shaped.items d.programs.entries d.prototypes.entries d.objects.entries d.bindings.items d.limits) };
 
-    ghost invariant = { λ d. AreKept (parts d.types d.specs d.signals d.constructed.items d.shapes.entries d.shaped.items d.programs.entries d.prototypes.entries d.objects.entries d.bindings.items d.limits) d.slots d.rows };
+    ghost invariant = { λ d. AreKept (parts d.types d.specs d.signals d.constructed.items d.shapes.entries d.shaped.items d.programs.entries d.prototypes.entries d.objects.entries d.bindings.items d.limits) d.slots d.rows d.signal_names };
 }
 
 impl Definition {
@@ -84,6 +89,7 @@ impl Definition {
     {
         let slots = SlotTable::new(alloc, &parts.types, &parts.specs)?;
         let rows = SignalRows::new(alloc, &parts.types, &parts.signals)?;
+        let signal_names = signal_names(alloc, &parts.types, &parts.signals, &rows)?;
         Ok(Definition {
             types: parts.types,
             specs: parts.specs,
@@ -98,6 +104,7 @@ impl Definition {
             limits: parts.limits,
             slots,
             rows,
+            signal_names,
         })
     }
 
@@ -226,7 +233,22 @@ impl Definition {
         if class.index() >= self.types.len() {
             return None;
         }
-        self.signals.find(&self.types, class, name)
+        match number_in(&self.signal_names, class, name) {
+            Some(number) => number,
+            None => self.signals.find(&self.types, class, name),
+        }
+    }
+
+    /// Collects the names of the signals of all classes, with their numbers.
+    ///
+    /// # Errors
+    ///
+    /// `AllocError` if memory is refused.
+    pub fn signal_names(&self, alloc: Global) -> Result<NameTable, AllocError>
+        ensures { IfOk result (AreSignals self.now) }
+    {
+        let names = signal_names(alloc, &self.types, &self.signals, &self.rows)?;
+        Ok(names)
     }
 
     /// Returns the signal of a class by its number, or `None` if there are not so many. Number 0 is `notify`.

@@ -7,6 +7,7 @@ mod parts;
 pub mod places;
 pub mod programs;
 pub mod shapes;
+mod signal_names;
 pub mod types;
 
 pub use definition::Definition;

@@ -8,4 +8,5 @@ pub mod Befores
 pub mod RunOver
 pub mod Openings
 pub mod CheckProofs
+pub mod CutReports
 pub mod SliceLemmas

@@ -13,12 +13,13 @@ use Rattle.engine_pools.specs.declared.courses.Progress.{Progress}
 use Rattle.engine_pools.specs.declared.courses.Progress.TheVariants as progress
 use Rattle.engine_pools.specs.declared.dispatches.Reply.{Reply}
 use Rattle.engine_pools.specs.Courses.{IfUnderWay}
-use Rattle.engine_pools.specs.PoolView.{world_at}
+use Rattle.engine_pools.specs.PoolView.{with_seen, world_at}
 use Rattle.engine_pools.specs.Ways.{serving, tally_of}
-use Rattle.engine_pools.proofs.UnderWay.{same_back}
+use Rattle.engine_pools.proofs.Points.{cut_off}
+use Rattle.engine_pools.proofs.UnderWay.{same_back, under_way_breaks}
 use Rattle.ui_engine.specs.declared.faults.SessionFault.{SessionFault}
 use Rattle.ui_engine.specs.declared.faults.SessionFault.TheVariants as faults
-use Rattle.ui_engine.specs.SessionView.{Comes, ComesOn, HasCourse, InCourse, SessionState, state_at, with_front, without_lines}
+use Rattle.ui_engine.specs.SessionView.{Comes, ComesOn, HasCourse, InCourse, SessionState, point_in, state_at, with_front, without_lines}
 use Rattle.ui_engine.proofs.Slices.{comes_before, comes_forgotten, course_before}
 use Rattle.builder_defs.specs.EventMeaning.{event_denoted}
 use Rattle.event_lines.specs.EventFileRun as file_run
@@ -26,14 +27,14 @@ use Rattle.event_lines.specs.EventFileRun.{Meets, sort_of_line}
 use Rattle.event_lines.specs.Events.{event_replies}
 use Rattle.event_lines.specs.LineOutcome.{outcome_with}
 use Rattle.event_lines.specs.Reading.{IsOf}
-use Rattle.event_lines.specs.Slices.{Follows, PutsMore, SoFar, most_left, outcome_after}
+use Rattle.event_lines.specs.Slices.{Follows, SoFar, most_left, outcome_after}
 use Rattle.event_lines.specs.Telling.{Tells}
 use Rattle.event_lines.specs.Texts.{joined, lines_text, stopped_line}
 use Rattle.event_lines.specs.Writing.{Passes, Puts, Sent, Tears}
 use Rattle.event_lines.specs.declared.line_outcome.LineOutcome.{LineOutcome}
 use Rattle.event_lines.specs.declared.line_outcome.LineOutcome.TheVariants as outcomes
 use Rattle.event_lines.specs.declared.line_reader.Found.{Found}
-use Rattle.event_lines.proofs.Pieces.{passes_start, puts_after, tears_early}
+use Rattle.event_lines.proofs.Pieces.{passes_start, passes_then, puts_after, tears_early, tears_then}
 
 -- ** texts
 
@@ -43,65 +44,83 @@ kept_behind f xs known lines is = ap (map f) (take_rest xs known) ∙ sym (drop-
 pub more_lines : (xs ys : List (List ℕ)) → lines_text (xs ++ ys) ≡ lines_text xs ++ lines_text ys
 more_lines xs ys = flat_map-append (λ line. joined (line ∷ codes "\n" ∷ [])) xs ys
 
--- a text, and more of it
-pub puts_more : {T U E F : Type 0} (put : Result T E) (r : Result U F) (a b c : Sent) (p q s xs ys : List ℕ) → Puts put a p b q xs → PutsMore put r b q c s ys → Puts r a p c s (xs ++ ys)
-puts_more (Ok u) r a b c p q s xs ys h k = puts_after r a b c p q s xs ys h k
-puts_more {T} {U} {E} {F} (Err e) r a b c p q s xs ys h k =
-    subst (λ (x : Result U F). Puts x a p c s (xs ++ ys)) (sym k.0.1) (subst (λ (x : Sent). Tears a p x (xs ++ ys)) (sym k.1) (tears_early ys h))
-
-pub more_early : {T E F : Type 0} (U V : Type 0) (put : Result T E) (e : F) (a b : Sent) (p q xs ys : List ℕ) → PutsMore {T = T} {U = U} {E = E} {F = F} put (Err e) a p b q xs → PutsMore {T = T} {U = V} {E = E} {F = F} put (Err e) a p b q (xs ++ ys)
-more_early U V (Ok u) e a b p q xs ys h = tears_early ys h
-more_early U V (Err f) e a b p q xs ys h = ((e, refl), h.1, h.2)
-
-pub more_then : {T V E F : Type 0} (U : Type 0) (put : Result T E) (u : U) (r : Result V F) (a b c : Sent) (p q s xs ys : List ℕ) → PutsMore {T = T} {U = U} {E = E} {F = F} put (Ok u) a p b q xs → Puts r b q c s ys
-    → PutsMore {T = T} {U = V} {E = E} {F = F} put r a p c s (xs ++ ys)
-more_then U (Ok x) u r a b c p q s xs ys h k = puts_after r a b c p q s xs ys h k
-more_then U (Err f) u r a b c p q s xs ys h k = absurd (cc h.0.1)
-
--- where it is known whether the writer failed
-pub torn_so : {T E : Type 0} {put : Result T E} {e : E} (a b : Sent) (p q : List ℕ) → put ≡ Err e → (text : List ℕ) → Puts put a p b q text → Tears a p b text
-torn_so {T} {E} a b p q same text h = subst (λ (x : Result T E). Puts x a p b q text) same h
-
-pub passed_so : {T E : Type 0} {put : Result T E} {x : T} (a b : Sent) (p q : List ℕ) → put ≡ Ok x → (text : List ℕ) → Puts put a p b q text → Passes a p b q text
-passed_so {T} {E} a b p q same text h = subst (λ (y : Result T E). Puts y a p b q text) same h
-
 -- ** what has come so far
 
-module _ {E : Type 0} (may : Relations) (d : Definition) (event : Event) (w : World) (before : List (List ℕ)) (a : Sent) (p : List ℕ) where
-  abbrev Far : Progress → Result (Unit {0}) E → ℕ → Sent → List ℕ → List Seen → SessionState → Type 0
-  Far so_far put known b q pool s = SoFar so_far put may d event w before known a p b q pool s
+-- an event that is under way may break off where it is, as it does where no memory is found
+broken_off : (may : Relations) (d : Definition) (event : Event) (w : World) (front : List (List ℕ)) (course : Course) (pool : List Seen) (s : SessionState)
+    → InCourse may d event w front course pool s → Comes (Err faults.OutOfMemory) (serving may d w event) d (with_front front (state_at pool s))
+broken_off may d event w front course pool s so = record {
+  breaks_off =
+      under_way_breaks d may event w front course (point_in pool s) so.so_far (with_seen pool s.world.peers) s.world.transcript
+      (cut_off d may (point_in pool s) pool s.world refl (refl, refl));
+  definition = so.definition;
+  stops = so.stops;
+}
+
+module _ (may : Relations) (d : Definition) (event : Event) (w : World) (before : List (List ℕ)) (a : Sent) (p : List ℕ) where
+  abbrev Far : Progress → ℕ → Sent → List ℕ → List Seen → SessionState → Type 0
+  Far so_far known b q pool s = SoFar so_far may d event w before known a p b q pool s
 
   -- nothing is said yet
-  pub far_begins : (so_far : Progress) (known : ℕ) (pool : List Seen) (s : SessionState) → before ≡ take known s.world.transcript → ComesOn (Ok so_far) may d event w [] pool s → Far so_far (Ok tt) known a p pool s
+  pub far_begins : (so_far : Progress) (known : ℕ) (pool : List Seen) (s : SessionState) → before ≡ take known s.world.transcript → ComesOn (Ok so_far) may d event w [] pool s → Far so_far known a p pool s
   far_begins so_far known pool s is comes = record {
     front = [];
     lines = [];
     comes = comes;
     whole = sym (ap (λ (ls : List (List ℕ)). ls ++ drop known s.world.transcript) (append-nil before ∙ is) ∙ take-append-drop known s.world.transcript);
-    puts = passes_start a p;
+    said = passes_start a p;
   }
 
+  -- all that came by then is what was said before, and what is kept
+  all_shown : (so_far : Progress) (known : ℕ) (b : Sent) (q : List ℕ) (pool : List Seen) (s : SessionState) (f : Far so_far known b q pool s)
+      → f.front ++ s.world.transcript ≡ before ++ (f.lines ++ drop known s.world.transcript)
+  all_shown so_far known b q pool s f = f.whole ∙ append_assoc before f.lines (drop known s.world.transcript)
+
   -- what is kept is said and forgotten
-  pub far_said : (so_far : Progress) (put r : Result (Unit {0}) E) (known : ℕ) (b c : Sent) (q t : List ℕ) (pool : List Seen) (s new : SessionState) → Far so_far put known b q pool s
-      → PutsMore put r b q c t (lines_text (drop known s.world.transcript)) → new ≡ without_lines s → Far so_far r 0 c t pool new
-  far_said so_far put r known b c q t pool s new f more is =
-      subst (λ (x : SessionState). Far so_far r 0 c t pool x) (sym is) (record {
+  pub far_said : (so_far : Progress) (known : ℕ) (b c : Sent) (q t : List ℕ) (pool : List Seen) (s new : SessionState) → Far so_far known b q pool s
+      → Passes b q c t (lines_text (drop known s.world.transcript)) → new ≡ without_lines s → Far so_far 0 c t pool new
+  far_said so_far known b c q t pool s new f more is =
+      subst (λ (x : SessionState). Far so_far 0 c t pool x) (sym is) (record {
         front = f.front ++ s.world.transcript;
         lines = f.lines ++ drop known s.world.transcript;
         comes = comes_forgotten may d event w f.front pool s so_far f.comes;
         whole =
-            append-nil (f.front ++ s.world.transcript) ∙ f.whole ∙ append_assoc before f.lines (drop known s.world.transcript)
+            append-nil (f.front ++ s.world.transcript) ∙ all_shown so_far known b q pool s f
             ∙ sym (append-nil (before ++ (f.lines ++ drop known s.world.transcript)));
-        puts =
-            subst (λ (text : List ℕ). Puts r a p c t text) (sym (more_lines f.lines (drop known s.world.transcript)))
-            (puts_more put r a b c p q t (lines_text f.lines) (lines_text (drop known s.world.transcript)) f.puts more);
+        said =
+            subst (λ (text : List ℕ). Passes a p c t text) (sym (more_lines f.lines (drop known s.world.transcript)))
+            (passes_then f.said more);
       })
 
-  pub far_as : {x y : Progress} (put : Result (Unit {0}) E) (known : ℕ) (b : Sent) (q : List ℕ) (pool : List Seen) (s : SessionState) → x ≡ y → Far x put known b q pool s → Far y put known b q pool s
-  far_as put known b q pool s same f = subst (λ (z : Progress). Far z put known b q pool s) same f
+  -- the writer failed: an event that has not ended breaks off
+  pub far_torn : {E : Type 0} (so_far : Progress) (known : ℕ) (b c : Sent) (q t : List ℕ) (pool : List Seen) (s new : SessionState) (number : ℕ) (e : E) → Far so_far known b q pool s
+      → Tears b q c (lines_text (drop known s.world.transcript)) → new ≡ without_lines s → Follows {E = E} may d event w before number (Err e) a p c t pool new
+  far_torn {E} (progress.Ended reply) known b c q t pool s new number e f torn is = record {
+    came = Ok reply;
+    lines = f.lines ++ drop known s.world.transcript;
+    mid = with_front f.front (state_at pool s);
+    comes = f.comes;
+    shows = all_shown (progress.Ended reply) known b q pool s f;
+    forgets = ap (state_at pool) is;
+    is = tt;
+    puts = subst (λ (text : List ℕ). Tears a p c text) (sym (more_lines f.lines (drop known s.world.transcript))) (tears_then f.said torn);
+  }
+  far_torn {E} (progress.UnderWay course) known b c q t pool s new number e f torn is = record {
+    came = Err faults.OutOfMemory;
+    lines = f.lines ++ drop known s.world.transcript;
+    mid = with_front f.front (state_at pool s);
+    comes = broken_off may d event w f.front course pool s f.comes;
+    shows = all_shown (progress.UnderWay course) known b q pool s f;
+    forgets = ap (state_at pool) is;
+    is = tt;
+    puts = tears_early (stopped_line number) (subst (λ (text : List ℕ). Tears a p c text) (sym (more_lines f.lines (drop known s.world.transcript))) (tears_then f.said torn));
+  }
+
+  pub far_as : {x y : Progress} (known : ℕ) (b : Sent) (q : List ℕ) (pool : List Seen) (s : SessionState) → x ≡ y → Far x known b q pool s → Far y known b q pool s
+  far_as known b q pool s same f = subst (λ (z : Progress). Far z known b q pool s) same f
 
   -- by relations that are the same now
-  module _ (later : Relations) (same : SameRelations may later) (course : Course) (put : Result (Unit {0}) E) (b : Sent) (q : List ℕ) (pool : List Seen) (s : SessionState) (f : Far (progress.UnderWay course) put 0 b q pool s) where
+  module _ (later : Relations) (same : SameRelations may later) (course : Course) (b : Sent) (q : List ℕ) (pool : List Seen) (s : SessionState) (f : Far (progress.UnderWay course) 0 b q pool s) where
     course_now : InCourse later s.definition event w f.front course pool s
     course_now =
         let so : InCourse may d event w f.front course pool s = f.comes in
@@ -131,46 +150,41 @@ module _ {E : Type 0} (may : Relations) (d : Definition) (event : Event) (w : Wo
         let u = was.so_far in
         omega (arith, u.dispatches, u.steps, u.counted)
 
-  module _ (put : Result (Unit {0}) E) (b : Sent) (q : List ℕ) (pool : List Seen) (s : SessionState) (empty : s.world.transcript ≡ []) where
+  module _ (b : Sent) (q : List ℕ) (pool : List Seen) (s : SessionState) (empty : s.world.transcript ≡ []) where
     -- all that came before is said
-    all_said : (so_far : Progress) (f : Far so_far put 0 b q pool s) → f.front ≡ before ++ f.lines
+    all_said : (so_far : Progress) (f : Far so_far 0 b q pool s) → f.front ≡ before ++ f.lines
     all_said so_far f =
         sym (append-nil f.front) ∙ ap (λ (ls : List (List ℕ)). f.front ++ ls) (sym empty) ∙ f.whole
         ∙ ap (λ (ls : List (List ℕ)). (before ++ f.lines) ++ ls) empty ∙ append-nil (before ++ f.lines)
 
     -- it goes on
-    pub far_on : (so_far next : Progress) (left : List Seen) (new : SessionState) (f : Far so_far put 0 b q pool s) → ComesOn (Ok next) may d event w f.front left new → Far next put 0 b q left new
+    pub far_on : (so_far next : Progress) (left : List Seen) (new : SessionState) (f : Far so_far 0 b q pool s) → ComesOn (Ok next) may d event w f.front left new → Far next 0 b q left new
     far_on so_far next left new f comes = record {
       front = f.front;
       lines = f.lines;
       comes = comes;
       whole = ap (λ (ls : List (List ℕ)). ls ++ new.world.transcript) (all_said so_far f);
-      puts = f.puts;
+      said = f.said;
     }
 
     -- it has ended
-    pub far_ended : (reply : Reply) (number : ℕ) (r : Result LineOutcome E) → Far (progress.Ended reply) put 0 b q pool s → ((text : List ℕ) → Puts put a p b q text → Puts r a p b q text)
-        → IfOk r (λ outcome. outcome ≡ outcomes.Said) → Follows may d event w before number r a p b q pool s
-    far_ended reply number r f as_put is = record {
+    pub far_ended : {E : Type 0} (reply : Reply) (number : ℕ) → Far (progress.Ended reply) 0 b q pool s → Follows {E = E} may d event w before number (Ok outcomes.Said) a p b q pool s
+    far_ended reply number f = record {
       came = Ok reply;
       lines = f.lines;
       mid = with_front f.front (state_at pool s);
       comes = f.comes;
       shows = ap (λ (ls : List (List ℕ)). ls ++ s.world.transcript) (all_said (progress.Ended reply) f) ∙ ap (λ (ls : List (List ℕ)). (before ++ f.lines) ++ ls) empty ∙ append-nil (before ++ f.lines);
       forgets = ap (λ (ls : List (List ℕ)). record (state_at pool s) { world = record (state_at pool s).world { transcript = ls } }) empty;
-      is = said_so r f.lines is;
-      puts = as_put (lines_text f.lines) f.puts;
+      is = refl;
+      puts = f.said;
     }
-      where
-        said_so : (r : Result LineOutcome E) (lines : List (List ℕ)) → IfOk r (λ outcome. outcome ≡ outcomes.Said) → IfOk r (λ outcome. outcome_after (Ok reply) lines ≡ outcome_with outcome lines)
-        said_so (Ok outcome) lines is = subst (λ (o : LineOutcome). outcome_after (Ok reply) lines ≡ outcome_with o lines) (sym is) refl
-        said_so (Err e) lines is = tt
 
     -- no memory is found
-    pub far_stopped : (so_far : Progress) (fault : SessionFault) (number : ℕ) (r : Result LineOutcome E) (left : List Seen) (new last : SessionState) (c : Sent) (t : List ℕ) (f : Far so_far put 0 b q pool s)
-        → ComesOn (Err fault) may d event w f.front left new → PutsMore put r b q c t (lines_text new.world.transcript ++ stopped_line number) → last ≡ without_lines new
+    pub far_stopped : {E : Type 0} (so_far : Progress) (fault : SessionFault) (number : ℕ) (r : Result LineOutcome E) (left : List Seen) (new last : SessionState) (c : Sent) (t : List ℕ) (f : Far so_far 0 b q pool s)
+        → ComesOn (Err fault) may d event w f.front left new → Puts r b q c t (lines_text new.world.transcript ++ stopped_line number) → last ≡ without_lines new
         → IfOk r (λ outcome. outcome ≡ outcomes.Stopped) → Follows may d event w before number r a p c t left last
-    far_stopped so_far fault number r left new last c t f comes more forgets is = record {
+    far_stopped {E} so_far fault number r left new last c t f comes more forgets is = record {
       came = Err fault;
       lines = f.lines ++ new.world.transcript;
       mid = with_front f.front (state_at left new);
@@ -181,7 +195,7 @@ module _ {E : Type 0} (may : Relations) (d : Definition) (event : Event) (w : Wo
       puts =
           subst (λ (text : List ℕ). Puts r a p c t text)
           (sym (append_assoc (lines_text f.lines) (lines_text new.world.transcript) (stopped_line number)) ∙ ap (λ (text : List ℕ). text ++ stopped_line number) (sym (more_lines f.lines new.world.transcript)))
-          (puts_more put r a b c p q t (lines_text f.lines) (lines_text new.world.transcript ++ stopped_line number) f.puts more);
+          (puts_after r a b c p q t (lines_text f.lines) (lines_text new.world.transcript ++ stopped_line number) f.said more);
     }
       where
         stopped_so : (r : Result LineOutcome E) (lines : List (List ℕ)) → IfOk r (λ outcome. outcome ≡ outcomes.Stopped) → IfOk r (λ outcome. outcome_after (Err fault) lines ≡ outcome_with outcome lines)

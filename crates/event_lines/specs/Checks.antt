@@ -1,14 +1,15 @@
 -- What a check of a definition comes to, and what is written of it.
-use Rattle.std.specs.Prelude.{◌≡◌, ◌⊎◌, ℕ, Bool, false, List, Option, None, Some, Ok, Err}
+use Rattle.std.specs.Prelude.{◌≡◌, ◌⊎◌, ℕ, Bool, List, ◌++◌, Option, None, Some, Ok, Err}
 use Rattle.std.specs.Io.KnownBytes.{Appends}
 use Rattle.ui_machine.specs.Definition.{Definition}
+use Rattle.ui_machine.specs.Prefix.{IsPrefix}
 use Rattle.law_typing.specs.Rules.Faults.{Fault}
 use Rattle.law_typing.specs.Verdict.Accepted.{Accepted}
 use Rattle.law_typing.specs.Verdict.Judges.{Judges}
 use Rattle.builder_defs.specs.Refusals.{Refusal}
 use Rattle.builder_defs.specs.Denoted.{denoted}
 use Rattle.verified.specs.Lines.{report_of}
-use Rattle.verified.specs.Writing.{AppendsLines, lines_text}
+use Rattle.verified.specs.Writing.{lines_text}
 use Rattle.event_lines.specs.Texts.{definition_refused, nothing_begun}
 use Rattle.event_lines.specs.Opening.{Concludes, rejected_text}
 
@@ -29,10 +30,11 @@ Comes bytes (accepted d) = (denoted bytes ≡ Ok d) × Judges d None
 abbrev pub IsSaid : List ℕ → ℕ → ℕ → Bool → Option (List ℕ) → Option (List ℕ) → Type 0
 IsSaid whole answer status torn old new = (text : List ℕ) × Concludes whole answer status torn text × Appends old new text
 
--- the lines of a report came, or the writer failed within them, or no memory was found after the first of them
+-- the lines of a report came, or, if no memory was found, the first of them and then the line that says so; or the writer failed within this
 abbrev pub IsReported : List (List ℕ) → ℕ → Bool → Option (List ℕ) → Option (List ℕ) → Type 0
 IsReported lines status torn old new =
-    IsSaid (lines_text lines) 0 status torn old new ⊎ ((status ≡ 3) × (torn ≡ false) × AppendsLines old new lines)
+    IsSaid (lines_text lines) 0 status torn old new
+    ⊎ ((first : List (List ℕ)) × IsPrefix first lines × IsSaid (lines_text first ++ nothing_begun) 3 status torn old new)
 
 -- What is written and answered: 1 and the one line of a refusal, 3 and the line of a want of memory, 0 and the report, however the
 -- definition is accepted.

@@ -14,7 +14,7 @@ use Rattle.ui_engine.specs.SessionView.{Comes, ComesOn, SessionState, state_at, 
 use Rattle.event_lines.specs.EventFileRun.{Outcome, said, stopped, text_at}
 use Rattle.event_lines.specs.LineOutcome.{outcome_with}
 use Rattle.event_lines.specs.Texts.{lines_text}
-use Rattle.event_lines.specs.Writing.{Puts, Sent}
+use Rattle.event_lines.specs.Writing.{Passes, Puts, Sent}
 use Rattle.event_lines.specs.declared.line_outcome.LineOutcome.{LineOutcome}
 
 -- some event has come so far
@@ -23,18 +23,13 @@ pub record IsBegun (begun : Progress) (may : Relations) (pool : List Seen) (s : 
   pub from : World
   pub so_far : ComesOn (Ok begun) may s.definition event from [] pool s
 
--- More was said after a text, unless the writer had failed.
-abbrev pub PutsMore : {T U E F : Type 0} → Result T E → Result U F → Sent → List ℕ → Sent → List ℕ → List ℕ → Type 0
-PutsMore (Ok _) result old before new after text = Puts result old before new after text
-PutsMore {T} {U} {E} {F} (Err _) result old before new after text = ((fault : F) × (result ≡ Err fault)) × (new ≡ old) × (after ≡ before)
-
 -- the outcome of a line whose event came to this, and said these lines
 abbrev pub outcome_after : Result Reply SessionFault → List (List ℕ) → Outcome
 outcome_after (Ok reply) lines = said lines
 outcome_after (Err fault) lines = stopped lines
 
 -- An event was gone on with until it had ended or no memory was found: with these lines behind those before, which were said, or the writer
--- failed. The session has forgotten its lines.
+-- failed. Where the writer failed the event may have broken off as it does where no memory is found. The session has forgotten its lines.
 pub record Follows {E : Type 0} (may : Relations) (d : Definition) (event : Event) (w : World) (before : List (List ℕ)) (number : ℕ) (result : Result LineOutcome E) (sent : Sent) (gathered : List ℕ) (sent_after : Sent) (after : List ℕ) (pool : List Seen) (new : SessionState) : Type 0 where
   pub came : Result Reply SessionFault
   pub lines : List (List ℕ)
@@ -52,9 +47,9 @@ most_left (progress.Ended reply) counted = 0
 
 -- An event has come so far from a world, and with these lines, behind those before, all has been said but what is kept behind the first
 -- so many.
-pub record SoFar {T E : Type 0} (so_far : Progress) (put : Result T E) (may : Relations) (d : Definition) (event : Event) (w : World) (before : List (List ℕ)) (known : ℕ) (sent : Sent) (gathered : List ℕ) (sent_after : Sent) (after : List ℕ) (pool : List Seen) (s : SessionState) : Type 0 where
+pub record SoFar (so_far : Progress) (may : Relations) (d : Definition) (event : Event) (w : World) (before : List (List ℕ)) (known : ℕ) (sent : Sent) (gathered : List ℕ) (sent_after : Sent) (after : List ℕ) (pool : List Seen) (s : SessionState) : Type 0 where
   pub front : List (List ℕ)
   pub lines : List (List ℕ)
   pub comes : ComesOn (Ok so_far) may d event w front pool s
   pub whole : front ++ s.world.transcript ≡ (before ++ lines) ++ drop known s.world.transcript
-  pub puts : Puts put sent gathered sent_after after (lines_text lines)
+  pub said : Passes sent gathered sent_after after (lines_text lines)

@@ -3,7 +3,7 @@ use Rattle.std.specs.Prelude.{ℕ, List, [], ◌∷◌, ◌++◌, flat_map, code
 use Rattle.ui_machine.specs.Rules.Events as machine
 use Rattle.law_pools.specs.Needs.{Mismatch, missing, closed, misshapen, unused}
 use Rattle.builder_defs.specs.Refusals.{Refusal}
-use Rattle.builder_defs.specs.FaultText.{refusal_text}
+use Rattle.builder_defs.specs.FaultText.{printed, refusal_text}
 use Rattle.builder_defs.specs.EventMeaning.{EventRefusal, too_long, not_json, shape, unknown, not_readable, not_writable, construct_only, value_fault}
 use Rattle.event_lines.specs.declared.refusal.LineRefusal.{LineRefusal}
 use Rattle.event_lines.specs.declared.refusal.LineRefusal.TheVariants as refusals
@@ -59,10 +59,10 @@ definition_refused refusal = joined (codes "refused: " ∷ refusal_text refusal 
 
 -- how a pool fails to match a definition
 abbrev pub mismatch_text : Mismatch → List ℕ
-mismatch_text (missing name) = codes "PeerMissing " ++ name
-mismatch_text (closed name) = codes "PeerClosed " ++ name
-mismatch_text (misshapen name) = codes "PeerShape " ++ name
-mismatch_text (unused name) = codes "PeerUnused " ++ name
+mismatch_text (missing name) = codes "PeerMissing " ++ printed name
+mismatch_text (closed name) = codes "PeerClosed " ++ printed name
+mismatch_text (misshapen name) = codes "PeerShape " ++ printed name
+mismatch_text (unused name) = codes "PeerUnused " ++ printed name
 
 -- a definition does not match the pool
 abbrev pub definition_mismatched : Mismatch → List ℕ

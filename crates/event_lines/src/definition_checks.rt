@@ -28,8 +28,8 @@ pub enum Judgement {
 }
 
 /// Judges a definition, and writes its report if it is accepted, or else the one line of its refusal. Returns the status: 0, or 1 if the
-/// definition is refused, 3 if memory is refused, and 4 if a write fails. Nothing is run. If memory is refused before the report the line
-/// `refused: OutOfMemory` is written. If it is refused within the report, the report ends after whole lines.
+/// definition is refused, 3 if memory is refused, and 4 if a write fails. Nothing is run. If memory is refused, the line
+/// `refused: OutOfMemory` is written. Before it there are the first lines of the report, if memory is refused within it.
 pub fn check<W: Writer>(alloc: Global, definition: &[u8], writer: &mut W) -> u8
     requires writer { W.failed writer.old ≡ false }
     ensures checked { Checked definition.now result (W.failed writer.new) (W.sent writer.old).bytes (W.sent writer.new).bytes }
@@ -86,7 +86,7 @@ fn report<W: Writer>(alloc: Global, verified: &Verified, writer: &mut W) -> u8
     let _ = verified.definition();
     match writer.write_report(alloc, verified) {
         Ok(()) => 0,
-        Err(ReportFault::OutOfMemory) => 3,
+        Err(ReportFault::OutOfMemory) => refuse_for_memory(writer),
         Err(ReportFault::WriteFault) => 4,
     }
 }

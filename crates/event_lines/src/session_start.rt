@@ -5,6 +5,7 @@ ghost use Rattle.ui_machine.specs.Definition.{Definition};
 ghost use Rattle.law_pools.specs.Needs.{Mismatch, mismatch};
 ghost use Rattle.law_typing.specs.Verdict.Judges.{Judges};
 ghost use Rattle.builder_defs.specs.Denoted.{denoted};
+ghost use Rattle.builder_defs.specs.FaultText.{printed};
 ghost use Rattle.native_peers.specs.Matching.{as_peers};
 ghost use Rattle.native_peers.specs.Seen.{SameRelations};
 ghost use Rattle.ui_engine.specs.SessionView.{IsWhy};
@@ -13,6 +14,7 @@ ghost use Rattle.event_lines.specs.OpeningView.{Opened, pool_in};
 ghost use Rattle.event_lines.specs.Texts.{mismatch_text};
 
 use crate::definition_checks::Judgement;
+use definition_format::printed;
 use native_peers::Peers;
 use std::alloc::{AllocError, Global};
 use ui_engine::{Refused, Session, StartFault, Started};
@@ -47,10 +49,11 @@ pub fn open<P: Peers>(alloc: Global, judgement: Judgement, pool: P) -> Opening<P
     }
 }
 
-// Returns the name of a fault and the name of its peer, as they are printed, or None if memory is refused.
+// Returns the name of a fault and the printed name of its peer, or None if memory is refused.
 fn words(alloc: Global, fault: &str, name: &str) -> Option<String>
-    ensures { IfSome result (λ s. string_bytes s ≡ fault.now ++ codes " " ++ name.now) }
+    ensures { IfSome result (λ s. string_bytes s ≡ fault.now ++ codes " " ++ printed name.now) }
 {
+    let name = printed(alloc, name).ok()?;
     format!(in alloc; "{fault} {name}").ok()
 }
 

@@ -5,8 +5,9 @@ ghost use Rattle.ui_machine.specs.State.Config.{World};
 ghost use Rattle.ui_machine.specs.State.Tasks.{Event};
 ghost use Rattle.native_peers.specs.Seen.{SameRelations};
 ghost use Rattle.ui_engine.specs.SessionView.{ComesOn, without_lines};
-ghost use Rattle.event_lines.specs.Slices.{Follows, IsBegun, PutsMore};
+ghost use Rattle.event_lines.specs.Slices.{Follows, IsBegun};
 ghost use Rattle.event_lines.specs.Texts.{lines_text, stopped_line};
+ghost use Rattle.event_lines.specs.Writing.{Puts};
 
 use crate::devices::Writer;
 use crate::line_outcome::LineOutcome;
@@ -19,56 +20,46 @@ use ui_machine::DeviceFault;
 /// The number of counted steps that an event makes between two times that its lines are said.
 const SLICE_STEPS: u64 = 64;
 
-// Says the lines of a session after the first `known`, unless the writer has failed, and makes the session forget all its lines.
+// Says the lines of a session after the first `known`, and makes the session forget all its lines.
 fn put_new<P: Peers, W: Writer>(
     session: &mut Session<P>,
     known: usize,
-    put: Result<(), DeviceFault>,
     gather: &mut Gather,
     writer: &mut W,
 ) -> Result<(), DeviceFault>
     requires known { known ≤ length session.now.core.world.transcript }
-    requires works { MatchResult put (λ _. W.failed writer.old ≡ false) (λ _. W.failed writer.old ≡ true) }
-    ensures puts { PutsMore put result (W.sent writer.old) gather.old (W.sent writer.new) gather.new (lines_text (drop known session.old.core.world.transcript)) }
+    requires works { W.failed writer.old ≡ false }
+    ensures puts { Puts result (W.sent writer.old) gather.old (W.sent writer.new) gather.new (lines_text (drop known session.old.core.world.transcript)) }
     ensures marks { MatchResult result (λ _. W.failed writer.new ≡ false) (λ _. W.failed writer.new ≡ true) }
     ensures forgets { session.new.core ≡ without_lines session.old.core }
     ensures pool { session.new.pool ≡ session.old.pool }
 {
-    match put {
-        Ok(()) => {
-            let more = put_lines(gather, writer, &session.transcript()[known..]);
-            session.forget();
-            return more;
-        }
-        Err(fault) => {
-            session.forget();
-            return Err(fault);
-        }
-    }
+    let put = put_lines(gather, writer, &session.transcript()[known..]);
+    session.forget();
+    put
 }
 
 // Says the last lines of an event that stopped, and then that it stopped.
 fn stop<P: Peers, W: Writer>(
     session: &mut Session<P>,
     number: u64,
-    put: Result<(), DeviceFault>,
     gather: &mut Gather,
     writer: &mut W,
 ) -> Result<LineOutcome, DeviceFault>
-    requires works { MatchResult put (λ _. W.failed writer.old ≡ false) (λ _. W.failed writer.old ≡ true) }
-    ensures puts { PutsMore put result (W.sent writer.old) gather.old (W.sent writer.new) gather.new (lines_text session.old.core.world.transcript ++ stopped_line number) }
+    requires works { W.failed writer.old ≡ false }
+    ensures puts { Puts result (W.sent writer.old) gather.old (W.sent writer.new) gather.new (lines_text session.old.core.world.transcript ++ stopped_line number) }
     ensures is { IfOk result (λ outcome. outcome ≡ LineOutcome.Stopped) }
     ensures marks { MatchResult result (λ _. W.failed writer.new ≡ false) (λ _. W.failed writer.new ≡ true) }
     ensures forgets { session.new.core ≡ without_lines session.old.core }
     ensures pool { session.new.pool ≡ session.old.pool }
 {
-    put_new(session, 0, put, gather, writer)?;
+    put_new(session, 0, gather, writer)?;
     put_stopped(gather, writer, number)?;
     Ok(LineOutcome::Stopped)
 }
 
 /// Goes on with the event of a line until it has ended, and says its lines as they come, beginning with those of the session after the
-/// first `known`. If the writer fails the event goes on to its end unsaid.
+/// first `known`. Once the writer has failed no step of the event is made any more.
 ///
 /// # Errors
 ///
@@ -91,20 +82,16 @@ pub fn follow<P: Peers, W: Writer>(
 {
     let mut progress = begun;
     let mut known = known;
-    let mut put = Ok(());
     'slices: loop {
-        put = put_new(session, known, put, gather, writer);
+        put_new(session, known, gather, writer)?;
         known = 0;
         let course = match progress {
             Progress::UnderWay(course) => course,
-            Progress::Ended(_) => {
-                put?;
-                return Ok(LineOutcome::Said);
-            }
+            Progress::Ended(_) => return Ok(LineOutcome::Said),
         };
         match session.advance(course, SLICE_STEPS) {
             Ok(next) => progress = next,
-            Err(_) => return stop(session, number, put, gather, writer),
+            Err(_) => return stop(session, number, gather, writer),
         }
     }
 }

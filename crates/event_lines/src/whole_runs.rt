@@ -117,8 +117,8 @@ pub(crate) fn refuse<W: Writer>(writer: &mut W, text: &str) -> u8
     gather.finish(writer, 1)
 }
 
-/// Writes the one line of a run for which memory was refused before the build, or of a check for which it was refused, and returns 3, or 4
-/// if a write failed.
+/// Writes the one line of a run for which memory was refused before the build, or the last one of a check for which it was refused, and
+/// returns 3, or 4 if a write failed.
 pub(crate) fn refuse_for_memory<W: Writer>(writer: &mut W) -> u8
     requires works { W.failed writer.old ≡ false }
     ensures concludes { (out : List ℕ) × Concludes nothing_begun 3 result (W.failed writer.new) out × Sends 0 0 (W.sent writer.old) (W.sent writer.new) out }

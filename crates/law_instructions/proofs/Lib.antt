@@ -1,6 +1,6 @@
 pub mod Frozen
 pub mod Passes
-mod Around
+pub mod Around
 pub mod Written
 pub mod Inverse
 pub mod Typed

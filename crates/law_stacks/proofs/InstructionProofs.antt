@@ -88,7 +88,7 @@ module _ (d : Definition) (w : World) (rest : List Task) (low : LieBelow rest) w
   unfolding made_new
   makes_new f to place p = bind_keeps (making d w place (peer_to_take d w p) false) _ Stacks (λ made is. bind_keeps (with_register to _ f.registers) _ Stacks (λ r _.
       kept_at (λ (s : Started). OnFrame (record f { registers = r }) s.tasks) (making d w place (peer_to_take d w p) false) made
-      (begins_constructing (OnFrame (record f { registers = r })) d w (λ id steps held. low) place (peer_to_take d w p) false) is))
+      (begins_constructing (OnFrame (record f { registers = r })) d w (λ id steps held. (tt, low)) place (peer_to_take d w p) false) is))
 
   -- ** what an instruction leaves
 

@@ -1,4 +1,5 @@
 pub mod ShortProofs
+pub mod FewProofs
 pub mod StartProofs
 pub mod InstructionProofs
 pub mod TaskProofs

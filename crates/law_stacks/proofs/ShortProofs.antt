@@ -22,7 +22,7 @@ below_short : (tasks : List Task) → LieBelow tasks → Short tasks
 below_short [] low = record { all = omega arith; firm = λ firm. omega arith }
 below_short (Running frame ∷ tasks) low = framed (Running frame) tasks refl (below_short tasks low)
 below_short (Emitting e turns ∷ tasks) low = framed (Emitting e turns) tasks refl (below_short tasks low)
-below_short (Constructing id steps held ∷ tasks) low = framed (Constructing id steps held) tasks refl (below_short tasks low)
+below_short (Constructing id steps held ∷ tasks) low = framed (Constructing id steps held) tasks refl (below_short tasks low.1)
 below_short (Unsetting number ∷ tasks) low = between (Unsetting number) tasks (λ firm. firm) low.0 (below_short tasks low.1)
 below_short (Thawing id slots ∷ tasks) low = between (Thawing id slots) tasks (λ firm. firm) low.0 (below_short tasks low.1)
 below_short (Answering source ∷ tasks) low = between (Answering source) tasks (λ firm. firm) low.0 (below_short tasks low.1)

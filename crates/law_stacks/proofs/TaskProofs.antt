@@ -29,7 +29,7 @@ use Rattle.ui_machine.specs.State.Tasks.{Answering, Beginning, Building, Call, C
 use Rattle.ui_machine.specs.State.Tasks as config
 use Rattle.ui_machine.specs.Steps.{act, counted, finalising, left, most_steps, uncounted}
 use Rattle.machine_laws.proofs.KeptProofs.{bind_keeps, cond_keeps, kept_at, only_keeps}
-use Rattle.law_stacks.specs.Stacks.{BeginsFirmly, IsStacked, LieBelow}
+use Rattle.law_stacks.specs.Stacks.{BeginsFirmly, IsMaker, IsStacked, LieBelow}
 use Rattle.law_stacks.proofs.InstructionProofs.{runs_stacked}
 use Rattle.law_stacks.proofs.StartProofs.{are_stacked, begins_constructing, begins_running, raises}
 
@@ -157,13 +157,13 @@ module _ (d : Definition) (w : World) (rest : List Task) (low : LieBelow rest) w
 
   -- ** constructions and requests
 
-  constructs : (id : ℕ) (steps : List ConstructStep) (held : Bool) → IfOk (constructing d w id steps held) Stacks
+  constructs : IsMaker rest → (id : ℕ) (steps : List ConstructStep) (held : Bool) → IfOk (constructing d w id steps held) Stacks
   unfolding constructed apply_construct_property thawing_made
-  constructs id [] true = search (bind_keeps, only_keeps, rests)
-  constructs id [] false = rests
-  constructs id (config.sets slot v ∷ steps) held = search (bind_keeps, only_keeps)
-  constructs id (config.runs program ∷ steps) held = runs_before (Constructing id steps held ∷ []) low program _
-  constructs id (config.thaws ∷ steps) held = search bind_keeps
+  constructs made id [] true = search (bind_keeps, only_keeps, rests)
+  constructs made id [] false = rests
+  constructs made id (config.sets slot v ∷ steps) held = search (bind_keeps, only_keeps)
+  constructs made id (config.runs program ∷ steps) held = runs_before (Constructing id steps held ∷ []) (made, low) program _
+  constructs made id (config.thaws ∷ steps) held = search bind_keeps
 
   carries_out : (r : Request) → IfOk (request_step d w r) Stacks
   unfolding set_from_event set_given get_from_event emit_from_event release_from_event
@@ -184,7 +184,7 @@ module _ (d : Definition) (w : World) where
   builds_object place items = bind_keeps (known arms.Code (place_at d place)) _ Builds (λ p _. bind_keeps (peer_for d w p) _ Builds (λ peer _.
       bind_keeps (making d w place peer true) _ Builds (λ made is.
       kept_at (λ (s : Started). IsStacked ((s.tasks ++ Building items ∷ []) ++ [])) (making d w place peer true) made
-      (begins_constructing (λ begun. IsStacked ((begun ++ Building items ∷ []) ++ [])) d w (λ id steps held. tt) place peer true) is)))
+      (begins_constructing (λ begun. IsStacked ((begun ++ Building items ∷ []) ++ [])) d w (λ id steps held. (tt, tt)) place peer true) is)))
 
   -- a transfer lies on the build, or none
   transfers_first : (number : ℕ) (items : List Item) (at_once : Bool) → IsStacked ((cond at_once (Transferring number false ∷ []) [] ++ Building items ∷ []) ++ [])
@@ -243,7 +243,7 @@ module _ (d : Definition) (w : World) where
       only_keeps (nat_lt k most_steps) arms.Steps (left (suc k) (running d w rest f)) AtStack (leaves_stacked (suc k) (running d w rest f) (runs_stacked d w rest low f))
   acts_stacked reply (Answering source ∷ rest) k below = tt
   acts_stacked reply (Calling call ∷ rest) k low = leaves_stacked k (calling_on d w call rest reply) (calls d w rest low call reply)
-  acts_stacked reply (Constructing id steps held ∷ rest) k low = starts_stacked rest k (constructing d w id steps held) (constructs d w rest low id steps held)
+  acts_stacked reply (Constructing id steps held ∷ rest) k low = starts_stacked rest k (constructing d w id steps held) (constructs d w rest low.1 low.0 id steps held)
   acts_stacked reply (Building items ∷ []) k low = starts_stacked [] k (building d w items) (builds d w items)
   acts_stacked reply (Building items ∷ task ∷ rest) k low = absurd low
   acts_stacked reply (Handling r ∷ rest) k low = starts_stacked rest k (request_step d w r) (carries_out d w rest low r)

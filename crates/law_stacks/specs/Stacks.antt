@@ -1,4 +1,5 @@
 -- How the tasks of an agenda lie on one another.
+use Rattle.ui_machine.specs.Seq.{total}
 use Rattle.std.specs.Prelude.{ℕ, ◌+◌, ◌*◌, ◌≤◌, List, [], ◌∷◌, length}
 use Rattle.ui_machine.specs.Definition.{Definition}
 use Rattle.ui_machine.specs.Runs.{Reaches, beginning, of_build, of_request}
@@ -16,13 +17,19 @@ BeginsFirmly (Constructing id steps held ∷ tasks) = Unit {0}
 BeginsFirmly (Building items ∷ tasks) = Unit {0}
 BeginsFirmly _ = ⊥
 
+-- the first of these tasks makes objects: it is a program or the build
+abbrev pub IsMaker : List Task → Type 0
+IsMaker (Running frame ∷ tasks) = Unit {0}
+IsMaker (Building items ∷ tasks) = Unit {0}
+IsMaker _ = ⊥
+
 -- Tasks that lie below another: frames, and between two of them one task at most, which is a binding that stops setting, the rest of a thaw, or
--- a source whose program runs. The build lies at the bottom.
+-- a source whose program runs. A construction lies on what makes its object. The build lies at the bottom.
 abbrev pub LieBelow : List Task → Type 0
 LieBelow [] = Unit {0}
 LieBelow (Running frame ∷ tasks) = LieBelow tasks
 LieBelow (Emitting e turns ∷ tasks) = LieBelow tasks
-LieBelow (Constructing id steps held ∷ tasks) = LieBelow tasks
+LieBelow (Constructing id steps held ∷ tasks) = IsMaker tasks × LieBelow tasks
 LieBelow (Unsetting number ∷ tasks) = BeginsFirmly tasks × LieBelow tasks
 LieBelow (Thawing id slots ∷ tasks) = BeginsFirmly tasks × LieBelow tasks
 LieBelow (Answering source ∷ tasks) = BeginsFirmly tasks × LieBelow tasks
@@ -42,11 +49,32 @@ IsStacked (Handling request ∷ tasks) = LieBelow tasks
 IsStacked (Due source ∷ tasks) = BeginsFirmly tasks × LieBelow tasks
 IsStacked tasks = LieBelow tasks
 
+-- 1 where a task is the rest of a program, or of a construction
+abbrev pub is_program : Task → ℕ
+is_program (Running frame) = 1
+is_program _ = 0
+
+abbrev pub is_construction : Task → ℕ
+is_construction (Constructing id steps held) = 1
+is_construction _ = 0
+
+abbrev pub programs : List Task → ℕ
+programs agenda = total is_program agenda
+
+abbrev pub constructions : List Task → ℕ
+constructions agenda = total is_construction agenda
+
 -- ** what is so of them
 
 -- an agenda is no longer than twice its frames, and three
 abbrev pub StackedAreShort : Type 0
 StackedAreShort = (agenda : List Task) → IsStacked agenda → length agenda ≤ 2 * frames agenda + 3
+
+-- there are no more constructions than programs, and one; so of an agenda's frames every second one at most is a construction
+abbrev pub ConstructionsAreFew : Type 0
+ConstructionsAreFew =
+    (agenda : List Task) → IsStacked agenda →
+    (constructions agenda ≤ programs agenda + 1) × (2 * constructions agenda ≤ frames agenda + 1)
 
 -- what begins is stacked
 abbrev pub BuildsAreStacked : Type 0

@@ -1,48 +1,13 @@
--- The names of classes once they are added: name by name, and class by class.
-use Rattle.std.proofs.Common.{◌≡◌, ℕ, zero, suc, ◌+◌, ◌≤◌, Bool, true, false, cond, nat_eq, nat_lt, ◌&&◌, List, [], ◌∷◌, length, take, Option, None, Some, slice_get, refl, sym, ap, ◌∙◌, inl, inr, arith}
-use Rattle.std.proofs.lemmas.Bool.{cases_eq}
-use Rattle.std.proofs.lemmas.Bool.Decides.{nat_tests}
+-- The programs that a class names for signals, one more of them, and classes past the last.
+use Rattle.std.proofs.Common.{◌≡◌, ℕ, zero, suc, ◌≤◌, Bool, true, false, cond, List, [], ◌∷◌, length, take, None, Some, slice_get, refl, ap}
 use Rattle.ui_machine.specs.Definition.{Definition}
 use Rattle.ui_machine.specs.Definition.Lookups.{class_of, no_class}
-use Rattle.ui_machine.specs.Definition.Names.{place_from, place_named, same_name}
+use Rattle.ui_machine.specs.Definition.Names.{place_named, same_name}
 use Rattle.ui_machine.specs.Definition.Signals.{ClassHandler}
-use Rattle.ui_machine.specs.Rules.EmissionPlan.{handler_in, or_else}
+use Rattle.ui_machine.specs.Rules.EmissionPlan.{handler_in}
 use Rattle.name_tables.specs.Names.{with_number}
-use Rattle.name_tables.proofs.Numbers.{unchanged}
-use Rattle.linked_programs.specs.Steps.{AddsAll, signal_called, slot_called}
+use Rattle.linked_programs.specs.Steps.{slot_called}
 use Rattle.linked_programs.proofs.Reading.{read-past}
-
--- ** the first entries of a list, by their names
-
-module _ {A : Type 0} (name_of : A → List ℕ) (name : List ℕ) where
-  -- one entry more counts where none before is called so
-  place_from-more : (i : ℕ) (xs : List A) (n : ℕ) (x : A) → slice_get xs n ≡ Some x
-      → place_from name_of i (take (suc n) xs) name ≡ with_number (same_name (name_of x) name) (i + n) (place_from name_of i (take n xs) name)
-  place_from-more i [] n x at = cc
-  place_from-more i (y ∷ xs) zero x at =
-      let is : y ≡ x = cc in
-      let zero_more : i ≡ i + 0 = omega arith in
-      ap (λ (z : A). cond (same_name (name_of z) name) (Some i) None) is ∙ ap (λ k. cond (same_name (name_of x) name) (Some k) None) zero_more
-  place_from-more i (y ∷ xs) (suc n) x at = by (same_name (name_of y) name) (place_from-more (suc i) xs n x at)
-    where
-      later : Option ℕ
-      later = place_from name_of (suc i) (take (suc n) xs) name
-
-      before : Option ℕ
-      before = place_from name_of (suc i) (take n xs) name
-
-      by : (b : Bool) → later ≡ with_number (same_name (name_of x) name) (suc i + n) before
-          → cond b (Some i) later ≡ with_number (same_name (name_of x) name) (i + suc n) (cond b (Some i) before)
-      by true rest = refl
-      by false rest =
-          let shift : suc i + n ≡ i + suc n = omega arith in
-          rest ∙ ap (λ k. with_number (same_name (name_of x) name) k before) shift
-
-  pub place_named-more : (xs : List A) (n : ℕ) (x : A) → slice_get xs n ≡ Some x
-      → place_named name_of (take (suc n) xs) name ≡ with_number (same_name (name_of x) name) n (place_named name_of (take n xs) name)
-  place_named-more xs n x at =
-      let none_before : 0 + n ≡ n = omega arith in
-      place_from-more 0 xs n x at ∙ ap (λ k. with_number (same_name (name_of x) name) k (place_named name_of (take n xs) name)) none_before
 
 -- the first program of a name, with one more
 pub handler_in-more : (name : List ℕ) (hs : List ClassHandler) (n : ℕ) (h : ClassHandler) → slice_get hs n ≡ Some h
@@ -56,77 +21,10 @@ handler_in-more name (y ∷ hs) (suc n) h at = by (same_name y.signal name) (han
     by true rest = refl
     by false rest = rest
 
--- the first of a list are all, where it has no more
-pub take_past : {A : Type 0} (xs : List A) (n : ℕ) → length xs ≤ n → take n xs ≡ xs
-take_past [] zero past = refl
-take_past [] (suc n) past = refl
-take_past (x ∷ xs) zero past = absurd (omega (arith, past))
-take_past (x ∷ xs) (suc n) past = ap (λ l. x ∷ l) (take_past xs n (omega (arith, past)))
+-- a class past the last names none
+pub no_handlers : (d : Definition) (c : ℕ) → length d.classes ≤ c → (n : List ℕ) → handler_in (class_of d c).handlers n ≡ None
+no_handlers d c past n = ap (λ class. handler_in class.handlers n) (read-past no_class d.classes c past)
 
--- ** the names of a class, and the methods of a shape
-
--- one name more, which counts where those before have none
-pub adds_more : (old now new : ℕ → List ℕ → Option ℕ) (class number : ℕ) (name : List ℕ) (before after : List ℕ → Option ℕ)
-    → AddsAll old now class before → ((c : ℕ) (n : List ℕ) → new c n ≡ with_number (nat_eq c class && same_name name n) number (now c n))
-    → ((n : List ℕ) → after n ≡ with_number (same_name name n) number (before n)) → AddsAll old new class after
-adds_more old now new class number name before after added more counts c n =
-    more c n ∙ ap (with_number (nat_eq c class && same_name name n) number) (added c n)
-    ∙ by (nat_eq c class)
-    ∙ ap (λ o. cond (nat_eq c class) (or_else (old c n) o) (old c n)) (sym (counts n))
-  where
-    first : (o : Option ℕ) → with_number (same_name name n) number (or_else o (before n)) ≡ or_else o (with_number (same_name name n) number (before n))
-    first None = refl
-    first (Some k) = refl
-
-    by : (b : Bool) → with_number (b && same_name name n) number (cond b (or_else (old c n) (before n)) (old c n))
-        ≡ cond b (or_else (old c n) (with_number (same_name name n) number (before n))) (old c n)
-    by true = first (old c n)
-    by false = unchanged number (old c n)
-
--- ** the names of all classes, and the methods of all shapes
-
--- the names are those of so many
-abbrev pub HasUpTo : (ℕ → List ℕ → Option ℕ) → ℕ → (ℕ → List ℕ → Option ℕ) → Type 0
-HasUpTo called count has = (c : ℕ) (n : List ℕ) → has c n ≡ cond (nat_lt c count) (called c n) None
-
--- one class more, or one shape more
-pub up_to_more : (called : ℕ → List ℕ → Option ℕ) (count : ℕ) (old new : ℕ → List ℕ → Option ℕ) (more : List ℕ → Option ℕ) → HasUpTo called count old
-    → AddsAll old new count more → ((n : List ℕ) → more n ≡ called count n) → HasUpTo called (count + 1) new
-up_to_more called count old new more has adds is c n = elim (cases_eq c count) [ inl same ↦ here same | inr other ↦ past other ]
-  where
-    here : c ≡ count → new c n ≡ cond (nat_lt c (count + 1)) (called c n) None
-    here same =
-        let last : nat_eq c count ≡ true = grind (arith, nat_tests) in
-        let not_yet : nat_lt c count ≡ false = grind (arith, nat_tests) in
-        let now : nat_lt c (count + 1) ≡ true = grind (arith, nat_tests) in
-        adds c n ∙ ap (λ b. cond b (or_else (old c n) (more n)) (old c n)) last
-        ∙ ap (λ o. or_else o (more n)) (has c n ∙ ap (λ b. cond b (called c n) None) not_yet)
-        ∙ is n ∙ ap (λ k. called k n) (sym same)
-        ∙ sym (ap (λ b. cond b (called c n) None) now)
-
-    past : (c ≡ count → ⊥) → new c n ≡ cond (nat_lt c (count + 1)) (called c n) None
-    past other =
-        let elsewhere : nat_eq c count ≡ false = grind (arith, nat_tests) in
-        let as_before : nat_lt c (count + 1) ≡ nat_lt c count = grind (arith, nat_tests) in
-        adds c n ∙ ap (λ b. cond b (or_else (old c n) (more n)) (old c n)) elsewhere ∙ has c n ∙ sym (ap (λ b. cond b (called c n) None) as_before)
-
--- the names of all are those of every number, where those past the last have none
-pub all_classes : (called : ℕ → List ℕ → Option ℕ) (count : ℕ) (names : ℕ → List ℕ → Option ℕ) → HasUpTo called count names
-    → ((c : ℕ) → count ≤ c → (n : List ℕ) → called c n ≡ None) → (c : ℕ) (n : List ℕ) → names c n ≡ called c n
-all_classes called count names has past c n = has c n ∙ by (nat_lt c count) refl
-  where
-    by : (b : Bool) → nat_lt c count ≡ b → cond b (called c n) None ≡ called c n
-    by true e = refl
-    by false e = let over : count ≤ c = grind (arith, nat_tests) in sym (past c over n)
-
--- ** classes past the last
-
-module _ (d : Definition) (c : ℕ) (past : length d.classes ≤ c) (n : List ℕ) where
-  pub no_slots : slot_called d c n ≡ None
-  no_slots = ap (λ class. place_named (λ s. s.name) class.specs n) (read-past no_class d.classes c past)
-
-  pub no_signals : signal_called d c n ≡ None
-  no_signals = ap (λ class. place_named (λ s. s.name) class.signals n) (read-past no_class d.classes c past)
-
-  pub no_handlers : handler_in (class_of d c).handlers n ≡ None
-  no_handlers = ap (λ class. handler_in class.handlers n) (read-past no_class d.classes c past)
+-- and has no properties
+pub no_slots : (d : Definition) (c : ℕ) → length d.classes ≤ c → (n : List ℕ) → slot_called d c n ≡ None
+no_slots d c past n = ap (λ class. place_named (λ s. s.name) class.specs n) (read-past no_class d.classes c past)

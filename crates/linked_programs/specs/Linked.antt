@@ -15,6 +15,7 @@ use Rattle.ui_machine.specs.Rules.EmissionPlan.{class_handler_of, signal_of}
 use Rattle.ui_machine.specs.Seq.{read}
 use Rattle.ui_machine.specs.State.Bindings.{is_name}
 use Rattle.law_typing.specs.Good.Meanings.{binding_name, shape_methods}
+use Rattle.definitions.specs.ClassNames.{AreSignals}
 use Rattle.name_tables.specs.Names.{Named, number_by, number_of}
 use Rattle.linked_programs.specs.declared.link.Link.{Link}
 use Rattle.ui_machine.specs.declared.ids.Place.{Place}
@@ -34,10 +35,6 @@ pub record Linked : Type 0 where
 -- the names of properties are those of a definition, with their slots
 abbrev pub AreSlots : Definition → List Named → Type 0
 AreSlots d names = (class : ℕ) (name : List ℕ) → number_of names class (canonical name) ≡ slot_of d class name
-
--- the names of signals are those of a definition, with their numbers
-abbrev pub AreSignals : Definition → List Named → Type 0
-AreSignals d names = (class : ℕ) (name : List ℕ) → number_of names class (canonical name) ≡ signal_number d class name
 
 -- the number that a row has for a shape
 abbrev pub number_in : List (ℕ × ℕ) → (shape : ℕ) → Option ℕ

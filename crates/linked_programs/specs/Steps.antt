@@ -2,16 +2,17 @@
 use Rattle.std.specs.List.{list_any}
 use Rattle.std.specs.Prelude.{◌≡◌, ℕ, cond, nat_eq, ◌&&◌, List, [], ◌∷◌, ◌++◌, Option, slice_get}
 use Rattle.ui_machine.specs.Definition.{Definition}
-use Rattle.ui_machine.specs.Definition.Lookups.{class_of, specs_of}
+use Rattle.ui_machine.specs.Definition.Lookups.{specs_of}
 use Rattle.ui_machine.specs.Definition.Names.{place_named, same_name}
 use Rattle.ui_machine.specs.Definition.Programs.{Block, Program}
 use Rattle.ui_machine.specs.Definition.Properties.{Spec}
 use Rattle.ui_machine.specs.Definition.Signals.{Method, Signal}
-use Rattle.ui_machine.specs.Rules.EmissionPlan.{class_handler_of, or_else}
+use Rattle.ui_machine.specs.Rules.EmissionPlan.{class_handler_of}
 use Rattle.ui_machine.specs.State.Bindings.{is_name}
 use Rattle.law_typing.specs.Good.Meanings.{binding_name, shape_methods}
 use Rattle.name_tables.specs.Names.{Named, number_of, with_number}
-use Rattle.linked_programs.specs.Linked.{AreSignals, AreSlots, IsLink, Linked}
+use Rattle.definitions.specs.ClassNames.{AreSignals}
+use Rattle.linked_programs.specs.Linked.{AreSlots, IsLink, Linked}
 use Rattle.linked_programs.specs.Rows.{NamedRows, method_of, numbers_of}
 use Rattle.linked_programs.specs.declared.link.Link.{Link}
 use Rattle.linked_programs.specs.declared.tables.Tables.{Tables}
@@ -21,14 +22,6 @@ use Rattle.linked_programs.specs.declared.tables.Tables.{Tables}
 -- the slot of the property of a class that is called so, in canonical spelling
 abbrev pub slot_called : Definition → ℕ → List ℕ → Option ℕ
 slot_called d class name = place_named (λ (s : Spec). s.name) (specs_of d class) name
-
--- the number of the signal of a class that is called so, in canonical spelling
-abbrev pub signal_called : Definition → ℕ → List ℕ → Option ℕ
-signal_called d class name = place_named (λ (s : Signal). s.name) (class_of d class).signals name
-
--- nothing differs but that a class has the names that this has a number for, each under its number, where it did not have them
-abbrev pub AddsAll : (ℕ → List ℕ → Option ℕ) → (ℕ → List ℕ → Option ℕ) → ℕ → (List ℕ → Option ℕ) → Type 0
-AddsAll old new class called = (c : ℕ) (n : List ℕ) → new c n ≡ cond (nat_eq c class) (or_else (old c n) (called n)) (old c n)
 
 -- ** class handlers
 

@@ -5,7 +5,8 @@ ghost use Rattle.ui_machine.specs.Definition.Lookups.{class_of};
 ghost use Rattle.ui_machine.specs.Rules.EmissionPlan.{handler_in};
 ghost use Rattle.name_tables.specs.Names.{number_of};
 ghost use Rattle.linked_programs.specs.Linked.{AreHandlers};
-ghost use Rattle.linked_programs.specs.Steps.{AddsAll, AreHandlerNames, ArePairwise, IsHandler};
+ghost use Rattle.name_tables.specs.Steps.{AddsAll};
+ghost use Rattle.linked_programs.specs.Steps.{AreHandlerNames, ArePairwise, IsHandler};
 
 use definitions::Definition;
 use name_tables::NameTable;

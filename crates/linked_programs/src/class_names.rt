@@ -1,15 +1,16 @@
-//! The names of the properties and signals of classes, with the numbers that each has in them.
+//! The names of the properties of classes, with the slots that each has in them.
 
 ghost use Rattle.std.specs.Prelude.{◌≡◌, IfOk, OnOk};
 ghost use Rattle.name_tables.specs.Names.{number_of};
-ghost use Rattle.linked_programs.specs.Linked.{AreSignals, AreSlots};
-ghost use Rattle.linked_programs.specs.Steps.{AddsAll, signal_called, slot_called};
+ghost use Rattle.linked_programs.specs.Linked.{AreSlots};
+ghost use Rattle.name_tables.specs.Steps.{AddsAll};
+ghost use Rattle.linked_programs.specs.Steps.{slot_called};
 
 use definitions::Definition;
 use name_tables::NameTable;
 use std::alloc::{AllocError, Global};
 use type_tree::TypeId;
-use ui_machine::{SignalId, Slot};
+use ui_machine::Slot;
 
 // Adds the names of a class's properties.
 fn add_slots(
@@ -43,42 +44,6 @@ pub(crate) fn slot_names(alloc: Global, definition: &Definition) -> Result<NameT
     let count = definition.class_count();
     'classes: for class in 0..count {
         add_slots(&mut names, definition, TypeId::new(class as u16))?;
-    }
-    Ok(names)
-}
-
-// Adds the names of a class's signals.
-fn add_signals(
-    names: &mut NameTable,
-    definition: &Definition,
-    class: TypeId,
-) -> Result<(), AllocError>
-    ensures { OnOk result (AddsAll (number_of names.old) (number_of names.new) class (signal_called definition.now class)) }
-{
-    // For the proof: the number of signals of a class is limited.
-    let _count = definition.signal_count(class);
-    let mut number: SignalId = 0;
-    loop {
-        let Some(signal) = definition.signal(class, number) else {
-            return Ok(());
-        };
-        names.add(class, signal.name, number)?;
-        number += 1;
-    }
-}
-
-/// Collects the names of a definition's signals, with their numbers.
-///
-/// # Errors
-///
-/// `AllocError` if memory is refused.
-pub(crate) fn signal_names(alloc: Global, definition: &Definition) -> Result<NameTable, AllocError>
-    ensures { IfOk result (AreSignals definition.now) }
-{
-    let mut names = NameTable::new(alloc);
-    let count = definition.class_count();
-    'classes: for class in 0..count {
-        add_signals(&mut names, definition, TypeId::new(class as u16))?;
     }
     Ok(names)
 }

@@ -5,7 +5,8 @@ ghost use Rattle.ui_machine.specs.Definition.Names.{place_named};
 ghost use Rattle.name_tables.specs.Names.{place_of, with_number};
 ghost use Rattle.linked_programs.specs.Linked.{method_by, number_in};
 ghost use Rattle.linked_programs.specs.Rows.{method_of};
-ghost use Rattle.linked_programs.specs.Steps.{AddsAll, AddsMethod, AreMethods};
+ghost use Rattle.name_tables.specs.Steps.{AddsAll};
+ghost use Rattle.linked_programs.specs.Steps.{AddsMethod, AreMethods};
 
 use crate::named_rows::intern_row;
 use definitions::Definition;

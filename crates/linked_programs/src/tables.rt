@@ -4,7 +4,7 @@ ghost use Rattle.std.specs.Prelude.{IfOk};
 ghost use Rattle.linked_programs.specs.Steps.{AreTables};
 
 use crate::binding_rows::BindingRows;
-use crate::class_names::{signal_names, slot_names};
+use crate::class_names::slot_names;
 use crate::method_rows::MethodRows;
 use definitions::Definition;
 use name_tables::NameTable;
@@ -30,7 +30,7 @@ impl Tables {
     {
         Ok(Tables {
             slots: slot_names(alloc, definition)?,
-            signals: signal_names(alloc, definition)?,
+            signals: definition.signal_names(alloc)?,
             methods: MethodRows::new(alloc, definition)?,
             bindings: BindingRows::new(alloc, definition)?,
         })

@@ -4,3 +4,4 @@ pub mod Least
 pub mod First
 pub mod LeastPriority
 mod Computed
+pub mod Order

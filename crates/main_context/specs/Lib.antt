@@ -1,3 +1,4 @@
 pub mod Dues
 pub mod Attached
 pub mod Priorities
+pub mod Order

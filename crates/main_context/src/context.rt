@@ -25,14 +25,14 @@ pub struct Context {
 }
 
 impl Model for Context {
-    ghost use Rattle.std.specs.Prelude.{length, ◌≤◌};
     ghost use Rattle.main_context.specs.Attached.{Attached};
+    ghost use Rattle.main_context.specs.Order.{AreInOrder};
 
     ghost Value = { Attached };
 
     ghost view = { λ c. record { sources = c.sources.items; last = c.last; moment = c.moment } };
 
-    ghost invariant = { λ c. length c.sources.items ≤ 256 };
+    ghost invariant = { λ c. AreInOrder c.sources.items c.last };
 }
 
 impl Context {

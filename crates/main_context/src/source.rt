@@ -2,7 +2,7 @@
 
 ghost use Rattle.std.specs.Prelude.{◌≡◌};
 ghost use Rattle.ui_machine.specs.Rules.MainLoop.{is_ready};
-ghost use Rattle.ui_machine.specs.State.Sources.{is_numbered, runs_program, due_after, new_source};
+ghost use Rattle.ui_machine.specs.State.Sources.{runs_program, due_after, new_source};
 
 use std::marker::Model;
 use ui_machine::{ObjectId, ProgramId};
@@ -77,12 +77,6 @@ impl Source {
         ensures { result ≡ self.now.priority }
     {
         self.priority
-    }
-
-    pub fn has_number(&self, number: u64) -> bool
-        ensures { result ≡ is_numbered number self.now }
-    {
-        self.number == number
     }
 
     pub fn runs(&self, program: ProgramId) -> bool

@@ -5,12 +5,14 @@ ghost use Rattle.std.specs.List.{find, position};
 ghost use Rattle.ui_machine.specs.State.Sources.{is_numbered, runs_program, source_of, without_first, without_source};
 ghost use Rattle.ui_machine.specs.Rules.MainLoop.{rescheduled};
 ghost use Rattle.main_context.specs.Dues.{due_of};
+ghost use Rattle.main_context.specs.Order.{RisesFrom};
 
 use crate::source::{Due, Source};
 use ui_machine::ProgramId;
 
 /// Returns what is to run for the source with this number.
 pub(crate) fn find_due(sources: &[Source], number: u64) -> Option<Due>
+    requires { RisesFrom 0 sources.now }
     ensures { result ≡ option_map due_of (source_of number sources.now) }
 {
     let index = index_of(sources, number)?;
@@ -19,6 +21,7 @@ pub(crate) fn find_due(sources: &[Source], number: u64) -> Option<Due>
 
 /// Removes the source with this number and returns it.
 pub(crate) fn take(sources: &mut Vec<Source>, number: u64) -> Option<Source>
+    requires { RisesFrom 0 sources.old.items }
     ensures given { result ≡ source_of number sources.old.items }
     ensures left { sources.new.items ≡ without_source number sources.old.items }
 {
@@ -36,21 +39,24 @@ pub(crate) fn take_first(sources: &mut Vec<Source>, program: ProgramId) -> Optio
 }
 
 /// Restarts the interval of the source with this number.
-pub(crate) fn reschedule(sources: &mut [Source], number: u64, moment: u64)
-    ensures { sources.new ≡ rescheduled moment number sources.old }
+pub(crate) fn reschedule(sources: &mut Vec<Source>, number: u64, moment: u64)
+    requires { RisesFrom 0 sources.old.items }
+    ensures { sources.new.items ≡ rescheduled moment number sources.old.items }
 {
-    for source in sources.iter_mut() {
-        if source.has_number(number) {
-            source.restart(moment);
-        }
+    if let Some(index) = index_of(sources, number) {
+        sources[index].restart(moment);
     }
 }
 
-// Returns the index of the source with this number.
+// Returns the index of the source with this number, which is searched by halves.
 fn index_of(sources: &[Source], number: u64) -> Option<usize>
+    requires { RisesFrom 0 sources.now }
     ensures { result ≡ position (is_numbered number) sources.now }
 {
-    sources.iter().position(|source| source.has_number(number))
+    match sources.binary_search_by_key(&number, |source| source.number()) {
+        Ok(index) => Some(index),
+        Err(_) => None,
+    }
 }
 
 // Returns the index of the first source of a program.

@@ -1,5 +1,5 @@
 -- What the steps of an addition and of an inheritance do to names and to a name's numbers.
-use Rattle.std.specs.Prelude.{◌≡◌, ℕ, nat_eq, cond, is_some, List, [], ◌∷◌, ◌++◌, Option, None, option_and_then}
+use Rattle.std.specs.Prelude.{◌≡◌, ℕ, nat_eq, nat_lt, cond, is_some, List, [], ◌∷◌, ◌++◌, Option, None, option_and_then}
 use Rattle.ui_machine.specs.Definition.Types.{GType}
 use Rattle.ui_machine.specs.Rules.Ancestry.{lineage, parent_of}
 use Rattle.ui_machine.specs.Rules.EmissionPlan.{first_given, or_else}
@@ -29,3 +29,11 @@ InheritsNumber types old new class = (c : ℕ) → read None new c ≡ cond (nat
 -- each class has the number that it or its nearest ancestor had
 abbrev pub InheritsNumbers : List GType → List (Option ℕ) → List (Option ℕ) → Type 0
 InheritsNumbers types old new = (c : ℕ) → read None new c ≡ first_given (read None old) (lineage types c)
+
+-- nothing differs but that a class has the names that this has a number for, each under its number, where it did not have them
+abbrev pub AddsAll : (ℕ → List ℕ → Option ℕ) → (ℕ → List ℕ → Option ℕ) → ℕ → (List ℕ → Option ℕ) → Type 0
+AddsAll old new class called = (c : ℕ) (n : List ℕ) → new c n ≡ cond (nat_eq c class) (or_else (old c n) (called n)) (old c n)
+
+-- the first classes, so many, have the names that this has a number for, and the others have none
+abbrev pub HasUpTo : (ℕ → List ℕ → Option ℕ) → ℕ → (ℕ → List ℕ → Option ℕ) → Type 0
+HasUpTo called count has = (c : ℕ) (n : List ℕ) → has c n ≡ cond (nat_lt c count) (called c n) None

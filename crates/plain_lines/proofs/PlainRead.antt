@@ -41,6 +41,32 @@ whole-set id name (Token.boolean b) d e = ap (option_map (set_data id name)) e
 whole-set id name Token.null d e = ap (option_map (set_data id name)) e
 whole-set id name Token.bad d e = absurd (cc)
 
+-- ** a turn
+
+abbrev turn_data : Data → Data
+turn_data d = one_member (codes "turn") d
+
+abbrev turn_tokens : Token → List Token
+turn_tokens t = Token.begin_object ∷ Token.key (codes "turn") ∷ t ∷ Token.end_object ∷ []
+
+turn_of_number : (s : List ℕ) (o : Option Num) → number_of s ≡ o → whole (turn_tokens (Token.number s)) ≡ option_map turn_data (option_map json_data.number o)
+unfolding value items members
+turn_of_number s None e = rw e
+turn_of_number s (Some n) e = rw e
+
+whole-turn : (t : Token) (d : Data) → scalar_data t ≡ Some d → whole (turn_tokens t) ≡ Some (turn_data d)
+unfolding value items members
+whole-turn Token.begin_object d e = absurd (cc)
+whole-turn Token.end_object d e = absurd (cc)
+whole-turn Token.begin_array d e = absurd (cc)
+whole-turn Token.end_array d e = absurd (cc)
+whole-turn (Token.key s) d e = absurd (cc)
+whole-turn (Token.string s) d e = ap (option_map turn_data) e
+whole-turn (Token.number s) d e = turn_of_number s (number_of s) refl ∙ ap (option_map turn_data) e
+whole-turn (Token.boolean b) d e = ap (option_map turn_data) e
+whole-turn Token.null d e = ap (option_map turn_data) e
+whole-turn Token.bad d e = absurd (cc)
+
 -- ** the values of an emission
 
 -- what a token that is a value by itself reads as, in the list of values of a line
@@ -144,6 +170,7 @@ unfolding value items members
 whole-line (lines.Set id name v) ts says = ap whole says.1 ∙ whole-set id.now name.now says.0 (view v) says.2
 whole-line (lines.Get id name) ts says = ap whole says
 whole-line (lines.Release id) ts says = ap whole says
+whole-line (lines.Turn moment) ts says = ap whole says.1 ∙ whole-turn says.0 (view moment) says.2
 whole-line (lines.Emit id name args) ts says = ap whole says.1 ∙ whole-emit id.now name.now says.0 (items_view args.items) says.2
 
 pub read_plain : (text : List ℕ) (p : PlainLine) → Says (tokens text) p → read text ≡ Some (line_data p)

@@ -22,6 +22,7 @@ line_data (lines.Set id name value) = one_member (codes "set") (words_data id.no
 line_data (lines.Get id name) = one_member (codes "get") (words_data id.now name.now no_items)
 line_data (lines.Release id) = one_member (codes "release") (json_data.string id.now)
 line_data (lines.Emit id name args) = one_member (codes "emit") (words_data id.now name.now (item (json_data.array (items_view args.items)) no_items))
+line_data (lines.Turn moment) = one_member (codes "turn") (view moment)
 
 -- the tokens of a line that is an object of one member, a list of an id, a name and more
 abbrev pub words_tokens : List ℕ → List ℕ → List ℕ → List Token → List Token
@@ -37,3 +38,4 @@ Says tokens (lines.Set id name value) = (t : Token) × (tokens ≡ words_tokens 
 Says tokens (lines.Get id name) = tokens ≡ words_tokens (codes "get") id.now name.now closing
 Says tokens (lines.Release id) = tokens ≡ begin_object ∷ key (codes "release") ∷ string id.now ∷ end_object ∷ []
 Says tokens (lines.Emit id name args) = (ts : List Token) × (tokens ≡ words_tokens (codes "emit") id.now name.now (begin_array ∷ (ts ++ end_array ∷ closing))) × (scalars_data ts ≡ Some (items_view args.items))
+Says tokens (lines.Turn moment) = (t : Token) × (tokens ≡ begin_object ∷ key (codes "turn") ∷ t ∷ end_object ∷ []) × (scalar_data t ≡ Some (view moment))

@@ -39,6 +39,10 @@ pub enum PlainLine<'a> {
         name: &'a str,
         args: Vec<Value>,
     },
+    /// `{"turn":moment}`
+    Turn {
+        moment: Value,
+    },
 }
 
 // Reads the opening bracket of a list of words, and the id and the name that follow it.
@@ -134,6 +138,25 @@ fn read_emit<'a>(
     Ok(Some(PlainLine::Emit { id, name, args }))
 }
 
+// Reads a turn after its key.
+fn read_turn<'a>(
+    alloc: Global,
+    reader: &mut Reader<'a>,
+) -> Result<Option<PlainLine<'a>>, AllocError>
+    ensures { IfOk result (λ line. IfSome line (λ p. Says (begin_object ∷ key (codes "turn") ∷ reader.old) p)) }
+{
+    let Some(moment) = next_scalar(alloc, reader)? else {
+        return Ok(None);
+    };
+    let Some(()) = close_object(reader) else {
+        return Ok(None);
+    };
+    let Some(()) = end_line(reader) else {
+        return Ok(None);
+    };
+    Ok(Some(PlainLine::Turn { moment }))
+}
+
 // Reads the brace that opens a line, and its first key.
 fn open_line<'a>(reader: &mut Reader<'a>) -> Option<&'a str>
     ensures { IfSome result (λ k. reader.old ≡ begin_object ∷ key k.now ∷ reader.new) }
@@ -152,19 +175,14 @@ fn read_line<'a>(
     let Some(key) = open_line(reader) else {
         return Ok(None);
     };
-    if key == "set" {
-        return read_set(alloc, reader);
+    match key {
+        "set" => read_set(alloc, reader),
+        "get" => Ok(read_get(reader)),
+        "release" => Ok(read_release(reader)),
+        "emit" => read_emit(alloc, reader),
+        "turn" => read_turn(alloc, reader),
+        _ => Ok(None),
     }
-    if key == "get" {
-        return Ok(read_get(reader));
-    }
-    if key == "release" {
-        return Ok(read_release(reader));
-    }
-    if key == "emit" {
-        return read_emit(alloc, reader);
-    }
-    Ok(None)
 }
 
 impl<'a> PlainLine<'a> {

@@ -63,6 +63,14 @@ fn an_emission_is_taken(rt: HostRuntime) -> Result<(), Fail> {
 }
 
 #[test]
+fn a_turn_is_taken(rt: HostRuntime) -> Result<(), Fail> {
+    let mut scratch = Scratch::new(rt.alloc());
+    let line = PlainLine::read(rt.alloc(), "{\"turn\":16}", &mut scratch)?;
+    assert!(rt; matches!(line, Some(PlainLine::Turn { .. })));
+    Ok(())
+}
+
+#[test]
 fn other_lines_are_left(rt: HostRuntime) -> Result<(), Fail> {
     let mut scratch = Scratch::new(rt.alloc());
     for text in [
@@ -70,7 +78,8 @@ fn other_lines_are_left(rt: HostRuntime) -> Result<(), Fail> {
         "{\"set\":[\"a\",\"b\",1e999]}",
         "{\"get\":[\"a\",\"b\"],\"set\":1}",
         "{\"emit\":[\"a\",\"b\",[],\"c\"]}",
-        "{\"turn\":1}",
+        "{\"turn\":[1]}",
+        "{\"turn\":1,\"turn\":2}",
         "{\"release\":\"a\"} 1",
     ] {
         let line = PlainLine::read(rt.alloc(), text, &mut scratch)?;

@@ -4,3 +4,4 @@ pub mod JudgeProofs
 pub mod LargeProofs
 pub mod LinkTexts
 pub mod ToldNumbers
+pub mod IdleNumbers

@@ -14,6 +14,7 @@ use Rattle.law_typing.specs.Graph.Tables.{Table, Tables, entry, greatest}
 use Rattle.law_typing.specs.Laws.Capped.{capped}
 use Rattle.law_typing.specs.Rules.Sites.{Site, sites}
 use Rattle.law_typing.proofs.Lists.{same_channel_true}
+use Rattle.law_idle.specs.Idle.{busy_channels, busy_graph}
 use Rattle.law_numbering.specs.Tables.{cost_tables, depth_tables, rank_table, table_from, value_of}
 use Rattle.law_numbering.proofs.SketchLists.{read_listed, same_length}
 use Rattle.node_numbers.specs.Numbers.{of_node}
@@ -23,6 +24,7 @@ use Rattle.graph_numbers.specs.Counts.{at_in}
 use Rattle.graph_numbers.specs.Reckonings.{AreGraphNumbers}
 use Rattle.graph_numbers.specs.declared.reckonings.NodeNumbers.{NodeNumbers}
 use Rattle.graph_numbers.proofs.Lists.{mapped_length}
+use Rattle.definition_sketch.proofs.GraphChannels.{graph_channels}
 use Rattle.graph_bounds.specs.ByChannel.{Gives, GivesCapped, makings_depth}
 use Rattle.ui_verifier.specs.Bounds.{with_objects}
 
@@ -36,13 +38,17 @@ values_are F G (c ∷ cs) all =
     ap (λ n. n ∷ listed (λ i. F (suc i)) (length cs)) (all 0 c refl)
     ∙ ap (λ ns. G c ∷ ns) (values_are (λ i. F (suc i)) G cs (λ i e is. all (suc i) e is))
 
-raised_channels : (d : Definition) (ns : List Connection) (cs : List Channel) → map (λ (r : Raised). r.channel) (map (raised_at d ns) cs) ≡ cs
-raised_channels d ns [] = refl
-raised_channels d ns (c ∷ cs) = ap (λ xs. c ∷ xs) (raised_channels d ns cs)
+mapped_back : (d : Definition) (ns : List Connection) (cs : List Channel) → map (λ (r : Raised). r.channel) (map (raised_at d ns) cs) ≡ cs
+mapped_back d ns [] = refl
+mapped_back d ns (c ∷ cs) = ap (λ xs. c ∷ xs) (mapped_back d ns cs)
 
 -- the channels of the graph are those of the definition
-pub same_channels : (d : Definition) → channels_in (graph d) ≡ channels d
-same_channels d = raised_channels d (connections d (sites d)) (channels d)
+pub all_channels : (d : Definition) → channels_in (graph d) ≡ channels d
+all_channels d = mapped_back d (connections d (sites d)) (channels d)
+
+-- and those of the graph without idle ones are the busy ones
+pub same_channels : (d : Definition) → channels_in (busy_graph d) ≡ busy_channels d
+same_channels d = graph_channels d
 
 -- a channel that has no number is not raised
 not_raised : (rs : List Raised) (c : Channel) → ((n : ℕ) → slice_get (map (λ (r : Raised). r.channel) rs) n ≡ Some c → ⊥) →
@@ -92,15 +98,15 @@ sources_same d ss f h number total (p ∷ ps) low all =
 
 -- ** what is reported
 
-module _ (d : Definition) (s : Sketch) (n : NodeNumbers) (sketch : IsSketch (graph d) s) (numbers : AreGraphNumbers (graph d) s n) where
+module _ (d : Definition) (s : Sketch) (n : NodeNumbers) (sketch : IsSketch (busy_graph d) s) (numbers : AreGraphNumbers (busy_graph d) s n) where
   abbrev pub by_cost : Tables
-  by_cost = cost_tables (graph d) (at_in s) n.costs.items
+  by_cost = cost_tables (busy_graph d) (at_in s) n.costs.items
 
   abbrev pub by_depth : Tables
-  by_depth = depth_tables (graph d) s (at_in s) n.depths.items
+  by_depth = depth_tables (busy_graph d) s (at_in s) n.depths.items
 
   abbrev pub by_rank : Table
-  by_rank = rank_table (graph d) s (at_in s) n.ranks.items
+  by_rank = rank_table (busy_graph d) s (at_in s) n.ranks.items
 
   abbrev pub cost_list : List ℕ
   cost_list = listed (value_of s (at_in s) n.costs.items) (length s.channels)
@@ -111,77 +117,77 @@ module _ (d : Definition) (s : Sketch) (n : NodeNumbers) (sketch : IsSketch (gra
   abbrev pub rank_list : List ℕ
   rank_list = listed (value_of s (at_in s) n.ranks.items) (length s.channels)
 
-  counted : length s.channels ≡ length (channels d)
+  counted : length s.channels ≡ length (busy_channels d)
   counted =
-      same_length (IsSketchedChannel (graph d) s.groups) s.channels (graph d).raised sketch.channels
-      ∙ (sym (mapped_length (λ (r : Raised). r.channel) (graph d).raised) ∙ ap (λ cs. length cs) (same_channels d))
+      same_length (IsSketchedChannel (busy_graph d) s.groups) s.channels (busy_graph d).raised sketch.channels
+      ∙ (sym (mapped_length (λ (r : Raised). r.channel) (busy_graph d).raised) ∙ ap (λ cs. length cs) (same_channels d))
 
-  names : (i : ℕ) (c : Channel) → slice_get (channels d) i ≡ Some c → Names (graph d) i c
+  names : (i : ℕ) (c : Channel) → slice_get (busy_channels d) i ≡ Some c → Names (busy_graph d) i c
   names i c is = ap (λ cs. slice_get cs i) (same_channels d) ∙ is
 
-  pub costs_are : cost_list ≡ map (λ (c : Channel). capped (node_cost (graph d) by_cost c)) (channels d)
+  pub costs_are : cost_list ≡ map (λ (c : Channel). capped (node_cost (busy_graph d) by_cost c)) (busy_channels d)
   costs_are =
       ap (listed (value_of s (at_in s) n.costs.items)) counted
-      ∙ values_are (value_of s (at_in s) n.costs.items) (λ c. capped (node_cost (graph d) by_cost c)) (channels d) (λ i c is. numbers.cost_of i c (names i c is))
+      ∙ values_are (value_of s (at_in s) n.costs.items) (λ c. capped (node_cost (busy_graph d) by_cost c)) (busy_channels d) (λ i c is. numbers.cost_of i c (names i c is))
 
-  pub ranks_are : rank_list ≡ map (λ (c : Channel). entry by_rank (node (graph d) c)) (channels d)
+  pub ranks_are : rank_list ≡ map (λ (c : Channel). entry by_rank (node (busy_graph d) c)) (busy_channels d)
   ranks_are =
       ap (listed (value_of s (at_in s) n.ranks.items)) counted
-      ∙ values_are (value_of s (at_in s) n.ranks.items) (λ c. entry by_rank (node (graph d) c)) (channels d) (λ i c is. numbers.rank_of i c (names i c is))
+      ∙ values_are (value_of s (at_in s) n.ranks.items) (λ c. entry by_rank (node (busy_graph d) c)) (busy_channels d) (λ i c is. numbers.rank_of i c (names i c is))
 
-  pub depths_are : depth_list ≡ map (λ (c : Channel). entry by_depth.channels c) (channels d)
+  pub depths_are : depth_list ≡ map (λ (c : Channel). entry by_depth.channels c) (busy_channels d)
   depths_are =
       ap (listed (value_of s (at_in s) n.depths.items)) counted
-      ∙ values_are (value_of s (at_in s) n.depths.items) (λ c. entry by_depth.channels c) (channels d) (λ i c is. numbers.depth_of i c (names i c is))
+      ∙ values_are (value_of s (at_in s) n.depths.items) (λ c. entry by_depth.channels c) (busy_channels d) (λ i c is. numbers.depth_of i c (names i c is))
 
-  absent : (c : Channel) → ((k : ℕ) → slice_get (channels d) k ≡ Some c → ⊥) → is_raised (graph d) c ≡ false
-  absent c none = not_raised (graph d).raised c (λ k is. none k (ap (λ cs. slice_get cs k) (sym (same_channels d)) ∙ is))
+  absent : (c : Channel) → ((k : ℕ) → slice_get (busy_channels d) k ≡ Some c → ⊥) → is_raised (busy_graph d) c ≡ false
+  absent c none = not_raised (busy_graph d).raised c (λ k is. none k (ap (λ cs. slice_get cs k) (sym (same_channels d)) ∙ is))
 
-  pub gives_costs : GivesCapped (channels d) cost_list (node_cost (graph d) by_cost)
+  pub gives_costs : GivesCapped (busy_channels d) cost_list (node_cost (busy_graph d) by_cost)
   gives_costs = record {
     same = costs_are;
     none = λ c none. ap capped (numbers.no_cost c (absent c none));
   }
 
-  pub gives_depths : Gives (channels d) depth_list (entry by_depth.channels)
+  pub gives_depths : Gives (busy_channels d) depth_list (entry by_depth.channels)
   gives_depths = record { same = depths_are; none = λ c none. numbers.no_depth c (absent c none) }
 
   with_all : (objects : ℕ) (cs : List Channel) →
-      with_objects objects (map (λ (c : Channel). capped (node_cost (graph d) by_cost c)) cs) ≡ map (λ (c : Channel). capped (node_cost (graph d) by_cost c + objects)) cs
+      with_objects objects (map (λ (c : Channel). capped (node_cost (busy_graph d) by_cost c)) cs) ≡ map (λ (c : Channel). capped (node_cost (busy_graph d) by_cost c + objects)) cs
   with_all objects [] = refl
   with_all objects (c ∷ cs) =
-      let k = node_cost (graph d) by_cost c in
+      let k = node_cost (busy_graph d) by_cost c in
       let e : capped (capped k + objects) ≡ capped (k + objects) = omega arith in
-      ap (λ x. x ∷ with_objects objects (map (λ (c : Channel). capped (node_cost (graph d) by_cost c)) cs)) e
+      ap (λ x. x ∷ with_objects objects (map (λ (c : Channel). capped (node_cost (busy_graph d) by_cost c)) cs)) e
       ∙ ap (λ xs. capped (k + objects) ∷ xs) (with_all objects cs)
 
-  pub bounds_are : with_objects d.most_objects cost_list ≡ map (λ (c : Channel). capped (bound (graph d) by_cost (entries.at c))) (channels d)
-  bounds_are = ap (with_objects d.most_objects) costs_are ∙ with_all d.most_objects (channels d)
+  pub bounds_are : with_objects d.most_objects cost_list ≡ map (λ (c : Channel). capped (bound (busy_graph d) by_cost (entries.at c))) (busy_channels d)
+  bounds_are = ap (with_objects d.most_objects) costs_are ∙ with_all d.most_objects (busy_channels d)
 
-  program_count : length (graph d).programs ≡ length d.programs
+  program_count : length (busy_graph d).programs ≡ length d.programs
   program_count = mapped_length (stretches_of d) d.programs
 
   pub sources_are :
-      map {B = ℕ × ℕ} (λ (p : ℕ). (p, capped (of_node n.costs.items (at_in s (program p)) + d.most_objects))) (graph d).sources
-      ≡ map (λ (p : ℕ). (p, capped (bound (graph d) by_cost (entries.source p)))) (graph d).sources
+      map {B = ℕ × ℕ} (λ (p : ℕ). (p, capped (of_node n.costs.items (at_in s (program p)) + d.most_objects))) (busy_graph d).sources
+      ≡ map (λ (p : ℕ). (p, capped (bound (busy_graph d) by_cost (entries.source p)))) (busy_graph d).sources
   sources_are =
-      sources_same d (sites d) (λ p. capped (of_node n.costs.items (at_in s (program p)) + d.most_objects)) (λ p. capped (bound (graph d) by_cost (entries.source p)))
+      sources_same d (sites d) (λ p. capped (of_node n.costs.items (at_in s (program p)) + d.most_objects)) (λ p. capped (bound (busy_graph d) by_cost (entries.source p)))
       0 (length d.programs) d.programs (omega arith)
       (λ p low.
       let c = program_count in
-      let e = read_listed (λ p. of_node n.costs.items (at_in s (program p))) (length (graph d).programs) p (omega (arith, low, c)) in
+      let e = read_listed (λ p. of_node n.costs.items (at_in s (program p))) (length (busy_graph d).programs) p (omega (arith, low, c)) in
       ap (λ k. capped (k + d.most_objects)) (sym e))
 
   pub depth_is :
       max (greatest (λ (k : ℕ). k) depth_list)
       (max (greatest (λ (k : ℕ). k) (listed (λ p. of_node n.depths.items (at_in s (program p))) (length d.programs))) (makings_depth d (entry by_depth.channels)))
-      ≡ depth (graph d) by_depth
+      ≡ depth (busy_graph d) by_depth
   depth_is =
       let f = value_of s (at_in s) n.depths.items in
-      let same = same_length (IsSketchedChannel (graph d) s.groups) s.channels (graph d).raised sketch.channels in
+      let same = same_length (IsSketchedChannel (busy_graph d) s.groups) s.channels (busy_graph d).raised sketch.channels in
       let a : greatest (λ (k : ℕ). k) depth_list ≡ greatest (λ (x : Channel × ℕ). x.1) by_depth.channels =
       ap (λ k. greatest (λ (k : ℕ). k) (listed f k)) same
-      ∙ (ap (greatest (λ (k : ℕ). k)) (same_listed f (λ i. f (0 + i)) (length (graph d).raised) (λ i. (let z : i ≡ 0 + i = omega arith in ap f z)))
-      ∙ sym (greatest_of_table f 0 (graph d).raised)) in
+      ∙ (ap (greatest (λ (k : ℕ). k)) (same_listed f (λ i. f (0 + i)) (length (busy_graph d).raised) (λ i. (let z : i ≡ 0 + i = omega arith in ap f z)))
+      ∙ sym (greatest_of_table f 0 (busy_graph d).raised)) in
       ap (λ x. max x (max (greatest (λ (k : ℕ). k) (listed (λ p. of_node n.depths.items (at_in s (program p))) (length d.programs))) (makings_depth d (entry by_depth.channels)))) a
       ∙ ap (λ k. max (greatest (λ (x : Channel × ℕ). x.1) by_depth.channels) (max (greatest (λ (k : ℕ). k) (listed (λ p. of_node n.depths.items (at_in s (program p))) k)) (makings_depth d (entry by_depth.channels)))) (sym program_count)

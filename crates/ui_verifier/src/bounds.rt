@@ -2,7 +2,7 @@
 
 ghost use Rattle.std.specs.Prelude.{◌≡◌, ◌+◌, ℕ, length, map, max, IfOk};
 ghost use Rattle.ui_machine.specs.Seq.{listed};
-ghost use Rattle.law_typing.specs.Graph.{graph};
+ghost use Rattle.law_idle.specs.Idle.{busy_channels, busy_graph};
 ghost use Rattle.law_typing.specs.Graph.Channels as law;
 ghost use Rattle.graph_bounds.specs.ByChannel.{Gives, makings_depth};
 ghost use Rattle.law_typing.specs.Graph.Tables.{greatest};
@@ -15,7 +15,7 @@ ghost use Rattle.graph_sketches.specs.View.{sketch_view};
 ghost use Rattle.graph_numbers.specs.Counts.{at, at_in, counts_of};
 ghost use Rattle.graph_numbers.specs.Reckonings.{AreGraphNumbers, HaveFew};
 ghost use Rattle.verified.specs.Told.{source_view};
-ghost use Rattle.ui_verifier.specs.Bounds.{AreCapped, with_objects};
+ghost use Rattle.ui_verifier.specs.Bounds.{AreCappedIn, with_objects};
 
 use definition_graph::ChannelNumbers;
 use graph_bounds::{build_bound, capped_sum, makings_depth, source_programs};
@@ -127,7 +127,7 @@ fn depth_of(
     Ok(most as u32)
 }
 
-/// Returns the numbers that are reported of a definition. Each bound is capped at one above the greatest.
+/// Returns the numbers of a definition, and of its busy channels. Each bound is capped at one above the greatest.
 ///
 /// # Errors
 ///
@@ -140,15 +140,15 @@ pub(crate) fn told_numbers(
     layout: &Layout,
     nodes: &NodeNumbers,
 ) -> Result<Numbers, AllocError>
-    requires known { channels.now ≡ law.channels lookups.now }
+    requires known { channels.now ≡ busy_channels lookups.now }
     requires counted { layout.now ≡ counts_of (sketch_view sketch.now) }
-    requires sketched { IsSketch (graph lookups.now) (sketch_view sketch.now) }
-    requires reckoned { AreGraphNumbers (graph lookups.now) (sketch_view sketch.now) nodes.now }
+    requires sketched { IsSketch (busy_graph lookups.now) (sketch_view sketch.now) }
+    requires reckoned { AreGraphNumbers (busy_graph lookups.now) (sketch_view sketch.now) nodes.now }
     requires few { HaveFew nodes.now }
-    ensures { IfOk result (λ numbers. AreCapped lookups.now numbers
-        (rank_table (graph lookups.now) (sketch_view sketch.now) (at_in (sketch_view sketch.now)) nodes.now.ranks.items)
-        (cost_tables (graph lookups.now) (at_in (sketch_view sketch.now)) nodes.now.costs.items)
-        (depth_tables (graph lookups.now) (sketch_view sketch.now) (at_in (sketch_view sketch.now)) nodes.now.depths.items)) }
+    ensures { IfOk result (λ numbers. AreCappedIn (busy_graph lookups.now) (busy_channels lookups.now) numbers
+        (rank_table (busy_graph lookups.now) (sketch_view sketch.now) (at_in (sketch_view sketch.now)) nodes.now.ranks.items)
+        (cost_tables (busy_graph lookups.now) (at_in (sketch_view sketch.now)) nodes.now.costs.items)
+        (depth_tables (busy_graph lookups.now) (sketch_view sketch.now) (at_in (sketch_view sketch.now)) nodes.now.depths.items)) }
 {
     let objects = lookups.definition().limits().objects;
     let costs = channel_values(alloc, sketch, layout, nodes.costs.as_slice())?;

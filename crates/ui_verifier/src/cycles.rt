@@ -117,7 +117,7 @@ fn turned(alloc: Global, links: &[CycleLink], first: usize) -> Result<Vec<CycleL
     Ok(all)
 }
 
-/// Returns a cycle from its first channel in the report.
+/// Returns a cycle from its first channel in the report. Its links name busy channels by their numbers.
 ///
 /// # Errors
 ///
@@ -125,13 +125,14 @@ fn turned(alloc: Global, links: &[CycleLink], first: usize) -> Result<Vec<CycleL
 pub(crate) fn cycle_from_first(
     alloc: Global,
     channels: &ChannelNumbers,
+    busy: &ChannelNumbers,
     links: &[SketchedLink],
 ) -> Result<Vec<CycleLink>, AllocError>
     requires { All (NamesBelow 256) links.now }
-    ensures { IfOk result (λ all. (g : Graph) → channels.now ≡ channels_in g → IsCycleOnce g (links_view g links.now)
-        → IsToldCycle g (map link_view all.items)) }
+    ensures { IfOk result (λ all. (g less : Graph) → channels.now ≡ channels_in g → busy.now ≡ channels_in less
+        → IsCycleOnce g (links_view less links.now) → IsToldCycle g (map link_view all.items)) }
 {
-    let all = cycle_links(alloc, channels, links)?;
+    let all = cycle_links(alloc, busy, links)?;
     let lines = lines_of(alloc, channels, all.as_slice())?;
     let first = least(lines.as_slice());
     let told = turned(alloc, all.as_slice(), first)?;

@@ -3,30 +3,31 @@
 ghost use Rattle.std.specs.Prelude.{◌≡◌, All, None, Some, IfOk};
 ghost use Rattle.ui_machine.specs.Definition as machine;
 ghost use Rattle.law_judging.specs.FirstFaults.{first_fault};
-ghost use Rattle.law_typing.specs.Graph.{graph};
 ghost use Rattle.law_typing.specs.Graph.Channels as law;
 ghost use Rattle.law_typing.specs.Rules.Faults.{bound_too_large, cycle};
 ghost use Rattle.law_typing.specs.Verdict.Judges.{IsToldCycle, Judges};
+ghost use Rattle.law_idle.specs.Idle.{busy_channels, busy_graph};
 ghost use Rattle.definition_format.specs.Origin.{IsDenoted};
-ghost use Rattle.graph_numbers.specs.Counts.{counts_of};
-ghost use Rattle.graph_numbers.specs.Reckonings.{AreGraphNumbers, HaveFew, IsCycleOnce};
+ghost use Rattle.graph_numbers.specs.Reckonings.{IsCycleOnce};
 ghost use Rattle.graph_numbers.specs.Links.{NamesBelow, links_view};
 ghost use Rattle.graph_sketches.specs.Sizes.{IsSmall};
 ghost use Rattle.graph_sketches.specs.Sketches.{IsSketch};
 ghost use Rattle.graph_sketches.specs.View.{sketch_view};
 ghost use Rattle.rule_faults.specs.Faults as rules;
 ghost use Rattle.verified.specs.Entries.{entry_of};
+ghost use Rattle.ui_verifier.specs.Bounds.{AreBusyNumbers};
 ghost use Rattle.ui_verifier.specs.Verdicts.{AreAccepted, IsJudged, IsRefusal, Verifies};
 
 use crate::bounds::told_numbers;
 use crate::cycles::cycle_from_first;
 use crate::faults::{Refusal, VerifyError, VerifyFault};
+use crate::idle_numbers::with_idle;
 use crate::large_bounds::too_large;
 use crate::texts::{bound_text, cycle_text};
 use definition_graph::ChannelNumbers;
 use definition_sketch::sketch;
 use definitions::Definition;
-use graph_numbers::{Layout, NodeNumbers, Reckoned, SketchedLink, reckon};
+use graph_numbers::{Layout, Reckoned, SketchedLink, reckon};
 use graph_sketches::Sketch;
 use operand_types::Lookups;
 use rule_faults::{RuleFault, fault_text, rule_fault};
@@ -62,15 +63,17 @@ fn cycle_refusal(
     alloc: Global,
     definition: &Definition,
     channels: &ChannelNumbers,
+    busy: &ChannelNumbers,
     links: &[SketchedLink],
 ) -> Result<Refusal, AllocError>
     requires known { channels.now ≡ law.channels definition.now }
+    requires busy { busy.now ≡ busy_channels definition.now }
     requires lawful { first_fault definition.now ≡ None }
     requires few { All (NamesBelow 256) links.now }
-    requires cycle { IsCycleOnce (graph definition.now) (links_view (graph definition.now) links.now) }
+    requires cycle { IsCycleOnce (busy_graph definition.now) (links_view (busy_graph definition.now) links.now) }
     ensures { IfOk result (λ r. IsRefusal definition.now r) }
 {
-    let links = cycle_from_first(alloc, channels, links)?;
+    let links = cycle_from_first(alloc, channels, busy, links)?;
     let text = cycle_text(alloc, definition, links.as_slice())?;
     Ok(Refusal {
         fault: VerifyFault::Cycle(links),
@@ -94,25 +97,22 @@ fn bound_refusal(
     })
 }
 
-// Judges a definition by the numbers of its graph's nodes.
+// Judges a definition that breaks no rule by the numbers of its busy channels.
 fn judge_numbers(
     alloc: Global,
     lookups: &Lookups<'_>,
     channels: &ChannelNumbers,
-    sketch: &Sketch,
-    layout: &Layout,
-    nodes: &NodeNumbers,
+    busy: &ChannelNumbers,
+    told: Numbers,
 ) -> Result<Judgement, AllocError>
     requires known { channels.now ≡ law.channels lookups.now }
+    requires busy { busy.now ≡ busy_channels lookups.now }
     requires read { IsDenoted lookups.now }
     requires lawful { first_fault lookups.now ≡ None }
-    requires counted { layout.now ≡ counts_of (sketch_view sketch.now) }
-    requires sketched { IsSketch (graph lookups.now) (sketch_view sketch.now) }
-    requires reckoned { AreGraphNumbers (graph lookups.now) (sketch_view sketch.now) nodes.now }
-    requires few { HaveFew nodes.now }
+    requires told { AreBusyNumbers lookups.now told }
     ensures { IfOk result (λ j. IsJudged lookups.now j) }
 {
-    let numbers = told_numbers(alloc, lookups, channels, sketch, layout, nodes)?;
+    let numbers = with_idle(alloc, lookups, channels, busy, told)?;
     match too_large(&numbers, channels) {
         Some(entry) => {
             let refusal = bound_refusal(alloc, lookups.definition(), entry)?;
@@ -122,28 +122,31 @@ fn judge_numbers(
     }
 }
 
-// Judges a definition that breaks no rule, by the sketch of its graph.
+// Judges a definition that breaks no rule, by the sketch of its graph without the idle channels.
 fn judge_sketch(
     alloc: Global,
     lookups: &Lookups<'_>,
     channels: &ChannelNumbers,
+    busy: &ChannelNumbers,
     sketch: &Sketch,
 ) -> Result<Judgement, AllocError>
     requires known { channels.now ≡ law.channels lookups.now }
+    requires busy { busy.now ≡ busy_channels lookups.now }
     requires read { IsDenoted lookups.now }
     requires lawful { first_fault lookups.now ≡ None }
     requires small { IsSmall (sketch_view sketch.now) }
-    requires sketched { IsSketch (graph lookups.now) (sketch_view sketch.now) }
+    requires sketched { IsSketch (busy_graph lookups.now) (sketch_view sketch.now) }
     ensures { IfOk result (λ j. IsJudged lookups.now j) }
 {
     let definition = lookups.definition();
     let layout = Layout::new(alloc, sketch)?;
     match reckon(alloc, sketch, &layout, definition.limits().handlers)? {
         Reckoned::Numbers(nodes) => {
-            judge_numbers(alloc, lookups, channels, sketch, &layout, &nodes)
+            let told = told_numbers(alloc, lookups, busy, sketch, &layout, &nodes)?;
+            judge_numbers(alloc, lookups, channels, busy, told)
         }
         Reckoned::Cycle(links) => {
-            let refusal = cycle_refusal(alloc, definition, channels, links.as_slice())?;
+            let refusal = cycle_refusal(alloc, definition, channels, busy, links.as_slice())?;
             Ok(Judgement::Refused(refusal))
         }
     }
@@ -159,10 +162,11 @@ fn judge_lawful(
 {
     let lookups = Lookups::new(alloc, definition)?;
     let channels = ChannelNumbers::new(alloc, &lookups)?;
-    let sketch = sketch(alloc, &lookups, &channels)?;
+    let busy = ChannelNumbers::of_busy(alloc, &lookups)?;
+    let sketch = sketch(alloc, &lookups, &busy)?;
     // For the proof: some bytes denote the definition.
     let _types = definition.types();
-    let judgement = judge_sketch(alloc, &lookups, &channels, &sketch)?;
+    let judgement = judge_sketch(alloc, &lookups, &channels, &busy, &sketch)?;
     Ok((channels, judgement))
 }
 

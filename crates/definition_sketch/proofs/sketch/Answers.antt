@@ -3,7 +3,8 @@ use Rattle.std.specs.Global.{Global}
 use Rattle.std.proofs.lemmas.List.{length-map}
 use Rattle.ui_machine.specs.Seq.{listed}
 use Rattle.law_typing.specs.Graph.{pairs_of}
-use Rattle.law_typing.specs.Graph.Channels.{Channel, channels}
+use Rattle.law_typing.specs.Graph.Channels.{Channel}
+use Rattle.law_idle.specs.Idle.{busy_channels}
 use Rattle.graph_sketches.specs.Sketches.{Sketch}
 use Rattle.graph_sketches.specs.View.{block_view, channel_view, start_view}
 use Rattle.definition_graph.specs.Paired.{ArePaired, paired_at}
@@ -50,4 +51,4 @@ returns-clause-sketch c none =
     (subst (λ (cs : List Channel). AreOfSome d cs starts) c.requires c.in_ok-sketched.ensures.each)
     (c.in_ok-places.ensures.places
     ∙ (ap (λ (cs : List Channel). listed (paired_at d cs c.as_slice.result.now) (length d.places)) c.requires
-    ∙ ap (λ (os : List (Option ℕ)). listed (paired_at d (channels d) os) (length d.places)) c.as_slice.ensures.value))
+    ∙ ap (λ (os : List (Option ℕ)). listed (paired_at d (busy_channels d) os) (length d.places)) c.as_slice.ensures.value))

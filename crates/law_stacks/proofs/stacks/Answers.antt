@@ -1,3 +1,4 @@
+use Rattle.law_stacks.proofs.FewProofs.{constructions_are_few}
 use Rattle.law_stacks.proofs.ShortProofs.{stacked_are_short}
 use Rattle.law_stacks.proofs.StepProofs.{stacks_last}
 use Rattle.law_stacks.proofs.stacks.Goals as goal
@@ -7,3 +8,6 @@ returns-clause-last c = stacks_last
 
 pub returns-clause-short : goal.returns-clause-short
 returns-clause-short c = stacked_are_short
+
+pub returns-clause-few : goal.returns-clause-few
+returns-clause-few c = constructions_are_few

@@ -1,5 +1,4 @@
-use Rattle.std.proofs.Common.{◌≡◌, ◌≤◌, [], Ok, length, take, true, false}
-use Rattle.std.specs.Prelude.{MatchResult}
+use Rattle.std.proofs.Common.{◌≡◌, ◌≤◌, [], Ok, length, take, false}
 use Rattle.ui_machine.specs.State.Config.{World}
 use Rattle.ui_machine.specs.State.Tasks.{Event}
 use Rattle.native_peers.specs.Seen.{SameRelations}
@@ -14,9 +13,9 @@ invariant-slices g l =
     let may = g.P.Peers.relations l.fn.session.pool in
     record {
       so : (event : Event) (w : World) → ComesOn (Ok l.fn.begun) may l.fn.session.core.definition event w [] old l.fn.session.core
-          → SoFar l.progress l.put may l.fn.session.core.definition event w (take l.fn.known l.fn.session.core.world.transcript) l.known (g.W.Writer.sent l.fn.writer) l.fn.gather (g.W.Writer.sent l.writer) l.gather now l.session.core;
+          → SoFar l.progress may l.fn.session.core.definition event w (take l.fn.known l.fn.session.core.world.transcript) l.known (g.W.Writer.sent l.fn.writer) l.fn.gather (g.W.Writer.sent l.writer) l.gather now l.session.core;
       known : l.known ≤ length l.session.core.world.transcript;
-      works : MatchResult l.put (λ _. g.W.Writer.failed l.writer ≡ false) (λ _. g.W.Writer.failed l.writer ≡ true);
+      works : g.W.Writer.failed l.writer ≡ false;
       same : SameRelations may (g.P.Peers.relations l.session.pool);
     }
 

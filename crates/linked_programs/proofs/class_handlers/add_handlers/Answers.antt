@@ -4,8 +4,9 @@ use Rattle.ui_machine.specs.Definition.Names.{same_name}
 use Rattle.ui_machine.specs.Definition.Signals.{ClassHandler}
 use Rattle.ui_machine.specs.Rules.EmissionPlan.{handler_in}
 use Rattle.name_tables.specs.Names.{number_of, with_number}
-use Rattle.linked_programs.specs.Steps.{AddsAll}
-use Rattle.linked_programs.proofs.Adding.{adds_more, handler_in-more, take_past}
+use Rattle.name_tables.specs.Steps.{AddsAll}
+use Rattle.name_tables.proofs.Adding.{adds_more, take_past}
+use Rattle.linked_programs.proofs.Adding.{handler_in-more}
 use Rattle.linked_programs.proofs.Linking.{got_read}
 use Rattle.linked_programs.proofs.class_handlers.add_handlers.Goals as goal
 

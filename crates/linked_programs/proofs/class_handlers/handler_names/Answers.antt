@@ -5,7 +5,8 @@ use Rattle.ui_machine.specs.Definition.Types.{GType}
 use Rattle.ui_machine.specs.Rules.Ancestry.{lineage}
 use Rattle.ui_machine.specs.Rules.EmissionPlan.{first_given, handler_in}
 use Rattle.name_tables.specs.Names.{inherited_number, number_of}
-use Rattle.linked_programs.proofs.Adding.{all_classes, no_handlers}
+use Rattle.name_tables.proofs.Adding.{all_classes}
+use Rattle.linked_programs.proofs.Adding.{no_handlers}
 use Rattle.linked_programs.proofs.class_handlers.handler_names.Goals as goal
 
 pub returns : goal.returns

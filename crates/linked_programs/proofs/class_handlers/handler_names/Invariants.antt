@@ -1,7 +1,7 @@
 use Rattle.ui_machine.specs.Definition.Lookups.{class_of}
 use Rattle.ui_machine.specs.Rules.EmissionPlan.{handler_in}
 use Rattle.name_tables.specs.Names.{number_of}
-use Rattle.linked_programs.proofs.Adding.{HasUpTo}
+use Rattle.name_tables.specs.Steps.{HasUpTo}
 use Rattle.linked_programs.proofs.class_handlers.handler_names.Given as goal
 
 abbrev pub invariant-classes : goal.invariant-classes

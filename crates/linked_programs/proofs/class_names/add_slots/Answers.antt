@@ -2,7 +2,7 @@ use Rattle.std.proofs.Common.{◌≡◌, ◌+◌, suc, take, sym, ap, ◌∙◌,
 use Rattle.ui_machine.specs.Definition.Lookups.{specs_of}
 use Rattle.ui_machine.specs.Definition.Names.{place_named, same_name}
 use Rattle.name_tables.specs.Names.{number_of, with_number}
-use Rattle.linked_programs.proofs.Adding.{adds_more, place_named-more}
+use Rattle.name_tables.proofs.Adding.{adds_more, place_named-more}
 use Rattle.linked_programs.proofs.class_names.add_slots.Goals as goal
 
 pub loop-spec-preserved : goal.loop-spec-preserved

@@ -2,7 +2,7 @@ use Rattle.std.proofs.Common.{◌-◌, take, length}
 use Rattle.ui_machine.specs.Definition.Lookups.{specs_of}
 use Rattle.ui_machine.specs.Definition.Names.{place_named}
 use Rattle.name_tables.specs.Names.{number_of}
-use Rattle.linked_programs.specs.Steps.{AddsAll}
+use Rattle.name_tables.specs.Steps.{AddsAll}
 use Rattle.linked_programs.proofs.class_names.add_slots.Given as goal
 
 abbrev pub invariant-loop-spec : goal.invariant-loop-spec

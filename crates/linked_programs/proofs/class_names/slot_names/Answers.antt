@@ -2,7 +2,8 @@ use Rattle.std.proofs.Common.{arith}
 use Rattle.ui_machine.specs.Definition.Names.{canonical}
 use Rattle.name_tables.specs.Names.{number_of}
 use Rattle.linked_programs.specs.Steps.{slot_called}
-use Rattle.linked_programs.proofs.Adding.{all_classes, no_slots}
+use Rattle.name_tables.proofs.Adding.{all_classes}
+use Rattle.linked_programs.proofs.Adding.{no_slots}
 use Rattle.linked_programs.proofs.class_names.slot_names.Goals as goal
 
 pub returns : goal.returns

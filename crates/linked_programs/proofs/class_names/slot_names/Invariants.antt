@@ -1,6 +1,6 @@
 use Rattle.name_tables.specs.Names.{number_of}
 use Rattle.linked_programs.specs.Steps.{slot_called}
-use Rattle.linked_programs.proofs.Adding.{HasUpTo}
+use Rattle.name_tables.specs.Steps.{HasUpTo}
 use Rattle.linked_programs.proofs.class_names.slot_names.Given as goal
 
 abbrev pub invariant-classes : goal.invariant-classes

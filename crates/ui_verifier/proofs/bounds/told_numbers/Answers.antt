@@ -1,8 +1,8 @@
 use Rattle.std.proofs.Common.{◌∙◌, sym, ap, subst, ℕ, ◌+◌, max, map, length}
 use Rattle.ui_machine.specs.Definition.{Definition}
 use Rattle.ui_machine.specs.Seq.{listed}
-use Rattle.law_typing.specs.Graph.{graph}
-use Rattle.law_typing.specs.Graph.Channels.{Channel, channels}
+use Rattle.law_typing.specs.Graph.Channels.{Channel}
+use Rattle.law_idle.specs.Idle.{busy_channels, busy_graph}
 use Rattle.law_typing.specs.Graph.Costs.{node_cost}
 use Rattle.law_typing.specs.Graph.Tables.{entry, greatest}
 use Rattle.law_typing.specs.Laws.Capped.{capped}
@@ -28,7 +28,7 @@ build_bound-requires c =
     ∙ (ap (λ vs. listed (value_of s (at_in s) vs) (length c.args.sketch.now.channels.items)) c.as_slice.ensures.value
     ∙ ap (listed f) (sym (mapped_length channel_view c.args.sketch.now.channels.items)))) in
     ap (λ xs. length xs) (costs ∙ costs_are d s n c.requires.sketched c.requires.reckoned)
-    ∙ (mapped_length (λ (x : Channel). capped (node_cost (graph d) (by_cost d s n c.requires.sketched c.requires.reckoned) x)) (channels d)
+    ∙ (mapped_length (λ (x : Channel). capped (node_cost (busy_graph d) (by_cost d s n c.requires.sketched c.requires.reckoned) x)) (busy_channels d)
     ∙ ap (λ cs. length cs) (sym c.requires.known))
 
 pub ranks_of-requires : goal.ranks_of-requires
@@ -68,7 +68,7 @@ depth_of-requires-clause-count c =
     ∙ (ap (λ vs. listed (value_of s (at_in s) vs) (length c.args.sketch.now.channels.items)) c.as_slice-3.ensures.value
     ∙ ap (listed f) (sym (mapped_length channel_view c.args.sketch.now.channels.items)))) in
     ap (λ xs. length xs) (depths ∙ depths_are d s n c.requires.sketched c.requires.reckoned)
-    ∙ (mapped_length (λ (x : Channel). entry (by_depth d s n c.requires.sketched c.requires.reckoned).channels x) (channels d)
+    ∙ (mapped_length (λ (x : Channel). entry (by_depth d s n c.requires.sketched c.requires.reckoned).channels x) (busy_channels d)
     ∙ ap (λ cs. length cs) (sym c.requires.known))
 
 pub returns : goal.returns
@@ -87,24 +87,24 @@ returns c =
     ∙ (ap (λ vs. listed (value_of s (at_in s) vs) (length c.args.sketch.now.channels.items)) c.as_slice-3.ensures.value
     ∙ ap (listed (value_of s (at_in s) n.depths.items)) (sym count)) in
     let objects = c.limits-objects.ensures.objects ∙ ap (λ (x : Definition). x.most_objects) c.definition.ensures in
-    let costs_given = subst (λ cs. GivesCapped cs c.as_slice-7.result.now (node_cost (graph d) (by_cost d s n c.requires.sketched c.requires.reckoned))) (sym c.requires.known)
-    (subst (λ vs. GivesCapped (channels d) vs (node_cost (graph d) (by_cost d s n c.requires.sketched c.requires.reckoned))) (sym (c.as_slice-7.ensures.value ∙ is_costs))
+    let costs_given = subst (λ cs. GivesCapped cs c.as_slice-7.result.now (node_cost (busy_graph d) (by_cost d s n c.requires.sketched c.requires.reckoned))) (sym c.requires.known)
+    (subst (λ vs. GivesCapped (busy_channels d) vs (node_cost (busy_graph d) (by_cost d s n c.requires.sketched c.requires.reckoned))) (sym (c.as_slice-7.ensures.value ∙ is_costs))
     (gives_costs d s n c.requires.sketched c.requires.reckoned)) in
     let depths_given = subst (λ cs. Gives cs c.as_slice-10.result.now (entry (by_depth d s n c.requires.sketched c.requires.reckoned).channels)) (sym c.requires.known)
-    (subst (λ vs. Gives (channels d) vs (entry (by_depth d s n c.requires.sketched c.requires.reckoned).channels)) (sym (c.as_slice-10.ensures.value ∙ is_depths))
+    (subst (λ vs. Gives (busy_channels d) vs (entry (by_depth d s n c.requires.sketched c.requires.reckoned).channels)) (sym (c.as_slice-10.ensures.value ∙ is_depths))
     (gives_depths d s n c.requires.sketched c.requires.reckoned)) in
     record {
       ranks = c.in_ok-ranks-2.ensures ∙ (c.as_slice-5.ensures.value ∙ (is_ranks ∙ ranks_are d s n c.requires.sketched c.requires.reckoned));
       bounds = c.in_ok-bounds.ensures
           ∙ (ap (with_objects c.limits-objects.result.objects) (c.as_slice-6.ensures.value ∙ is_costs)
           ∙ (ap (λ k. with_objects k (cost_list d s n c.requires.sketched c.requires.reckoned)) objects ∙ bounds_are d s n c.requires.sketched c.requires.reckoned));
-      build = c.in_ok-build.ensures (node_cost (graph d) (by_cost d s n c.requires.sketched c.requires.reckoned)) costs_given
-          ∙ ap (λ k. capped (build_cost d (node_cost (graph d) (by_cost d s n c.requires.sketched c.requires.reckoned)) + k)) objects;
+      build = c.in_ok-build.ensures (node_cost (busy_graph d) (by_cost d s n c.requires.sketched c.requires.reckoned)) costs_given
+          ∙ ap (λ k. capped (build_cost d (node_cost (busy_graph d) (by_cost d s n c.requires.sketched c.requires.reckoned)) + k)) objects;
       sources = c.in_ok-sources.ensures
           ∙ (ap (map (λ (p : ℕ). (p, capped (of_node c.as_slice-8.result.now (at c.args.layout.now (program p)) + c.limits-objects.result.objects)))) (c.as_slice-9.ensures.value ∙ c.in_ok-named.ensures)
-          ∙ (ap (λ vs. map {B = ℕ × ℕ} (λ (p : ℕ). (p, capped (of_node vs (at c.args.layout.now (program p)) + c.limits-objects.result.objects))) (graph d).sources) c.as_slice-8.ensures.value
-          ∙ (ap (λ (k : Counts). map {B = ℕ × ℕ} (λ (p : ℕ). (p, capped (of_node n.costs.items (at k (program p)) + c.limits-objects.result.objects))) (graph d).sources) c.requires.counted
-          ∙ (ap (λ k. map {B = ℕ × ℕ} (λ (p : ℕ). (p, capped (of_node n.costs.items (at_in s (program p)) + k))) (graph d).sources) objects
+          ∙ (ap (λ vs. map {B = ℕ × ℕ} (λ (p : ℕ). (p, capped (of_node vs (at c.args.layout.now (program p)) + c.limits-objects.result.objects))) (busy_graph d).sources) c.as_slice-8.ensures.value
+          ∙ (ap (λ (k : Counts). map {B = ℕ × ℕ} (λ (p : ℕ). (p, capped (of_node n.costs.items (at k (program p)) + c.limits-objects.result.objects))) (busy_graph d).sources) c.requires.counted
+          ∙ (ap (λ k. map {B = ℕ × ℕ} (λ (p : ℕ). (p, capped (of_node n.costs.items (at_in s (program p)) + k))) (busy_graph d).sources) objects
           ∙ sources_are d s n c.requires.sketched c.requires.reckoned))));
       depth = c.in_ok-depth.ensures (entry (by_depth d s n c.requires.sketched c.requires.reckoned).channels) depths_given
           ∙ (ap (λ vs. max (greatest (λ (k : ℕ). k) vs) (max (greatest (λ (k : ℕ). k) c.as_slice-11.result.now) (makings_depth d (entry (by_depth d s n c.requires.sketched c.requires.reckoned).channels)))) (c.as_slice-10.ensures.value ∙ is_depths)

@@ -1,20 +1,39 @@
 use Rattle.std.proofs.Common.{◌∙◌, sym, ap, subst, All}
 use Rattle.ui_machine.specs.Definition.{Definition}
-use Rattle.law_typing.specs.Graph.{graph}
+use Rattle.law_idle.specs.Idle.{busy_graph}
 use Rattle.graph_sketches.specs.View.{sketch_view}
 use Rattle.graph_numbers.specs.Links.{NamesBelow, links_view}
-use Rattle.graph_numbers.specs.Reckonings.{AreFewNumbers, IsCycleOnce, Reckons}
+use Rattle.graph_numbers.specs.Reckonings.{AreFewNumbers, AreGraphNumbers, IsCycleOnce, Reckons}
 use Rattle.ui_verifier.specs.Verdicts.{IsRefusal}
+use Rattle.ui_verifier.proofs.ToldNumbers.{by_cost, by_depth, by_rank}
 use Rattle.ui_verifier.proofs.verdicts.judge_sketch.Goals as goal
 
-pub judge_numbers-requires-clause-reckoned : goal.judge_numbers-requires-clause-reckoned
-judge_numbers-requires-clause-reckoned c =
+pub told_numbers-requires-clause-reckoned : goal.told_numbers-requires-clause-reckoned
+told_numbers-requires-clause-reckoned c =
     let d = c.args.lookups.now in
     let handlers = sym (c.limits.ensures.handlers ∙ ap (λ (x : Definition). x.most_handlers) c.definition-definition.ensures) in
-    subst (Reckons (graph d) (sketch_view c.args.sketch.now)) c.in-Numbers.is (c.in_ok-nodes.ensures.reckoned (graph d) c.requires.sketched handlers)
+    subst (Reckons (busy_graph d) (sketch_view c.args.sketch.now)) c.in-Numbers.is (c.in_ok-nodes.ensures.reckoned (busy_graph d) c.requires.sketched handlers)
 
-pub judge_numbers-requires-clause-few : goal.judge_numbers-requires-clause-few
-judge_numbers-requires-clause-few c = subst AreFewNumbers c.in-Numbers.is c.in_ok-nodes.ensures.few
+pub told_numbers-requires-clause-few : goal.told_numbers-requires-clause-few
+told_numbers-requires-clause-few c = subst AreFewNumbers c.in-Numbers.is c.in_ok-nodes.ensures.few
+
+pub judge_numbers-requires-clause-told : goal.judge_numbers-requires-clause-told
+judge_numbers-requires-clause-told c =
+    let d = c.args.lookups.now in
+    let s = sketch_view c.args.sketch.now in
+    let n = c.in-Numbers.nodes in
+    let handlers = sym (c.limits.ensures.handlers ∙ ap (λ (x : Definition). x.most_handlers) c.definition-definition.ensures) in
+    let numbers : AreGraphNumbers (busy_graph d) s n =
+    subst (Reckons (busy_graph d) s) c.in-Numbers.is (c.in_ok-nodes.ensures.reckoned (busy_graph d) c.requires.sketched handlers) in
+    record {
+      by_rank = by_rank d s n c.requires.sketched numbers;
+      by_cost = by_cost d s n c.requires.sketched numbers;
+      by_depth = by_depth d s n c.requires.sketched numbers;
+      ranking = numbers.ranks;
+      solves_costs = numbers.costs;
+      solves_depths = numbers.depths;
+      capped = c.in_ok-told-in-Numbers.ensures;
+    }
 
 pub cycle_refusal-requires-clause-few : goal.cycle_refusal-requires-clause-few
 cycle_refusal-requires-clause-few c =
@@ -24,10 +43,10 @@ pub cycle_refusal-requires-clause-cycle : goal.cycle_refusal-requires-clause-cyc
 cycle_refusal-requires-clause-cycle c =
     let d = c.args.lookups.now in
     let handlers = sym (c.limits.ensures.handlers ∙ ap (λ (x : Definition). x.most_handlers) c.definition-definition.ensures) in
-    let once : IsCycleOnce (graph d) (links_view (graph d) c.in-Cycle.links.items) =
-    subst (Reckons (graph d) (sketch_view c.args.sketch.now)) c.in-Cycle.is (c.in_ok-nodes.ensures.reckoned (graph d) c.requires.sketched handlers) in
-    subst (λ (x : Definition). IsCycleOnce (graph x) (links_view (graph x) c.as_slice.result.now)) (sym c.definition-definition.ensures)
-    (subst (λ ls. IsCycleOnce (graph d) (links_view (graph d) ls)) (sym c.as_slice.ensures.value) once)
+    let once : IsCycleOnce (busy_graph d) (links_view (busy_graph d) c.in-Cycle.links.items) =
+    subst (Reckons (busy_graph d) (sketch_view c.args.sketch.now)) c.in-Cycle.is (c.in_ok-nodes.ensures.reckoned (busy_graph d) c.requires.sketched handlers) in
+    subst (λ (x : Definition). IsCycleOnce (busy_graph x) (links_view (busy_graph x) c.as_slice.result.now)) (sym c.definition-definition.ensures)
+    (subst (λ ls. IsCycleOnce (busy_graph d) (links_view (busy_graph d) ls)) (sym c.as_slice.ensures.value) once)
 
 pub returns : goal.returns
 returns c = subst (λ (x : Definition). IsRefusal x c.in_ok-refusal-in-Cycle.refusal) c.definition-definition.ensures c.in_ok-refusal-in-Cycle.ensures

@@ -1,7 +1,7 @@
 use Rattle.std.proofs.Common.{◌≡◌, ◌+◌, suc, take, sym, ap, ◌∙◌, arith}
 use Rattle.ui_machine.specs.Definition.Names.{place_named}
 use Rattle.linked_programs.specs.Rows.{method_of}
-use Rattle.linked_programs.proofs.Adding.{adds_more, place_named-more}
+use Rattle.name_tables.proofs.Adding.{adds_more, place_named-more}
 use Rattle.linked_programs.proofs.method_rows.MethodRows.add_shape.Goals as goal
 
 pub loop-method-preserved : goal.loop-method-preserved

@@ -1,7 +1,7 @@
 use Rattle.std.proofs.Common.{◌-◌, take, length}
 use Rattle.ui_machine.specs.Definition.Names.{place_named}
 use Rattle.linked_programs.specs.Rows.{method_of}
-use Rattle.linked_programs.specs.Steps.{AddsAll}
+use Rattle.name_tables.specs.Steps.{AddsAll}
 use Rattle.linked_programs.proofs.method_rows.MethodRows.add_shape.Given as goal
 
 abbrev pub invariant-loop-method : goal.invariant-loop-method

@@ -1,7 +1,7 @@
 use Rattle.ui_machine.specs.Definition.Names.{place_named}
 use Rattle.linked_programs.specs.Rows.{method_of}
 use Rattle.linked_programs.specs.Steps.{method_called}
-use Rattle.linked_programs.proofs.Adding.{up_to_more}
+use Rattle.name_tables.proofs.Adding.{up_to_more}
 use Rattle.linked_programs.proofs.Naming.{its_methods}
 use Rattle.linked_programs.proofs.method_rows.MethodRows.new.Goals as goal
 

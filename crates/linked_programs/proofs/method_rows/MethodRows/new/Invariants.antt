@@ -1,6 +1,6 @@
 use Rattle.linked_programs.specs.Rows.{method_of}
 use Rattle.linked_programs.specs.Steps.{method_called}
-use Rattle.linked_programs.proofs.Adding.{HasUpTo}
+use Rattle.name_tables.specs.Steps.{HasUpTo}
 use Rattle.linked_programs.proofs.method_rows.MethodRows.new.Given as goal
 
 abbrev pub invariant-shapes : goal.invariant-shapes

@@ -1,0 +1,3 @@
+pub mod Bells
+pub mod Numbers
+pub mod Texts

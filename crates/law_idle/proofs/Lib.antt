@@ -1,0 +1,2 @@
+pub mod IdleProofs
+pub mod Resting

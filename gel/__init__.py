@@ -1,0 +1,1 @@
+"""The language `gel`: definitions written for people. docs/gel.md describes it."""
