@@ -1,5 +1,5 @@
 -- The programs that the classes of a definition name for signals.
-use Rattle.std.proofs.Common.{◌≡◌, ℕ, zero, suc, ◌<◌, ◌≤◌, List, [], length, None, option_and_then, slice_get, refl, sym, ap, ◌∙◌, arith, inl, inr}
+use Rattle.std.proofs.Common.{◌≡◌, ℕ, zero, suc, ◌<◌, ◌≤◌, List, [], length, refl, sym, ap, ◌∙◌, arith, inl, inr}
 use Rattle.std.proofs.Math.Path.{fun_ext}
 use Rattle.std.proofs.lemmas.Bool.{cases_lt}
 use Rattle.ui_machine.specs.Seq.{read, listed}
@@ -8,12 +8,12 @@ use Rattle.ui_machine.specs.Definition.Lookups.{class_of, no_class}
 use Rattle.ui_machine.specs.Definition.Signals.{ClassHandler, Signal}
 use Rattle.ui_machine.specs.Definition.Types.{GType}
 use Rattle.ui_machine.specs.Rules.Ancestry.{lineage}
-use Rattle.ui_machine.specs.Rules.EmissionPlan.{class_handler_of, first_given, handler_in, signal_of}
+use Rattle.ui_machine.specs.Rules.EmissionPlan.{class_handler_of, first_given, handler_in}
 use Rattle.ui_machine.proofs.Listed.{read-listed, length-listed}
 use Rattle.signal_core.specs.Sources.{signals_of}
 use Rattle.signal_core.specs.Table.{class_handler_named, named_of}
 use Rattle.definition_format.specs.Meaning.{IsSound, Parts, class_in, meaning}
-use Rattle.definition_format.proofs.Tables.{known_signals, signal_known, signal_unknown, unknown_signals}
+use Rattle.definition_format.proofs.Tables.{known_signals, unknown_signals}
 
 read_past : {A : Type 0} (d : A) (f : ℕ → A) (n i : ℕ) → n ≤ i → read d (listed f n) i ≡ d
 read_past d f zero i h = refl
@@ -42,19 +42,10 @@ module _ (p : Parts) (sound : IsSound p) (d : Definition) (is : meaning p ≡ d)
     | inr past ↦ sound.handlers class past ∙ unknown_handlers p d is class past
   ]
 
-  pub known_handler : (class number : ℕ) → class < length p.types →
-      option_and_then (λ (s : Signal). class_handler_named p.types p.declared.handlers class s.name) (slice_get (signals_of p.types p.declared.signals class) number)
-      ≡ option_and_then (λ (s : Signal). class_handler_of d class s.name) (signal_of d class number)
-  known_handler class number known =
-      ap (λ (types : List GType). option_and_then (λ (s : Signal). class_handler_named types p.declared.handlers class s.name) (slice_get (signals_of p.types p.declared.signals class) number))
-      (ap (λ (e : Definition). e.types) is)
-      ∙ (ap (λ (handlers : ℕ → List ClassHandler). option_and_then (λ (s : Signal). first_given (λ c. handler_in (handlers c) s.name) (lineage d.types class)) (slice_get (signals_of p.types p.declared.signals class) number))
-      (fun_ext handlers_are)
-      ∙ ap (option_and_then (λ (s : Signal). class_handler_of d class s.name)) (signal_known p class d is known number))
-
-  pub unknown_handler : (class number : ℕ) → length p.types ≤ class →
-      None ≡ option_and_then (λ (s : Signal). class_handler_of d class s.name) (signal_of d class number)
-  unknown_handler class number past = ap (option_and_then (λ (s : Signal). class_handler_of d class s.name)) (signal_unknown p class d is past number)
+  pub handler_is : (class : ℕ) (name : List ℕ) → class_handler_named p.types p.declared.handlers class name ≡ class_handler_of d class name
+  handler_is class name =
+      ap (λ (types : List GType). class_handler_named types p.declared.handlers class name) (ap (λ (e : Definition). e.types) is)
+      ∙ ap (λ (handlers : ℕ → List ClassHandler). first_given (λ c. handler_in (handlers c) name) (lineage d.types class)) (fun_ext handlers_are)
 
 -- how many signals a class has
 module _ (p : Parts) (d : Definition) (is : meaning p ≡ d) where

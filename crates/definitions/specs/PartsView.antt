@@ -7,7 +7,7 @@ use Rattle.param_specs.specs.SlotRows.{HasSlots}
 use Rattle.param_specs.specs.declared.slots.SlotPlace.{SlotPlace}
 use Rattle.signal_core.specs.SignalRows.{HasSignals}
 use Rattle.signal_core.specs.declared.signal_rows.SignalPlace.{SignalPlace}
-use Rattle.definitions.specs.ClassNames.{AreSignals}
+use Rattle.definitions.specs.ClassNames.{AreHandlerNames, AreSignals}
 use Rattle.definitions.specs.declared.parts.Parts.{Parts}
 
 abbrev pub parts_of : Parts → pure.Parts
@@ -18,10 +18,12 @@ pub record AreRead (p : pure.Parts) : Type 0 where
   pub sound : pure.IsSound p
   pub denoted : IsDenoted (pure.meaning p)
 
--- parts as a definition keeps them, with where the slots and the signals of its classes are, and the numbers of signals by name
-pub record AreKept (p : pure.Parts) (slots : List (List SlotPlace)) (rows : List (List SignalPlace)) (names : List Named) : Type 0 where
+-- parts as a definition keeps them, with where the slots and the signals of its classes are, and by name the numbers of signals and the programs
+-- that its classes run for them
+pub record AreKept (p : pure.Parts) (slots : List (List SlotPlace)) (rows : List (List SignalPlace)) (names handlers : List Named) : Type 0 where
   pub sound : pure.IsSound p
   pub denoted : IsDenoted (pure.meaning p)
   pub placed : HasSlots p.types p.specs slots
   pub signals : HasSignals p.types p.declared.signals rows
   pub named : AreSignals (pure.meaning p) names
+  pub handled : AreHandlerNames p.types p.declared.handlers handlers

@@ -20,12 +20,13 @@ ghost use Rattle.definitions.specs.ClassNames.{AreSignals};
 ghost use Rattle.definitions.specs.EntryView.{entry_view};
 ghost use Rattle.definitions.specs.PartsView.{AreRead, parts_of};
 
+use crate::handler_names::handler_names;
 use crate::object_entries::ObjectEntry;
 use crate::parts::Parts;
 use crate::places::{Objects, Prototypes, place_in, position_of};
 use crate::programs::{Programs, number_of};
 use crate::shapes::{Shapes, shape_number};
-use crate::signal_names::{number_in, signal_names};
+use crate::signal_names::{number_as_given, number_in, signal_names};
 use crate::types::type_name;
 use bytecode::Program;
 use definition_format::Bind;
@@ -62,6 +63,8 @@ pub struct Definition {
     rows: SignalRows,
     // The numbers of the signals of each class, by name.
     signal_names: NameTable,
+    // The programs that each class runs for signals, by name.
+    handler_names: NameTable,
 }
 
 impl Model for Definition {
@@ -74,7 +77,7 @@ impl Model for Definition {
 
     ghost view = { λ d. meaning (parts d.types d.specs d.signals d.constructed.items d.shapes.entries d.shaped.items d.programs.entries d.prototypes.entries d.objects.entries d.bindings.items d.limits) };
 
-    ghost invariant = { λ d. AreKept (parts d.types d.specs d.signals d.constructed.items d.shapes.entries d.shaped.items d.programs.entries d.prototypes.entries d.objects.entries d.bindings.items d.limits) d.slots d.rows d.signal_names };
+    ghost invariant = { λ d. AreKept (parts d.types d.specs d.signals d.constructed.items d.shapes.entries d.shaped.items d.programs.entries d.prototypes.entries d.objects.entries d.bindings.items d.limits) d.slots d.rows d.signal_names d.handler_names };
 }
 
 impl Definition {
@@ -90,6 +93,7 @@ impl Definition {
         let slots = SlotTable::new(alloc, &parts.types, &parts.specs)?;
         let rows = SignalRows::new(alloc, &parts.types, &parts.signals)?;
         let signal_names = signal_names(alloc, &parts.types, &parts.signals, &rows)?;
+        let handler_names = handler_names(alloc, &parts.types, &parts.signals)?;
         Ok(Definition {
             types: parts.types,
             specs: parts.specs,
@@ -105,6 +109,7 @@ impl Definition {
             slots,
             rows,
             signal_names,
+            handler_names,
         })
     }
 
@@ -278,10 +283,8 @@ impl Definition {
     pub fn class_handler(&self, class: TypeId, number: SignalId) -> Option<ProgramId>
         ensures { result ≡ option_and_then (λ s. class_handler_of self.now class s.name) (signal_of self.now class number) }
     {
-        if class.index() >= self.types.len() {
-            return None;
-        }
-        self.signals.class_handler(&self.types, class, number)
+        let signal = self.signal(class, number)?;
+        number_as_given(&self.handler_names, class, signal.name)
     }
 
     /// Returns the emission with which an object emits the signal with this number of its class, with a detail. Returns `None` if the class

@@ -2,6 +2,7 @@
 #![tactic(auto)]
 
 mod definition;
+mod handler_names;
 mod object_entries;
 mod parts;
 pub mod places;

@@ -65,8 +65,8 @@ pub(crate) fn signal_names(
     Ok(names)
 }
 
-// Returns the number that a name has in a class, in the spelling in which it is given.
-fn number_as_given(names: &NameTable, class: TypeId, name: &str) -> Option<u16>
+/// Returns the number that a name has in a class, in the spelling in which it is given.
+pub(crate) fn number_as_given(names: &NameTable, class: TypeId, name: &str) -> Option<u16>
     ensures { result ≡ number_of names.now class name.now }
 {
     names.number(class, names.find(name)?)

@@ -1,5 +1,5 @@
 -- The programs that classes run for signals, class by class.
-use Rattle.std.proofs.Common.{◌≡◌, ◌<◌, ◌≤◌, ◌++◌, ◌∷◌, ℕ, zero, suc, List, [], Option, None, IfSome, length, slice_get, refl, sym, ap, subst, inl, inr, arith}
+use Rattle.std.proofs.Common.{◌≡◌, ◌+◌, ◌<◌, ◌≤◌, ◌++◌, ◌∷◌, ◌∙◌, ℕ, zero, suc, List, [], Option, None, Some, IfSome, length, option_and_then, slice_get, take, refl, sym, ap, subst, inl, inr, arith}
 use Rattle.std.proofs.lemmas.Bool.{cases_lt}
 use Rattle.ui_machine.specs.Definition.{Definition}
 use Rattle.ui_machine.specs.Definition.Lookups.{class_of, no_class}
@@ -8,8 +8,19 @@ use Rattle.ui_machine.specs.Rules.EmissionPlan.{class_handler_of}
 use Rattle.ui_machine.specs.Seq.{read}
 use Rattle.linked_programs.specs.Linked.{AreHandlers, handler_at}
 use Rattle.linked_programs.specs.Steps.{ArePairwise, IsHandler}
-use Rattle.linked_programs.proofs.Linking.{pairwise_at}
+use Rattle.definitions.proofs.ClassNames.{past_last}
+use Rattle.linked_programs.proofs.Linking.{pairwise_at, pairwise_more}
 use Rattle.linked_programs.proofs.Reading.{read-past}
+
+-- one signal more of a class
+pub handled_more : (d : Definition) (class : ℕ) (signals : List Signal) (n : ℕ) (row new : List (Option ℕ)) (p : Option ℕ) → n < length signals
+    → p ≡ option_and_then (λ (s : Signal). class_handler_of d class s.name) (slice_get signals n) → new ≡ row ++ p ∷ []
+    → ArePairwise (IsHandler d class) (take n signals) row → ArePairwise (IsHandler d class) (take (n + 1) signals) new
+handled_more d class signals n row new p within is more so = by (slice_get signals n) refl
+  where
+    by : (o : Option Signal) → slice_get signals n ≡ o → ArePairwise (IsHandler d class) (take (n + 1) signals) new
+    by None e = absurd (let past = past_last signals n e in omega (arith, within, past))
+    by (Some s) e = pairwise_more (IsHandler d class) signals n s row new p e more (is ∙ ap (option_and_then (λ (s : Signal). class_handler_of d class s.name)) e) so
 
 module _ (d : Definition) where
   -- each row is that of a class

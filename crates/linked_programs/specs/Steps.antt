@@ -10,7 +10,7 @@ use Rattle.ui_machine.specs.Definition.Signals.{Method, Signal}
 use Rattle.ui_machine.specs.Rules.EmissionPlan.{class_handler_of}
 use Rattle.ui_machine.specs.State.Bindings.{is_name}
 use Rattle.law_typing.specs.Good.Meanings.{binding_name, shape_methods}
-use Rattle.name_tables.specs.Names.{Named, number_of, with_number}
+use Rattle.name_tables.specs.Names.{with_number}
 use Rattle.definitions.specs.ClassNames.{AreSignals}
 use Rattle.linked_programs.specs.Linked.{AreSlots, IsLink, Linked}
 use Rattle.linked_programs.specs.Rows.{NamedRows, method_of, numbers_of}
@@ -24,10 +24,6 @@ abbrev pub slot_called : Definition → ℕ → List ℕ → Option ℕ
 slot_called d class name = place_named (λ (s : Spec). s.name) (specs_of d class) name
 
 -- ** class handlers
-
--- the programs under the names of signals are those that classes run for these
-abbrev pub AreHandlerNames : Definition → List Named → Type 0
-AreHandlerNames d names = (class : ℕ) (name : List ℕ) → number_of names class name ≡ class_handler_of d class name
 
 -- it is what a class runs for a signal
 abbrev pub IsHandler : Definition → ℕ → Signal → Option ℕ → Type 0

@@ -25,11 +25,12 @@ use Rattle.definition_graph.specs.Numbering.{Key, compared}
 use Rattle.definition_graph.proofs.Numbered.{same_key}
 use Rattle.definition_graph.proofs.Prefixes.{mapped_last}
 use Rattle.raised_channels.specs.Connected.{AddsGroup, AreConnected, ConnectsMore, IsAlike, connected_at, connection_key, connection_over, groups_for, meant_at, placed, programs_of}
-use Rattle.raised_channels.specs.Meanings.{Meant, is_meant, meaning_of, meant}
+use Rattle.raised_channels.specs.Meanings.{Meant, is_meant, meaning_of, meant, of_signal, signal_of_channel}
 use Rattle.raised_channels.specs.declared.connections.Connects.{Connects}
 use Rattle.raised_channels.specs.declared.connections.PlacedGroup.{PlacedGroup}
+use Rattle.raised_channels.specs.declared.signal_lists.SignalLists.{SignalLists}
 use Rattle.raised_channels.proofs.ConnectionKeys.{same_channels}
-use Rattle.raised_channels.proofs.MeantLists.{meant_both, meant_is}
+use Rattle.raised_channels.proofs.MeantLists.{meant_both, meant_is, meant_of_signal}
 
 -- ** members
 
@@ -160,10 +161,10 @@ module _ (d : Definition) where
     groups_new : (c : Channel) (class : ℕ) → class_at d (place_of_channel c) ≡ Some class →
         groups_for new.at.items c ≡ groups_for old.at.items c ++ cond (may_be_at d c class it) (g ∷ []) []
     groups_new c class is =
-        ap (meant c) (adds.placed_at (place_of_channel c) (below_of (place_of_channel c) class is))
-        ∙ (meant_both c (placed old.at.items (place_of_channel c)) (meant_at d kind signal detail g (place_of_channel c))
-        ∙ ap (λ xs. groups_for old.at.items c ++ xs) (meant_here kind signal detail g c class is
-        ∙ ap (λ b. cond b (g ∷ []) []) (sym (may_is kind signal detail (Some p) c class is))))
+        ap (meant c) (adds.placed_at (place_of_channel c) (signal_of_channel c) (below_of (place_of_channel c) class is))
+        ∙ (meant_both c (placed old.at.items (place_of_channel c) (signal_of_channel c)) (of_signal (signal_of_channel c) (meant_at d kind signal detail g (place_of_channel c)))
+        ∙ ap (λ xs. groups_for old.at.items c ++ xs) (meant_of_signal c (meant_at d kind signal detail g (place_of_channel c)) ∙ (meant_here kind signal detail g c class is
+        ∙ ap (λ b. cond b (g ∷ []) []) (sym (may_is kind signal detail (Some p) c class is)))))
 
     group_cases : (c : Channel) (class h : ℕ) → class_at d (place_of_channel c) ≡ Some class → IsIn h (groups_for new.at.items c) →
         IsIn h (groups_for old.at.items c) ⊎ ((may_be_at d c class it ≡ true) × (h ≡ g))
@@ -246,7 +247,7 @@ module _ (d : Definition) where
     new_key basic ns last key are groups at is updates =
         let all = new_group ns are in
         record {
-          places = ap (λ (v : Vec (Vec PlacedGroup Global) Global). length v.items) at ∙ all.places;
+          places = ap (λ (v : Vec (SignalLists PlacedGroup) Global). length v.items) at ∙ all.places;
           there = λ c class h q here k m. all.there c class h q here (at_new c h k) (programs_new h q m);
           back = λ c class q here k. (let f = all.back c class q here k in
               (f.0, subst (λ v. IsIn f.0 (groups_for v.items c)) (sym at) f.1, subst (λ v. IsIn q (read [] (programs_of v.items) f.0)) (sym groups) f.2));
@@ -312,7 +313,7 @@ module _ (d : Definition) where
     pub put_connected : (ns : List Connection) (kind : RegisterKind) (signal : List ℕ) (detail : Option (List ℕ)) → AreConnected d old ns →
         IsAlike d old.at.items g (connection_over d kind signal detail (Some p)) → AreConnected d new (ns ++ connection_over d kind signal detail (Some p) ∷ [])
     put_connected ns kind signal detail are alike = record {
-      places = ap (λ (v : Vec (Vec PlacedGroup Global) Global). length v.items) at ∙ are.places;
+      places = ap (λ (v : Vec (SignalLists PlacedGroup) Global). length v.items) at ∙ are.places;
       there = λ c class h q is k m. there c class h q is (at_old c h k) (put_cases h q m);
       back = λ c class q is k. back c class q is (one_more_program d ns (connection_over d kind signal detail (Some p)) p refl c class q k);
       known = λ c class h is k. (let low = are.known c class h is (at_old c h k) in omega (arith, low, count));
@@ -361,7 +362,7 @@ none_connected d x n none ns are = record {
         by false = refl
 
 -- no groups
-pub no_connects : (d : Definition) (x : Connects) → length x.at.items ≡ length d.places → ((n : ℕ) → placed x.at.items n ≡ []) → x.numbers.entries ≡ [] → AreConnected d x []
+pub no_connects : (d : Definition) (x : Connects) → length x.at.items ≡ length d.places → ((n number : ℕ) → placed x.at.items n number ≡ []) → x.numbers.entries ≡ [] → AreConnected d x []
 no_connects d x places empty none = record {
   places = places;
   there = λ c class g p is k m. absurd (no c g k);
@@ -371,7 +372,7 @@ no_connects d x places empty none = record {
 }
   where
     no : (c : Channel) (g : ℕ) → IsIn g (groups_for x.at.items c) → ⊥
-    no c g k = subst (IsIn g) (ap (meant c) (empty (place_of_channel c))) k
+    no c g k = subst (IsIn g) (ap (meant c) (empty (place_of_channel c) (signal_of_channel c))) k
 
 -- what is at a place after so many of them
 pub next_placed : {A : Type 0} → (n place : ℕ) (old more : List A) →

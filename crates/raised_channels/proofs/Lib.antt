@@ -5,4 +5,5 @@ pub mod Covered
 pub mod Groups
 pub mod MeantLists
 pub mod RaisedByParts
+pub mod SignalLists
 pub mod TransferLists

@@ -1,8 +1,8 @@
 -- Handlers and groups that are for a channel.
-use Rattle.std.proofs.Common.{◌≡◌, ◌∙◌, inl, inr, ◌⊎◌, refl, sym, ap, ℕ, zero, suc, ◌<◌, ◌≤◌, Bool, true, false, cond, List, [], ◌∷◌, ◌++◌, length, map, Vec, Option, None, Some, slice_get, slice_index_or, arith}
-use Rattle.std.specs.Prelude.{option_map}
-use Rattle.std.specs.Global.{Global}
+use Rattle.std.proofs.Common.{◌≡◌, ◌∙◌, inl, inr, ◌⊎◌, refl, sym, ap, ℕ, zero, suc, ◌<◌, ◌≤◌, Bool, true, false, cond, List, [], ◌∷◌, ◌++◌, length, map, nat_eq, append-nil, Option, None, Some, slice_get, slice_index_or, arith}
+use Rattle.std.specs.Prelude.{◌&&◌, option_map}
 use Rattle.std.specs.List.{filter}
+use Rattle.std.proofs.lemmas.Bool.Decides.{nat_tests}
 use Rattle.std.proofs.lemmas.List.Elements.{filter-append}
 use Rattle.std.proofs.lemmas.List.{length-map, map-append}
 use Rattle.std.proofs.lemmas.Option.{none-some, same_Some, slice_get-map, slice_get_past, slice_get_read, slice_get_within}
@@ -17,8 +17,10 @@ use Rattle.ui_machine.specs.declared.ids.Member.{Member}
 use Rattle.ui_machine.specs.declared.ids.Member.TheVariants as members
 use Rattle.definition_graph.specs.ChannelView.{channel_at, channel_of}
 use Rattle.definition_graph.proofs.Prefixes.{listed_get, listed_length}
-use Rattle.raised_channels.specs.Attached.{AreAttached, handler_view}
-use Rattle.raised_channels.specs.Meanings.{Meant, attached_in, attached_meanings, is_meant, meaning_of, meant}
+use Rattle.ui_machine.specs.Rules.Programs.{is_number}
+use Rattle.raised_channels.specs.Attached.{AreAttached, handlers_for}
+use Rattle.raised_channels.specs.Meanings.{Meaning, Meant, attached_in, attached_meanings, is_meant, meaning_of, meant, names, of_signal, signal_of_channel}
+use Rattle.raised_channels.specs.declared.signal_lists.SignalLists.{SignalLists}
 use Rattle.raised_channels.specs.declared.attached_handlers.AttachedHandler.{AttachedHandler}
 
 -- what a signal with a detail means in a class is what it can mean
@@ -32,6 +34,48 @@ pub meant_both : (c : Channel) (xs ys : List Meant) → meant c (xs ++ ys) ≡ m
 meant_both c xs ys =
     ap (map (λ (x : Meant). x.what)) (filter-append (λ (x : Meant). is_meant c x.meaning) xs ys)
     ∙ map-append (λ (x : Meant). x.what) (filter (λ (x : Meant). is_meant c x.meaning) xs) (filter (λ (x : Meant). is_meant c x.meaning) ys)
+
+pub of_signal_both : (number : ℕ) (xs ys : List Meant) → of_signal number (xs ++ ys) ≡ of_signal number xs ++ of_signal number ys
+of_signal_both number xs ys = filter-append (λ (x : Meant). is_number number x.meaning.signal) xs ys
+
+-- what is for another signal is not meant
+not_meant : (c : Channel) (m : Meaning) → is_number (signal_of_channel c) m.signal ≡ false → is_meant c m ≡ false
+not_meant (constructed place) m other = refl
+not_meant (property place slot) m other = ap (λ b. b && names m.detail slot) other
+not_meant (signal place number) m other = other
+
+-- what is for a channel is for its signal
+pub meant_of_signal : (c : Channel) (xs : List Meant) → meant c (of_signal (signal_of_channel c) xs) ≡ meant c xs
+meant_of_signal c [] = refl
+meant_of_signal c (x ∷ xs) = by (is_number (signal_of_channel c) x.meaning.signal) refl (meant_of_signal c xs)
+  where
+    rest : List Meant
+    rest = of_signal (signal_of_channel c) xs
+
+    one : (b : Bool) → meant c rest ≡ meant c xs
+        → map (λ (y : Meant). y.what) (cond b (x ∷ filter (λ (y : Meant). is_meant c y.meaning) rest) (filter (λ (y : Meant). is_meant c y.meaning) rest))
+        ≡ map (λ (y : Meant). y.what) (cond b (x ∷ filter (λ (y : Meant). is_meant c y.meaning) xs) (filter (λ (y : Meant). is_meant c y.meaning) xs))
+    one true same = ap (λ l. x.what ∷ l) same
+    one false same = same
+
+    by : (b : Bool) → is_number (signal_of_channel c) x.meaning.signal ≡ b → meant c rest ≡ meant c xs → meant c (cond b (x ∷ rest) rest) ≡ meant c (x ∷ xs)
+    by true e same = one (is_meant c x.meaning) same
+    by false e same =
+        same
+        ∙ sym (ap (λ b. map (λ (y : Meant). y.what) (cond b (x ∷ filter (λ (y : Meant). is_meant c y.meaning) xs) (filter (λ (y : Meant). is_meant c y.meaning) xs))) (not_meant c x.meaning e))
+
+-- a list of a signal that gets one more, seen with what each is for
+pub one_more : {T : Type 0} (view : T → Meant) (old new : List T) (signal number : ℕ) (x : T) → new ≡ cond (nat_eq signal number) (old ++ x ∷ []) old
+    → (view x).meaning.signal ≡ Some signal → map view new ≡ map view old ++ of_signal number (view x ∷ [])
+one_more view old new signal number x is for =
+    ap (map view) is ∙ by (nat_eq signal number) ∙ ap (λ b. map view old ++ cond b (view x ∷ []) []) (sym (ap (is_number number) for ∙ same number signal))
+  where
+    same : (n s : ℕ) → is_number n (Some s) ≡ nat_eq s n
+    same n s = grind (arith, nat_tests)
+
+    by : (b : Bool) → map view (cond b (old ++ x ∷ []) old) ≡ map view old ++ cond b (view x ∷ []) []
+    by true = map-append view old (x ∷ [])
+    by false = sym (append-nil (map view old))
 
 -- ** the handlers of objects
 
@@ -61,18 +105,19 @@ attached_for_is d c (Some class) = attached_is d class c (attached_to d (place_o
 pub no_class : (d : Definition) (place : ℕ) → length d.places ≤ place → class_at d place ≡ None
 no_class d place behind = ap (λ (o : Option Place). option_map (λ (p : Place). p.class) o) (slice_get_past d.places place behind)
 
-pub attached_length : (d : Definition) (lists : List (Vec AttachedHandler Global)) → AreAttached d lists → length lists ≡ length d.places
-attached_length d lists are = sym (length-map lists (λ v. map handler_view v.items)) ∙ (ap length are ∙ listed_length (attached_meanings d) (length d.places))
+pub attached_length : (d : Definition) (lists : List (SignalLists AttachedHandler)) → AreAttached d lists → length lists ≡ length d.places
+attached_length d lists are =
+    sym (length-map lists (λ s. handlers_for s 0)) ∙ (ap length (are 0) ∙ listed_length (λ place. of_signal 0 (attached_meanings d place)) (length d.places))
 
--- the handlers that are kept at a place are its own
-pub attached_at : (d : Definition) (lists : List (Vec AttachedHandler Global)) (place : ℕ) (v : Vec AttachedHandler Global) → AreAttached d lists →
-    slice_get lists place ≡ Some v → map handler_view v.items ≡ attached_meanings d place
-attached_at d lists place v are at =
-    let low = slice_get_within lists place v at in
+-- the handlers that are kept at a place for a signal are its own for the signal
+pub attached_at : (d : Definition) (lists : List (SignalLists AttachedHandler)) (place number : ℕ) (s : SignalLists AttachedHandler) → AreAttached d lists →
+    slice_get lists place ≡ Some s → handlers_for s number ≡ of_signal number (attached_meanings d place)
+attached_at d lists place number s are at =
+    let low = slice_get_within lists place s at in
     let len = attached_length d lists are in
-    same_Some _ _ (ap (option_map (λ (w : Vec AttachedHandler Global). map handler_view w.items)) (sym at)
-    ∙ (sym (slice_get-map (λ (w : Vec AttachedHandler Global). map handler_view w.items) lists place)
-    ∙ (ap (λ xs. slice_get xs place) are ∙ listed_get (attached_meanings d) (length d.places) place (omega (arith, low, len)))))
+    same_Some _ _ (ap (option_map (λ (w : SignalLists AttachedHandler). handlers_for w number)) (sym at)
+    ∙ (sym (slice_get-map (λ (w : SignalLists AttachedHandler). handlers_for w number) lists place)
+    ∙ (ap (λ xs. slice_get xs place) (are number) ∙ listed_get (λ p. of_signal number (attached_meanings d p)) (length d.places) place (omega (arith, low, len)))))
 
 pub got : {A : Type 0} → (xs : List A) (n : ℕ) (x : A) → n < length xs → x ≡ slice_index_or xs n x → slice_get xs n ≡ Some x
 got xs n x within is = slice_get_read xs (length xs) n x refl within is

@@ -23,7 +23,9 @@ use Rattle.raised_channels.specs.ConnectedCode.{connections_if}
 use Rattle.raised_channels.specs.Meanings.{meant}
 use Rattle.raised_channels.specs.Raised.{AreParts, AreRaised, AreSketched, IsSketchedAt, RunsAt}
 use Rattle.raised_channels.specs.declared.channels.ChannelParts.{ChannelParts}
+use Rattle.raised_channels.specs.SignalLists.{list_of}
 use Rattle.raised_channels.specs.declared.connections.PlacedGroup.{PlacedGroup}
+use Rattle.raised_channels.specs.declared.signal_lists.SignalLists.{SignalLists}
 use Rattle.raised_channels.proofs.Groups.{in_both}
 use Rattle.raised_channels.proofs.TransferLists.{known_targets}
 
@@ -44,18 +46,18 @@ connectable_is d c = by (nat_lt 0 d.most_handlers) (class_at d (place_of_channel
     by false (Some class) = refl
 
 -- nothing is at a place that is not there
-no_groups : (d : Definition) (at : List (Vec PlacedGroup Global)) (c : Channel) → length at ≡ length d.places → class_at d (place_of_channel c) ≡ None → groups_for at c ≡ []
-no_groups d at c places none = ap (meant c) (sym (read_past [] (map (λ (v : Vec PlacedGroup Global). map group_view v.items) at) (place_of_channel c) behind))
+no_groups : (d : Definition) (at : List (SignalLists PlacedGroup)) (c : Channel) → length at ≡ length d.places → class_at d (place_of_channel c) ≡ None → groups_for at c ≡ []
+no_groups d at c places none = ap (meant c) (sym (read_past [] (map (λ (s : SignalLists PlacedGroup). map group_view (list_of s (signal_of_channel c))) at) (place_of_channel c) behind))
   where
     no_place : (ps : List Place) (n : ℕ) → option_map (λ (p : Place). p.class) (slice_get ps n) ≡ None → length ps ≤ n
     no_place [] n e = omega arith
     no_place (p ∷ ps) zero e = absurd (none-some p.class (sym e))
     no_place (p ∷ ps) (suc n) e = (let k = no_place ps n e in omega (arith, k))
 
-    behind : length (map (λ (v : Vec PlacedGroup Global). map group_view v.items) at) ≤ place_of_channel c
+    behind : length (map (λ (s : SignalLists PlacedGroup). map group_view (list_of s (signal_of_channel c))) at) ≤ place_of_channel c
     behind =
         let low = no_place d.places (place_of_channel c) none in
-        let e = length-map at (λ (v : Vec PlacedGroup Global). map group_view v.items) in
+        let e = length-map at (λ (s : SignalLists PlacedGroup). map group_view (list_of s (signal_of_channel c))) in
         omega (arith, low, e, places)
 
 same_programs : (d : Definition) (parts : ChannelParts) (c : Channel) → AreConnected d parts.connects (connections_if d) →

@@ -14,32 +14,32 @@ use Rattle.law_typing.proofs.Lists.{same_channel_refl, same_channel_true}
 use Rattle.definition_graph.specs.Numbers.{IsOnce, number_of, numbers_of}
 use Rattle.raised_channels.specs.Transfers.{AreTargets, list_at, target_numbers, targets_in}
 
--- ** a list that gets one more
+-- ** a list that gets more
 
-module _ {A B : Type 0} (f : Vec A Global → List B) where
-  pushed_here : (lists : List (Vec A Global)) (at : ℕ) (v w : Vec A Global) (item : B) → slice_get lists at ≡ Some v → f w ≡ f v ++ item ∷ [] →
-      read [] (map f (slice_set lists at w)) at ≡ read [] (map f lists) at ++ item ∷ []
-  pushed_here [] at v w item is new = absurd (none-some v is)
-  pushed_here (u ∷ us) zero v w item is new = new ∙ ap (λ (x : Vec A Global). f x ++ item ∷ []) (sym (same_Some _ _ is))
-  pushed_here (u ∷ us) (suc at) v w item is new = pushed_here us at v w item is new
+module _ {A B : Type 0} (f : A → List B) where
+  set_here : (lists : List A) (at : ℕ) (v w : A) (more : List B) → slice_get lists at ≡ Some v → f w ≡ f v ++ more →
+      read [] (map f (slice_set lists at w)) at ≡ read [] (map f lists) at ++ more
+  set_here [] at v w more is new = absurd (none-some v is)
+  set_here (u ∷ us) zero v w more is new = new ∙ ap (λ (x : A). f x ++ more) (sym (same_Some _ _ is))
+  set_here (u ∷ us) (suc at) v w more is new = set_here us at v w more is new
 
-  pushed_there : (lists : List (Vec A Global)) (at n : ℕ) (w : Vec A Global) → (at ≡ n → ⊥) → read [] (map f (slice_set lists at w)) n ≡ read [] (map f lists) n
-  pushed_there [] at n w apart = refl
-  pushed_there (u ∷ us) zero zero w apart = absurd (apart refl)
-  pushed_there (u ∷ us) zero (suc n) w apart = refl
-  pushed_there (u ∷ us) (suc at) zero w apart = refl
-  pushed_there (u ∷ us) (suc at) (suc n) w apart = pushed_there us at n w (λ e. apart (ap suc e))
+  set_there : (lists : List A) (at n : ℕ) (w : A) → (at ≡ n → ⊥) → read [] (map f (slice_set lists at w)) n ≡ read [] (map f lists) n
+  set_there [] at n w apart = refl
+  set_there (u ∷ us) zero zero w apart = absurd (apart refl)
+  set_there (u ∷ us) zero (suc n) w apart = refl
+  set_there (u ∷ us) (suc at) zero w apart = refl
+  set_there (u ∷ us) (suc at) (suc n) w apart = set_there us at n w (λ e. apart (ap suc e))
 
-  -- where one list gets one more, seen by a view
-  pub pushed_by : (lists : List (Vec A Global)) (at n : ℕ) (v w : Vec A Global) (item : B) → slice_get lists at ≡ Some v → f w ≡ f v ++ item ∷ [] →
-      read [] (map f (slice_set lists at w)) n ≡ cond (nat_eq at n) (read [] (map f lists) n ++ item ∷ []) (read [] (map f lists) n)
-  pushed_by lists at n v w item is new = by (nat_eq at n) refl
+  -- where one list gets more, seen by a view
+  pub set_by : (lists : List A) (at n : ℕ) (v w : A) (more : List B) → slice_get lists at ≡ Some v → f w ≡ f v ++ more →
+      read [] (map f (slice_set lists at w)) n ≡ cond (nat_eq at n) (read [] (map f lists) n ++ more) (read [] (map f lists) n)
+  set_by lists at n v w more is new = by (nat_eq at n) refl
     where
-      by : (b : Bool) → nat_eq at n ≡ b → read [] (map f (slice_set lists at w)) n ≡ cond b (read [] (map f lists) n ++ item ∷ []) (read [] (map f lists) n)
+      by : (b : Bool) → nat_eq at n ≡ b → read [] (map f (slice_set lists at w)) n ≡ cond b (read [] (map f lists) n ++ more) (read [] (map f lists) n)
       by true e =
           let same = eqb-true at n e in
-          subst (λ m. read [] (map f (slice_set lists at w)) m ≡ read [] (map f lists) m ++ item ∷ []) same (pushed_here lists at v w item is new)
-      by false e = pushed_there lists at n w (λ same. (let t = eq-eqb at n same in differ (nat_eq at n) t e))
+          subst (λ m. read [] (map f (slice_set lists at w)) m ≡ read [] (map f lists) m ++ more) same (set_here lists at v w more is new)
+      by false e = set_there lists at n w (λ same. (let t = eq-eqb at n same in differ (nat_eq at n) t e))
         where
           differ : (b : Bool) → b ≡ true → b ≡ false → ⊥
           differ true p q = absurd (cc)
@@ -47,10 +47,10 @@ module _ {A B : Type 0} (f : Vec A Global → List B) where
 
 pub pushed : {A : Type 0} → (lists : List (Vec A Global)) (at n : ℕ) (v w : Vec A Global) (item : A) → slice_get lists at ≡ Some v → w.items ≡ v.items ++ item ∷ [] →
     list_at (slice_set lists at w) n ≡ cond (nat_eq at n) (list_at lists n ++ item ∷ []) (list_at lists n)
-pushed {A} lists at n v w item is new = pushed_by {A = A} {B = A} (λ (x : Vec A Global). x.items) lists at n v w item is new
+pushed {A} lists at n v w item is new = set_by (λ (x : Vec A Global). x.items) lists at n v w (item ∷ []) is new
 
 -- one more empty list
-pub none_more : {A B : Type 0} (f : Vec A Global → List B) (lists : List (Vec A Global)) (v : Vec A Global) → f v ≡ [] → ((n : ℕ) → read [] (map f lists) n ≡ []) →
+pub none_more : {A B : Type 0} (f : A → List B) (lists : List A) (v : A) → f v ≡ [] → ((n : ℕ) → read [] (map f lists) n ≡ []) →
     (n : ℕ) → read [] (map f (lists ++ v ∷ [])) n ≡ []
 none_more f [] v none all zero = none
 none_more f [] v none all (suc n) = refl

@@ -15,9 +15,11 @@ use Rattle.law_typing.specs.Laws.{IsIn}
 use Rattle.law_typing.specs.Rules.RegisterKinds.{class_at, covers, places}
 use Rattle.definition_graph.specs.Numbering.{Key, compared}
 use Rattle.started_channels.specs.Triggers.{member_key}
-use Rattle.raised_channels.specs.Meanings.{Meant, meaning_of, meaning_view, meant}
+use Rattle.raised_channels.specs.Meanings.{Meant, meaning_of, meaning_view, meant, of_signal, signal_of_channel}
+use Rattle.raised_channels.specs.SignalLists.{list_of}
 use Rattle.raised_channels.specs.declared.connections.PlacedGroup.{PlacedGroup}
 use Rattle.raised_channels.specs.declared.connections.Connects.{Connects}
+use Rattle.raised_channels.specs.declared.signal_lists.SignalLists.{SignalLists}
 
 -- ** keys
 
@@ -48,13 +50,13 @@ connection_key d _ signal detail = None
 abbrev pub group_view : PlacedGroup → Meant
 group_view g = record { what = g.group; meaning = meaning_view g.meaning }
 
--- the groups at a place, and what they are for
-abbrev pub placed : List (Vec PlacedGroup Global) → ℕ → List Meant
-placed at place = read [] (map (λ v. map group_view v.items) at) place
+-- of the groups at a place, those that are for a signal, and what they are for
+abbrev pub placed : List (SignalLists PlacedGroup) → (place number : ℕ) → List Meant
+placed at place number = read [] (map (λ s. map group_view (list_of s number)) at) place
 
 -- the groups that may be at a channel
-abbrev pub groups_for : List (Vec PlacedGroup Global) → Channel → List ℕ
-groups_for at c = meant c (placed at (place_of_channel c))
+abbrev pub groups_for : List (SignalLists PlacedGroup) → Channel → List ℕ
+groups_for at c = meant c (placed at (place_of_channel c) (signal_of_channel c))
 
 -- the programs of groups
 abbrev pub programs_of : List (Vec ℕ Global) → List (List ℕ)
@@ -65,7 +67,7 @@ abbrev pub connected_at : Definition → List Connection → Channel → ℕ →
 connected_at d ns c class = filter_map (λ (n : Connection). n.program) (filter (may_be_at d c class) ns)
 
 -- a group is at those channels at which a connection may be
-abbrev pub IsAlike : Definition → List (Vec PlacedGroup Global) → ℕ → Connection → Type 0
+abbrev pub IsAlike : Definition → List (SignalLists PlacedGroup) → ℕ → Connection → Type 0
 IsAlike d at g n =
     (c : Channel) (class : ℕ) → class_at d (place_of_channel c) ≡ Some class →
     (IsIn g (groups_for at c) → may_be_at d c class n ≡ true) × (may_be_at d c class n ≡ true → IsIn g (groups_for at c))
@@ -107,4 +109,4 @@ pub record AddsGroup (d : Definition) (old new : Connects) (kind : RegisterKind)
   pub groups : programs_of new.groups.items ≡ programs_of old.groups.items ++ (p ∷ []) ∷ []
   pub numbers : new.numbers ≡ old.numbers
   pub places : length new.at.items ≡ length old.at.items
-  pub placed_at : (n : ℕ) → n < length d.places → placed new.at.items n ≡ placed old.at.items n ++ meant_at d kind signal detail g n
+  pub placed_at : (n number : ℕ) → n < length d.places → placed new.at.items n number ≡ placed old.at.items n number ++ of_signal number (meant_at d kind signal detail g n)

@@ -50,6 +50,16 @@ pub record Meant : Type 0 where
 abbrev pub meant : Channel → List Meant → List ℕ
 meant c xs = map (λ (x : Meant). x.what) (filter (λ (x : Meant). is_meant c x.meaning) xs)
 
+-- those that are for the signal of a number, whatever their details
+abbrev pub of_signal : ℕ → List Meant → List Meant
+of_signal n xs = filter (λ (x : Meant). is_number n x.meaning.signal) xs
+
+-- the signal that a channel is of, by its number; the notifications of properties are of `notify`, which is the first
+abbrev pub signal_of_channel : Channel → ℕ
+signal_of_channel (constructed place) = 0
+signal_of_channel (property place slot) = 0
+signal_of_channel (signal place number) = number
+
 -- the handlers that an object of a class names for itself
 abbrev pub attached_in : Definition → ℕ → List Attached → List Meant
 attached_in d class xs = map (λ (a : Attached). record { what = a.program; meaning = meaning_of d class a.signal a.detail }) xs

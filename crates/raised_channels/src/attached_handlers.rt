@@ -1,16 +1,17 @@
 //! The handlers that objects themselves have, and their meanings.
 
-ghost use Rattle.std.specs.Prelude.{◌≡◌, ◌++◌, ◌<◌, ◌∷◌, [], Some, length, map, slice_get, IfOk, OnOk};
+ghost use Rattle.std.specs.Prelude.{◌≡◌, ◌++◌, ◌<◌, ◌∷◌, [], ℕ, Some, length, map, slice_get, IfOk, OnOk};
 ghost use Rattle.ui_machine.specs.Definition.Lookups.{place_at};
 ghost use Rattle.definition_format.specs.Meaning.{attached_view};
 ghost use Rattle.law_typing.specs.Graph.{attached_for, attached_to};
 ghost use Rattle.law_typing.specs.Graph.Channels.{of_class};
 ghost use Rattle.law_typing.specs.Rules.RegisterKinds.{class_at};
 ghost use Rattle.definition_graph.specs.ChannelView.{channel_of};
-ghost use Rattle.raised_channels.specs.Attached.{AreAttached, handler_view};
-ghost use Rattle.raised_channels.specs.Meanings.{attached_in, attached_meanings, meant};
+ghost use Rattle.raised_channels.specs.Attached.{AreAttached, handler_view, handlers_for};
+ghost use Rattle.raised_channels.specs.Meanings.{attached_in, attached_meanings, meant, of_signal};
 
-use crate::meanings::{Meaning, is_meant, meaning_of};
+use crate::meanings::{Meaning, is_meant, meaning_of, signal_of};
+use crate::signal_lists::SignalLists;
 use definition_format::Attached;
 use operand_types::Lookups;
 use std::alloc::{AllocError, Global};
@@ -24,40 +25,53 @@ pub struct AttachedHandler {
     pub meaning: Meaning,
 }
 
-// Returns the handlers of an object of this class.
+// Adds a handler to those for its signal. One for a signal that the class does not have is left out.
+fn add_handler(
+    handlers: &mut SignalLists<AttachedHandler>,
+    handler: AttachedHandler,
+) -> Result<(), AllocError>
+    ensures { OnOk result ((number : ℕ) → handlers_for handlers.new number ≡ handlers_for handlers.old number ++ of_signal number (handler_view handler ∷ [])) }
+{
+    let Some(signal) = handler.meaning.signal else {
+        return Ok(());
+    };
+    handlers.push(signal, handler)
+}
+
+// Returns the handlers of an object of this class, by their signals.
 fn handlers_in(
     alloc: Global,
     lookups: &Lookups<'_>,
     class: TypeId,
     signals: &[Attached],
-) -> Result<Vec<AttachedHandler>, AllocError>
-    ensures { IfOk result (λ handlers. map handler_view handlers.items ≡ attached_in lookups.now class (map attached_view signals.now)) }
+) -> Result<SignalLists<AttachedHandler>, AllocError>
+    ensures { IfOk result (λ handlers. (number : ℕ) → handlers_for handlers number ≡ of_signal number (attached_in lookups.now class (map attached_view signals.now))) }
 {
-    let mut handlers = Vec::new(alloc);
+    let mut handlers = SignalLists::new(alloc);
     for number in 0..signals.len() {
         let attached = &signals[number];
         let program = attached.program;
         let meaning = meaning_of(lookups, class, attached.signal.as_str(), &attached.detail);
-        handlers.push(AttachedHandler { program, meaning })?;
+        add_handler(&mut handlers, AttachedHandler { program, meaning })?;
     }
     Ok(handlers)
 }
 
-// Returns the handlers of a place.
+// Returns the handlers of a place, by their signals.
 fn handlers_at(
     alloc: Global,
     lookups: &Lookups<'_>,
     place: Place,
-) -> Result<Vec<AttachedHandler>, AllocError>
-    ensures { IfOk result (λ handlers. map handler_view handlers.items ≡ attached_meanings lookups.now place.0) }
+) -> Result<SignalLists<AttachedHandler>, AllocError>
+    ensures { IfOk result (λ handlers. (number : ℕ) → handlers_for handlers number ≡ of_signal number (attached_meanings lookups.now place.0)) }
 {
     let Some(entry) = lookups.definition().object(usize::from(place.0)) else {
-        return Ok(Vec::new(alloc));
+        return Ok(SignalLists::new(alloc));
     };
     handlers_in(alloc, lookups, entry.class, entry.signals)
 }
 
-/// Returns the handlers of each place.
+/// Returns the handlers of each place, by their signals.
 ///
 /// # Errors
 ///
@@ -65,7 +79,7 @@ fn handlers_at(
 pub fn attached_handlers(
     alloc: Global,
     lookups: &Lookups<'_>,
-) -> Result<Vec<Vec<AttachedHandler>>, AllocError>
+) -> Result<Vec<SignalLists<AttachedHandler>>, AllocError>
     ensures { IfOk result (λ lists. AreAttached lookups.now lists.items) }
 {
     let mut lists = Vec::new(alloc);
@@ -122,7 +136,7 @@ fn programs_for(
 pub fn attached_for(
     alloc: Global,
     lookups: &Lookups<'_>,
-    lists: &[Vec<AttachedHandler>],
+    lists: &[SignalLists<AttachedHandler>],
     channel: &Channel,
 ) -> Result<Vec<ProgramId>, AllocError>
     requires { AreAttached lookups.now lists.now }
@@ -132,6 +146,7 @@ pub fn attached_for(
     if place >= lists.len() {
         return Ok(Vec::new(alloc));
     }
-    let programs = programs_for(alloc, lists[place].as_slice(), channel)?;
+    let handlers = lists[place].list(signal_of(channel));
+    let programs = programs_for(alloc, handlers, channel)?;
     Ok(programs)
 }

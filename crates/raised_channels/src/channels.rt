@@ -14,6 +14,8 @@ ghost use Rattle.raised_channels.specs.Transfers.{AreTargets};
 use crate::attached_handlers::{AttachedHandler, attached_for, attached_handlers};
 use crate::class_handlers::{class_handler, constructed_at, stages};
 use crate::connections::{Connects, PlacedGroup, connections, groups_for};
+use crate::meanings::signal_of;
+use crate::signal_lists::SignalLists;
 use crate::transfers::{known, transfers};
 use definition_graph::{ChannelNumbers, PairedNumbers};
 use graph_sketches::SketchedChannel;
@@ -31,7 +33,7 @@ pub struct RaisedChannels {
 // The parts from which the channels of a definition are put together.
 #[derive(Drop)]
 struct ChannelParts {
-    attached: Vec<Vec<AttachedHandler>>,
+    attached: Vec<SignalLists<AttachedHandler>>,
     transfers: Vec<Vec<Option<u32>>>,
     connects: Connects,
 }
@@ -50,7 +52,7 @@ fn emits(channel: &Channel) -> bool
 fn handlers_for(
     alloc: Global,
     lookups: &Lookups<'_>,
-    attached: &[Vec<AttachedHandler>],
+    attached: &[SignalLists<AttachedHandler>],
     channel: &Channel,
 ) -> Result<Vec<ProgramId>, AllocError>
     requires { AreAttached lookups.now attached.now }
@@ -65,7 +67,7 @@ fn handlers_for(
 // Returns the groups that may be connected at a channel.
 fn groups_at(
     alloc: Global,
-    at: &[Vec<PlacedGroup>],
+    at: &[SignalLists<PlacedGroup>],
     channel: &Channel,
 ) -> Result<Vec<u32>, AllocError>
     ensures { IfOk result (λ groups. groups.items ≡ groups_for at.now (channel_of channel.now)) }
@@ -74,7 +76,7 @@ fn groups_at(
     if place >= at.len() {
         return Ok(Vec::new(alloc));
     }
-    let groups = groups_for(alloc, at[place].as_slice(), channel)?;
+    let groups = groups_for(alloc, at[place].list(signal_of(channel)), channel)?;
     Ok(groups)
 }
 

@@ -9,12 +9,13 @@ ghost use Rattle.operand_types.specs.Views.{kinds_of};
 ghost use Rattle.definition_graph.specs.ChannelView.{channel_of};
 ghost use Rattle.raised_channels.specs.Connected.{AddsGroup, AreConnected, ConnectsMore, connection_key, connection_over, group_view, meant_at, placed, programs_of};
 ghost use Rattle.raised_channels.specs.ConnectedCode.{blocks_connections, code_connections};
-ghost use Rattle.raised_channels.specs.Meanings.{meant};
+ghost use Rattle.raised_channels.specs.Meanings.{meant, of_signal};
 ghost use Rattle.ui_machine.specs.Definition.Lookups.{program_of};
 ghost use Rattle.ui_machine.specs.Seq.{read};
 
 use crate::connection_keys::{Key, connection_key};
 use crate::meanings::{Meaning, is_meant, meaning_of};
+use crate::signal_lists::SignalLists;
 use bytecode::{Block, Connection, Instruction, Program, RegisterKind, SignalInstruction};
 use operand_types::Lookups;
 use operand_types::lists::copy;
@@ -35,7 +36,7 @@ pub struct PlacedGroup {
 #[derive(Drop)]
 pub struct Connects {
     pub groups: Vec<Vec<ProgramId>>,
-    pub at: Vec<Vec<PlacedGroup>>,
+    pub at: Vec<SignalLists<PlacedGroup>>,
     pub numbers: BTreeMap<(u16, u16, u16), u32>,
 }
 
@@ -51,7 +52,7 @@ impl Connects {
     {
         let mut at = Vec::new(alloc);
         for _place in 0..lookups.definition().place_count() {
-            at.push(Vec::new(alloc))?;
+            at.push(SignalLists::new(alloc))?;
         }
         Ok(Connects {
             groups: Vec::new(alloc),
@@ -75,9 +76,10 @@ impl Connects {
         ensures groups { OnOk result (self.new.groups ≡ self.old.groups) }
         ensures numbers { OnOk result (self.new.numbers ≡ self.old.numbers) }
         ensures places { OnOk result (length self.new.at.items ≡ length self.old.at.items) }
-        ensures placed { OnOk result ((n : ℕ) → placed self.new.at.items n ≡ cond (nat_eq place n)
-            (placed self.old.at.items n ++ meant_at lookups.now (register_kind_view kind.now) (string_bytes connection.now.signal) (option_map string_bytes connection.now.detail) group n)
-            (placed self.old.at.items n)) }
+        ensures placed { OnOk result ((n number : ℕ) → placed self.new.at.items n number ≡ cond (nat_eq place n)
+            (placed self.old.at.items n number
+            ++ of_signal number (meant_at lookups.now (register_kind_view kind.now) (string_bytes connection.now.signal) (option_map string_bytes connection.now.detail) group n))
+            (placed self.old.at.items n number)) }
     {
         let place_id = Place(place as u16);
         if !is_covered(lookups, kind, place_id) {
@@ -92,8 +94,11 @@ impl Connects {
             connection.signal.as_str(),
             &connection.detail,
         );
-        let list = &mut self.at[place];
-        list.push(PlacedGroup { group, meaning })?;
+        let Some(signal) = meaning.signal else {
+            return Ok(());
+        };
+        let groups = &mut self.at[place];
+        groups.push(signal, PlacedGroup { group, meaning })?;
         Ok(())
     }
 

@@ -9,6 +9,7 @@ mod class_handlers;
 mod connection_keys;
 mod connections;
 mod meanings;
+mod signal_lists;
 mod transfers;
 
 pub use channels::{RaisedChannels, raised_channels};

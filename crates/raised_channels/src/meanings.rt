@@ -4,7 +4,7 @@ ghost use Rattle.std.specs.Prelude.{◌≡◌, option_map, string_bytes};
 ghost use Rattle.ui_machine.specs.Definition.Lookups.{slot_of};
 ghost use Rattle.ui_machine.specs.Rules.Programs.{is_number};
 ghost use Rattle.definition_graph.specs.ChannelView.{channel_of};
-ghost use Rattle.raised_channels.specs.Meanings.{detail_view, is_meant, meaning_of, meaning_view, names};
+ghost use Rattle.raised_channels.specs.Meanings.{detail_view, is_meant, meaning_of, meaning_view, names, signal_of_channel};
 
 use operand_types::Lookups;
 use type_tree::TypeId;
@@ -74,6 +74,16 @@ fn names(detail: Detail, slot: Slot) -> bool
         Detail::Any => true,
         Detail::Property(other) => other == slot,
         Detail::Unknown => false,
+    }
+}
+
+/// Returns the number of the signal that a channel is of. The notifications of properties are of `notify`.
+pub fn signal_of(channel: &Channel) -> SignalId
+    ensures { result ≡ signal_of_channel (channel_of channel.now) }
+{
+    match channel.member {
+        Member::Constructed | Member::Property(_) => 0,
+        Member::Signal(number) => number,
     }
 }
 

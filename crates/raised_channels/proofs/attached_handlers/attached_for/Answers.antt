@@ -3,9 +3,10 @@ use Rattle.law_typing.specs.Graph.{attached_for}
 use Rattle.law_typing.specs.Graph.Channels.{of_class}
 use Rattle.definition_graph.specs.ChannelView.{channel_of}
 use Rattle.raised_channels.specs.Attached.{handler_view}
-use Rattle.raised_channels.specs.Meanings.{meant}
+use Rattle.raised_channels.specs.Meanings.{attached_meanings, meant, signal_of_channel}
+use Rattle.raised_channels.specs.SignalLists.{list_of}
 use Rattle.raised_channels.specs.declared.attached_handlers.AttachedHandler.{AttachedHandler}
-use Rattle.raised_channels.proofs.MeantLists.{attached_at, attached_here, attached_length, got, no_class}
+use Rattle.raised_channels.proofs.MeantLists.{attached_at, attached_here, attached_length, got, meant_of_signal, no_class}
 use Rattle.raised_channels.proofs.attached_handlers.attached_for.Goals as goal
 
 pub returns-then-place-lists : goal.returns-then-place-lists
@@ -21,10 +22,11 @@ returns c =
     let d = c.args.lookups.now in
     let channel = c.args.channel.now in
     let place = c.from-place.result in
-    let v = c.index-lists-place.result in
+    let s = c.index-lists-place.result.now in
     let within : place < length c.args.lists.now = omega arith in
+    let number = signal_of_channel (channel_of channel) in
     c.in_ok-programs.ensures
-    ∙ (ap (λ (xs : List AttachedHandler). meant (channel_of channel) (map handler_view xs)) c.as_slice.ensures.value
+    ∙ (ap (λ (xs : List AttachedHandler). meant (channel_of channel) (map handler_view xs)) (c.list-handlers.ensures ∙ ap (list_of s) c.signal_of.ensures)
     ∙ (ap (meant (channel_of channel))
-    (attached_at d c.args.lists.now channel.place.0 v c.requires (ap (slice_get c.args.lists.now) (sym c.from-place.ensures) ∙ got c.args.lists.now place v within c.index-lists-place.is))
-    ∙ attached_here d channel))
+    (attached_at d c.args.lists.now channel.place.0 number s c.requires (ap (slice_get c.args.lists.now) (sym c.from-place.ensures) ∙ got c.args.lists.now place s within c.index-lists-place.ensures))
+    ∙ (meant_of_signal (channel_of channel) (attached_meanings d channel.place.0) ∙ attached_here d channel)))

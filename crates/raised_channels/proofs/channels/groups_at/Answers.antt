@@ -1,19 +1,20 @@
-use Rattle.std.proofs.Common.{◌∙◌, sym, ap, ◌≤◌, ◌<◌, [], List, Vec, length, map, arith}
-use Rattle.std.specs.Global.{Global}
+use Rattle.std.proofs.Common.{◌∙◌, sym, ap, ◌≤◌, ◌<◌, [], List, length, map, arith}
 use Rattle.std.proofs.lemmas.List.{length-map}
 use Rattle.law_typing.specs.Graph.{place_of_channel}
 use Rattle.definition_graph.specs.ChannelView.{channel_of}
 use Rattle.definition_graph.proofs.Prefixes.{read_past}
 use Rattle.raised_channels.specs.Connected.{group_view, placed}
-use Rattle.raised_channels.specs.Meanings.{Meant, meant}
+use Rattle.raised_channels.specs.Meanings.{Meant, meant, signal_of_channel}
+use Rattle.raised_channels.specs.SignalLists.{list_of}
 use Rattle.raised_channels.specs.declared.connections.PlacedGroup.{PlacedGroup}
+use Rattle.raised_channels.specs.declared.signal_lists.SignalLists.{SignalLists}
 use Rattle.raised_channels.proofs.MeantLists.{got, place_is, read_mapped}
 use Rattle.raised_channels.proofs.channels.groups_at.Goals as goal
 
 pub returns-then-place-at : goal.returns-then-place-at
 returns-then-place-at c =
     let channel = channel_of c.args.channel.now in
-    let seen : Vec PlacedGroup Global → List Meant = λ v. map group_view v.items in
+    let seen : SignalLists PlacedGroup → List Meant = λ s. map group_view (list_of s (signal_of_channel channel)) in
     let e = place_is c.args.channel.now in
     let len = length-map c.args.at.now seen in
     let behind : length (map seen c.args.at.now) ≤ place_of_channel channel = omega (arith, e, len, c.from-place.ensures) in
@@ -22,11 +23,12 @@ returns-then-place-at c =
 pub returns : goal.returns
 returns c =
     let channel = channel_of c.args.channel.now in
-    let seen : Vec PlacedGroup Global → List Meant = λ v. map group_view v.items in
+    let number = signal_of_channel channel in
+    let seen : SignalLists PlacedGroup → List Meant = λ s. map group_view (list_of s number) in
     let place = c.from-place.result in
-    let v = c.index-at-place.result in
+    let s = c.index-at-place.result.now in
     let within : place < length c.args.at.now = omega arith in
     c.in_ok-groups.ensures
-    ∙ (ap (λ (xs : List PlacedGroup). meant channel (map group_view xs)) c.as_slice.ensures.value
-    ∙ (ap (meant channel) (sym (read_mapped seen c.args.at.now place v (got c.args.at.now place v within c.index-at-place.is)))
-    ∙ ap (λ p. meant channel (placed c.args.at.now p)) (c.from-place.ensures ∙ sym (place_is c.args.channel.now))))
+    ∙ (ap (λ (xs : List PlacedGroup). meant channel (map group_view xs)) (c.list.ensures ∙ ap (list_of s) c.signal_of.ensures)
+    ∙ (ap (meant channel) (sym (read_mapped seen c.args.at.now place s (got c.args.at.now place s within c.index-at-place.ensures)))
+    ∙ ap (λ p. meant channel (placed c.args.at.now p number)) (c.from-place.ensures ∙ sym (place_is c.args.channel.now))))

@@ -13,6 +13,7 @@ use Rattle.raised_channels.specs.Connected.{groups_for}
 use Rattle.raised_channels.specs.Raised.{RunsAt}
 use Rattle.raised_channels.specs.Transfers.{list_at}
 use Rattle.raised_channels.specs.declared.connections.PlacedGroup.{PlacedGroup}
+use Rattle.raised_channels.specs.declared.signal_lists.SignalLists.{SignalLists}
 use Rattle.raised_channels.proofs.MeantLists.{got, place_is, read_mapped}
 use Rattle.raised_channels.proofs.TransferLists.{few_targets}
 use Rattle.raised_channels.proofs.channels.raised_channel.Goals as goal
@@ -66,7 +67,7 @@ returns c e at =
           c.class_handler.ensures is ∙ ap (λ p. of_class (class_handler_for d (channel_of channel)) (class_at d p)) (sym (place_is channel));
       stages = c.stages.ensures;
       handlers = c.in_ok-handlers_for.ensures;
-      groups = c.in_ok-groups_at.ensures ∙ ap (λ (xs : List (Vec PlacedGroup Global)). groups_for xs (channel_of channel)) c.as_slice-2.ensures.value;
+      groups = c.in_ok-groups_at.ensures ∙ ap (λ (xs : List (SignalLists PlacedGroup)). groups_for xs (channel_of channel)) c.as_slice-2.ensures.value;
       transfers = ap length listed;
       targets = c.in_ok-known.ensures ∙ ap (filter_map (λ (o : Option ℕ). o)) listed;
       first = sym (got firsts n c.index-2.result.now within_firsts c.index-2.ensures);

@@ -9,4 +9,5 @@ invariant_of-result c = record {
   placed = c.in_ok-slots.ensures;
   signals = c.in_ok-rows.ensures;
   named = signals_named (parts_of c.args.parts) _ c.in_ok-signal_names.ensures;
+  handled = c.in_ok-handler_names.ensures;
 }

@@ -5,5 +5,5 @@ use Rattle.raised_channels.proofs.connections.Connects.new.Given as goal
 abbrev pub invariant-loop-place : goal.invariant-loop-place
 invariant-loop-place l = record {
   count : length l.at.items ≡ l._place;
-  empty : (n : ℕ) → placed l.at.items n ≡ [];
+  empty : (n number : ℕ) → placed l.at.items n number ≡ [];
 }

@@ -1,22 +1,22 @@
-use Rattle.std.proofs.Common.{◌≡◌, ◌+◌, List, suc, length, take, sym, ap, subst, ◌∙◌, arith}
-use Rattle.ui_machine.specs.Definition.Lookups.{class_of}
+use Rattle.std.proofs.Common.{◌≡◌, ◌+◌, List, suc, length, take, slice_get, refl, sym, ap, subst, ◌∙◌, arith}
+use Rattle.std.proofs.lemmas.Option.{slice_get_read}
 use Rattle.ui_machine.specs.Definition.Names.{same_name}
 use Rattle.ui_machine.specs.Definition.Signals.{ClassHandler}
 use Rattle.ui_machine.specs.Rules.EmissionPlan.{handler_in}
+use Rattle.signal_core.specs.Table.{named_of}
 use Rattle.name_tables.specs.Names.{number_of, with_number}
 use Rattle.name_tables.specs.Steps.{AddsAll}
 use Rattle.name_tables.proofs.Adding.{adds_more, take_past}
-use Rattle.linked_programs.proofs.Adding.{handler_in-more}
-use Rattle.linked_programs.proofs.Linking.{got_read}
-use Rattle.linked_programs.proofs.class_handlers.add_handlers.Goals as goal
+use Rattle.definitions.proofs.HandlerNames.{handler_in-more}
+use Rattle.definitions.proofs.handler_names.add_handlers.Goals as goal
 
 pub loop-at-preserved : goal.loop-at-preserved
 loop-at-preserved c =
-    let handlers = (class_of c.args.definition.now c.args.class).handlers in
+    let handlers = named_of c.args.signals.now.handlers c.args.class in
     let at = c.loop-at.at in
     let h = c.index-handlers-at.result in
     let next : at + 1 ≡ suc at = omega arith in
-    let got = got_read c.class_handlers-handlers.result.now handlers at h c.class_handlers-handlers.ensures c.loop-at-test.true c.index-handlers-at.is in
+    let got = ap (λ l. slice_get l at) (sym c.own_handlers-handlers.ensures) ∙ slice_get_read c.own_handlers-handlers.result.now (length c.own_handlers-handlers.result.now) at h refl c.loop-at-test.true c.index-handlers-at.is in
     adds_more (number_of c.args.names.now) (number_of c.loop-at.names) (number_of c.add.new.self) c.args.class c.program.result c.signal.result.now (handler_in (take at handlers)) (handler_in (take (at + 1) handlers)) c.loop-at.invariant
     c.in_ok-add.ensures.ok
     (λ n.
@@ -27,6 +27,6 @@ loop-at-preserved c =
 
 pub returns : goal.returns
 returns c =
-    let handlers = (class_of c.args.definition.now c.args.class).handlers in
-    let long = ap length c.class_handlers-handlers.ensures in
+    let handlers = named_of c.args.signals.now.handlers c.args.class in
+    let long = ap length c.own_handlers-handlers.ensures in
     subst (λ (hs : List ClassHandler). AddsAll (number_of c.args.names.now) (number_of c.loop-at.names) c.args.class (handler_in hs)) (take_past handlers c.loop-at.at (omega (arith, long, c.loop-at-test.false))) c.loop-at.invariant
