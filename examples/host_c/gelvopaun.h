@@ -40,16 +40,18 @@ enum {
 };
 
 /* Judges a definition without running anything, and writes what `ui verify` prints to `report`, as much of it as there is room for: the
- * report with the bound on the steps of each dispatch, or the line of the refusal. The rest of `report` is filled with zero bytes. */
+ * report with the bound on the steps of each dispatch, or the line of the refusal. Where there is room for it, a zero byte follows; the rest of
+ * `report` stays as it was. */
 uint8_t gelvopaun_verify(const uint8_t *definition, size_t length, uint8_t *report, size_t room);
 
 /* Starts a session from the bytes of a definition: reads it, verifies it and builds its objects. A session that there was is freed. Where the
- * definition is refused, the reason is written to `refusal`, as much of it as there is room for; the rest of `refusal` is filled with zero
- * bytes. */
+ * definition is refused, the reason is written to `refusal`, as much of it as there is room for. Where there is room for it, a zero byte
+ * follows; the rest of `refusal` stays as it was. Where it is not refused, the reason is empty. */
 uint8_t gelvopaun_start(const uint8_t *definition, size_t length, gelvopaun_ui *ui, uint8_t *refusal, size_t room);
 
 /* Has the session carry out one event line, without its LF. Where the line is refused, the name of the reason is written to `refusal`, as
- * much of it as there is room for; the rest of `refusal` is filled with zero bytes. */
+ * much of it as there is room for. Where there is room for it, a zero byte follows; the rest of `refusal` stays as it was. Where the line is
+ * not refused, the name is empty. */
 uint8_t gelvopaun_dispatch(gelvopaun_ui *ui, const uint8_t *line, size_t length, uint8_t *refusal, size_t room);
 
 /* Takes bytes of the lines that the session has said, each line with its LF, from where the last call ended. It answers how many it has

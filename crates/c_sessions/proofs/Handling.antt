@@ -8,16 +8,16 @@ use Rattle.event_lines.specs.declared.line_handler.LineFault.{LineFault}
 use Rattle.event_lines.specs.declared.line_handler.LineFault.TheVariants as faults
 use Rattle.c_sessions.specs.Nobody.{held, nobody}
 use Rattle.c_sessions.specs.Unread.{lines_since, unread}
-use Rattle.c_sessions.specs.Buffers.{padded}
+use Rattle.c_sessions.specs.Buffers.{with_text}
 use Rattle.c_sessions.specs.Handles.{Dispatches, FailsAs, Hears, KeepsAs, KeepsHearing, Starts, Takes, TakesFrom}
 use Rattle.c_sessions.specs.Starting.{IsBuilt, IsStopped}
 use Rattle.c_sessions.specs.declared.hosted_session.HostedSession.{HostedSession}
 use Rattle.c_sessions.specs.declared.status.Status.{Status}
 use Rattle.c_sessions.specs.declared.status.Status.TheVariants as statuses
 
-module _ (bytes : List ℕ) (room : ℕ) (session : HostedSession) (result : Status) (kept : Option HostedSession) (written : List ℕ) (blank : written ≡ padded room []) where
+module _ (bytes : List ℕ) (buffer : List ℕ) (session : HostedSession) (result : Status) (kept : Option HostedSession) (written : List ℕ) (blank : written ≡ with_text buffer []) where
   abbrev Ends : Status → Type 0
-  Ends status = Starts bytes room status kept written
+  Ends status = Starts bytes buffer status kept written
 
   pub starts_built : IsBuilt bytes session → KeepsAs session statuses.Done result kept → Ends result
   starts_built is (inl (keeps, so)) = subst Ends (sym so) ((session, keeps, is), blank)
@@ -42,12 +42,12 @@ hears_by line result answer old new same replies left =
     (subst (λ (r : Result (Unit {0}) LineFault). event_replies nobody (held old) line (outcome_of r (lines_since (held old) (held new))) (held new)) same replies, left)
 
 -- how the dispatch of a line ends that fails
-pub dispatches_failed : (line : List ℕ) (room : ℕ) (fault : LineFault) (before after : Option HostedSession) (status : Status) (written : List ℕ)
-    → KeepsHearing line (outcome_of {T = Unit {0}} (Err fault)) before after → FailsAs fault room status written → Dispatches line room before status after written
-dispatches_failed line room (faults.Refused why) before after status written hears fails =
-    subst (λ (s : Status). Dispatches line room before s after written) (sym fails.0) (why, hears, fails.1)
-dispatches_failed line room faults.Stopped before after status written hears fails =
-    subst (λ (s : Status). Dispatches line room before s after written) (sym fails.0) (hears, fails.1)
+pub dispatches_failed : (line : List ℕ) (buffer : List ℕ) (fault : LineFault) (before after : Option HostedSession) (status : Status) (written : List ℕ)
+    → KeepsHearing line (outcome_of {T = Unit {0}} (Err fault)) before after → FailsAs fault buffer status written → Dispatches line buffer before status after written
+dispatches_failed line buffer (faults.Refused why) before after status written hears fails =
+    subst (λ (s : Status). Dispatches line buffer before s after written) (sym fails.0) (why, hears, fails.1)
+dispatches_failed line buffer faults.Stopped before after status written hears fails =
+    subst (λ (s : Status). Dispatches line buffer before s after written) (sym fails.0) (hears, fails.1)
 
 -- how bytes are taken of it
 pub keeps_taking : (bytes : List ℕ) (before after : Option HostedSession) (session lent new : HostedSession) (count : ℕ) (written : List ℕ) → lent ≡ session → Some session ≡ before → after ≡ Some new

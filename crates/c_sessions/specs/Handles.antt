@@ -7,7 +7,7 @@ use Rattle.event_lines.specs.declared.line_handler.LineFault.{LineFault}
 use Rattle.event_lines.specs.declared.line_handler.LineFault.TheVariants as faults
 use Rattle.event_lines.specs.declared.refusal.LineRefusal.{LineRefusal}
 use Rattle.ui_engine.specs.SessionView.{without_lines}
-use Rattle.c_sessions.specs.Buffers.{padded}
+use Rattle.c_sessions.specs.Buffers.{with_text}
 use Rattle.c_sessions.specs.Nobody.{held, nobody}
 use Rattle.c_sessions.specs.Starting.{IsBuilt, IsRefused, IsStopped}
 use Rattle.c_sessions.specs.Unread.{lines_since, unread}
@@ -26,14 +26,14 @@ KeepsAs session status result kept =
 abbrev pub Keeps : (HostedSession → Type 0) → Option HostedSession → Type 0
 Keeps P kept = (session : HostedSession) × (kept ≡ Some session) × P session
 
--- how a start with these bytes of a definition ends: by its status, what is kept, and what is written where there is this much room
-abbrev pub Starts : List ℕ → ℕ → Status → Option HostedSession → List ℕ → Type 0
-Starts bytes room statuses.Done kept written = Keeps (IsBuilt bytes) kept × (written ≡ padded room [])
-Starts bytes room statuses.Stopped kept written = (Keeps (IsStopped bytes) kept ⊎ (kept ≡ None)) × (written ≡ padded room [])
-Starts bytes room statuses.DefinitionRefused kept written =
-    (kept ≡ None) × (text : List ℕ) × IsRefused bytes text × (written ≡ padded room text)
-Starts bytes room statuses.NoSession kept written = ⊥
-Starts bytes room statuses.LineRefused kept written = ⊥
+-- how a start with these bytes of a definition ends: by its status, what is kept, and what a buffer holds that held this before
+abbrev pub Starts : List ℕ → List ℕ → Status → Option HostedSession → List ℕ → Type 0
+Starts bytes buffer statuses.Done kept written = Keeps (IsBuilt bytes) kept × (written ≡ with_text buffer [])
+Starts bytes buffer statuses.Stopped kept written = (Keeps (IsStopped bytes) kept ⊎ (kept ≡ None)) × (written ≡ with_text buffer [])
+Starts bytes buffer statuses.DefinitionRefused kept written =
+    (kept ≡ None) × (text : List ℕ) × IsRefused bytes text × (written ≡ with_text buffer text)
+Starts bytes buffer statuses.NoSession kept written = ⊥
+Starts bytes buffer statuses.LineRefused kept written = ⊥
 
 -- ** a line
 
@@ -49,18 +49,18 @@ KeepsHearing line outcome old new =
     (before : HostedSession) × (old ≡ Some before) × (after : HostedSession) × (new ≡ Some after) × Hears line outcome before after
 
 -- how the dispatch of a line ends
-abbrev pub Dispatches : List ℕ → ℕ → Option HostedSession → Status → Option HostedSession → List ℕ → Type 0
-Dispatches line room old statuses.Done new written = KeepsHearing line said old new × (written ≡ padded room [])
-Dispatches line room old statuses.Stopped new written = KeepsHearing line stopped old new × (written ≡ padded room [])
-Dispatches line room old statuses.LineRefused new written =
-    (why : LineRefusal) × KeepsHearing line (λ lines. refused why) old new × (written ≡ padded room (name_of why))
-Dispatches line room old statuses.NoSession new written = (old ≡ None) × (new ≡ None) × (written ≡ padded room [])
-Dispatches line room old statuses.DefinitionRefused new written = ⊥
+abbrev pub Dispatches : List ℕ → List ℕ → Option HostedSession → Status → Option HostedSession → List ℕ → Type 0
+Dispatches line buffer old statuses.Done new written = KeepsHearing line said old new × (written ≡ with_text buffer [])
+Dispatches line buffer old statuses.Stopped new written = KeepsHearing line stopped old new × (written ≡ with_text buffer [])
+Dispatches line buffer old statuses.LineRefused new written =
+    (why : LineRefusal) × KeepsHearing line (λ lines. refused why) old new × (written ≡ with_text buffer (name_of why))
+Dispatches line buffer old statuses.NoSession new written = (old ≡ None) × (new ≡ None) × (written ≡ with_text buffer [])
+Dispatches line buffer old statuses.DefinitionRefused new written = ⊥
 
--- how a line fails: by its status, and what is written where there is this much room
-abbrev pub FailsAs : LineFault → ℕ → Status → List ℕ → Type 0
-FailsAs (faults.Refused why) room status written = (status ≡ statuses.LineRefused) × (written ≡ padded room (name_of why))
-FailsAs faults.Stopped room status written = (status ≡ statuses.Stopped) × (written ≡ padded room [])
+-- how a line fails: by its status, and what a buffer holds that held this before
+abbrev pub FailsAs : LineFault → List ℕ → Status → List ℕ → Type 0
+FailsAs (faults.Refused why) buffer status written = (status ≡ statuses.LineRefused) × (written ≡ with_text buffer (name_of why))
+FailsAs faults.Stopped buffer status written = (status ≡ statuses.Stopped) × (written ≡ with_text buffer [])
 
 -- ** lines
 

@@ -1,11 +1,10 @@
 //! The handle by which C holds a session.
 
-ghost use Rattle.std.specs.Prelude.{◌≡◌, [], IfSome, None, Some, length, option_map};
+ghost use Rattle.std.specs.Prelude.{◌≡◌, [], IfSome, None, Some, option_map};
 ghost use Rattle.c_sessions.specs.Held.{is_kept};
 ghost use Rattle.c_sessions.specs.Handles.{Dispatches, FailsAs, KeepsAs, Starts, Takes};
-ghost use Rattle.c_sessions.specs.Buffers.{padded};
 
-use crate::buffers::write_padded;
+use crate::buffers::write_text;
 use crate::hosted_session::HostedSession;
 use crate::kept::Kept;
 use crate::starts::{Started, start};
@@ -36,45 +35,44 @@ impl SessionHandle {
 
     /// Starts a session from the bytes of a definition. A session that the handle had is given up. The handle has the new session then,
     /// even if its build stopped. It has none if the definition is refused, or if memory is refused before the build or for the session's
-    /// box. The refusal of a definition is written as `write_padded` does. Otherwise the buffer is filled with zero bytes.
+    /// box. The refusal of a definition is written as `write_text` does, and otherwise an empty text.
     pub fn start(&mut self, alloc: Global, definition: &[u8], refusal: &mut [u8]) -> Status
-        ensures { Starts definition.now (length refusal.old) result self.new.kept.session refusal.new }
+        ensures { Starts definition.now refusal.old result self.new.kept.session refusal.new }
     {
         drop(self.take(alloc));
         match start(alloc, definition) {
             Started::Built(session) => {
-                write_padded(refusal, b"");
+                write_text(refusal, b"");
                 self.keep(alloc, session, Status::Done)
             }
             Started::Stopped(session) => {
-                write_padded(refusal, b"");
+                write_text(refusal, b"");
                 self.keep(alloc, session, Status::Stopped)
             }
             Started::Refused(text) => {
-                write_padded(refusal, text.as_bytes());
+                write_text(refusal, text.as_bytes());
                 Status::DefinitionRefused
             }
             Started::Unbegun => {
-                write_padded(refusal, b"");
+                write_text(refusal, b"");
                 Status::Stopped
             }
         }
     }
 
-    /// Makes the session carry out an event line. The name of a refusal is written as `write_padded` does. Otherwise the buffer is filled
-    /// with zero bytes.
+    /// Makes the session carry out an event line. The name of a refusal is written as `write_text` does, and otherwise an empty text.
     pub fn dispatch(&mut self, alloc: Global, line: &[u8], refusal: &mut [u8]) -> Status
-        ensures { Dispatches line.now (length refusal.old) self.old.kept.session result self.new.kept.session refusal.new }
+        ensures { Dispatches line.now refusal.old self.old.kept.session result self.new.kept.session refusal.new }
     {
         let Some(mut session) = self.take(alloc) else {
-            write_padded(refusal, b"");
+            write_text(refusal, b"");
             return Status::NoSession;
         };
         let outcome = session.dispatch_line(alloc, line);
         self.put(alloc, session);
         match outcome {
             Ok(()) => {
-                write_padded(refusal, b"");
+                write_text(refusal, b"");
                 Status::Done
             }
             Err(fault) => report(fault, refusal),
@@ -156,17 +154,17 @@ fn boxed<T: Drop>(alloc: Global, value: T) -> Option<Box<T>>
     }
 }
 
-// Returns the status for a fault. The name of the refusal of a line is written, and otherwise zero bytes.
+// Returns the status for a fault. The name of the refusal of a line is written, and otherwise an empty text.
 fn report(fault: LineFault, refusal: &mut [u8]) -> Status
-    ensures { FailsAs fault (length refusal.old) result refusal.new }
+    ensures { FailsAs fault refusal.old result refusal.new }
 {
     match fault {
         LineFault::Refused(why) => {
-            write_padded(refusal, why.name().as_bytes());
+            write_text(refusal, why.name().as_bytes());
             Status::LineRefused
         }
         LineFault::Stopped => {
-            write_padded(refusal, b"");
+            write_text(refusal, b"");
             Status::Stopped
         }
     }

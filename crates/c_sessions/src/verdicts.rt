@@ -1,22 +1,22 @@
 //! The verdict on a definition, for a host in C.
 
-ghost use Rattle.std.specs.Prelude.{◌≡◌, length};
+ghost use Rattle.std.specs.Prelude.{◌≡◌};
 ghost use Rattle.c_sessions.specs.Verdicts.{Verifies, status_of_check};
 
-use crate::buffers::write_padded;
+use crate::buffers::write_text;
 use crate::status::Status;
 use event_lines::{Counted, check};
 use std::alloc::Global;
 use ui_machine::Device;
 
-/// Judges a definition, and writes its report or the one line of its refusal, as `write_padded` does. That is what `ui verify` prints.
+/// Judges a definition, and writes its report or the one line of its refusal, as `write_text` does. That is what `ui verify` prints.
 /// Nothing is run. If memory is refused, a front of the text is written.
 pub fn verify(alloc: Global, definition: &[u8], report: &mut [u8]) -> Status
-    ensures { Verifies definition.now (length report.old) result report.new }
+    ensures { Verifies definition.now report.old result report.new }
 {
     let mut writer = Counted::new(Device::new(Vec::new(alloc)));
     let code = check(alloc, definition, &mut writer);
-    write_padded(report, writer.device.inner.as_slice());
+    write_text(report, writer.device.inner.as_slice());
     status_of(code)
 }
 

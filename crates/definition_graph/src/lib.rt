@@ -20,4 +20,4 @@ pub use forward_values::forwards;
 pub use makings::making;
 pub use paired_properties::paired_places;
 pub use pairs_by_number::{PairedNumbers, paired_numbers};
-pub use report_channels::channels;
+pub use report_channels::{channels, channels_at};

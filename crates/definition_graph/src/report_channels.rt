@@ -116,6 +116,23 @@ fn add_channels_at(
     Ok(())
 }
 
+/// Returns the channels of a place in the order of the report.
+///
+/// # Errors
+///
+/// `AllocError` if memory is refused.
+pub fn channels_at(
+    alloc: Global,
+    lookups: &Lookups<'_>,
+    place: Place,
+) -> Result<Vec<Channel>, AllocError>
+    ensures { IfOk result (λ found. channels_of found.items ≡ channels_at lookups.now place.0) }
+{
+    let mut found = Vec::new(alloc);
+    add_channels_at(&mut found, lookups, place)?;
+    Ok(found)
+}
+
 /// Returns the channels of a definition in the order of the report. They go place by place, and at each come the end of a construction that
 /// runs a program, the readable properties, and the signals except `notify`.
 ///

@@ -283,7 +283,9 @@ impl Definition {
     pub fn class_handler(&self, class: TypeId, number: SignalId) -> Option<ProgramId>
         ensures { result ≡ option_and_then (λ s. class_handler_of self.now class s.name) (signal_of self.now class number) }
     {
-        let signal = self.signal(class, number)?;
+        let Some(signal) = self.signal(class, number) else {
+            return None;
+        };
         number_as_given(&self.handler_names, class, signal.name)
     }
 

@@ -17,7 +17,7 @@ use std::alloc::Global;
 /// Judges a definition and writes its report, as `c_sessions::verify` does.
 #[unsafe(no_mangle)]
 pub extern "C" fn gelvopaun_verify(alloc: Global, definition: &[u8], report: &mut [u8]) -> u8
-    ensures { (status : Status) × (result ≡ code_of status) × Verifies definition.now (length report.old) status report.new }
+    ensures { (status : Status) × (result ≡ code_of status) × Verifies definition.now report.old status report.new }
 {
     verify(alloc, definition, report).code()
 }
@@ -30,7 +30,7 @@ pub extern "C" fn gelvopaun_start(
     ui: &mut SessionHandle,
     refusal: &mut [u8],
 ) -> u8
-    ensures { (status : Status) × (result ≡ code_of status) × Starts definition.now (length refusal.old) status ui.new.kept.session refusal.new }
+    ensures { (status : Status) × (result ≡ code_of status) × Starts definition.now refusal.old status ui.new.kept.session refusal.new }
 {
     ui.start(alloc, definition, refusal).code()
 }
@@ -43,7 +43,7 @@ pub extern "C" fn gelvopaun_dispatch(
     line: &[u8],
     refusal: &mut [u8],
 ) -> u8
-    ensures { (status : Status) × (result ≡ code_of status) × Dispatches line.now (length refusal.old) ui.old.kept.session status ui.new.kept.session refusal.new }
+    ensures { (status : Status) × (result ≡ code_of status) × Dispatches line.now refusal.old ui.old.kept.session status ui.new.kept.session refusal.new }
 {
     ui.dispatch(alloc, line, refusal).code()
 }

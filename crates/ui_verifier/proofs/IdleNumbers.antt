@@ -1,7 +1,6 @@
 -- The numbers of all channels are those of the busy ones, and those of idle ones.
-use Rattle.std.proofs.Common.{◌≡◌, inl, inr, refl, sym, ap, subst, ◌∙◌, ℕ, zero, suc, ◌+◌, ◌<◌, Bool, true, false, cond, List, [], ◌∷◌, ◌++◌, length, map, take, Option, None, Some, slice_get, arith}
+use Rattle.std.proofs.Common.{◌≡◌, inl, inr, refl, sym, ap, ◌∙◌, ℕ, zero, suc, ◌+◌, ◌≤◌, min, Bool, true, false, cond, List, [], ◌∷◌, map, Option, None, Some, slice_get, arith}
 use Rattle.std.specs.List.{filter}
-use Rattle.std.proofs.lemmas.List.{map-append}
 use Rattle.std.proofs.lemmas.Option.{none-some, same_Some}
 use Rattle.ui_machine.specs.Seq.{read}
 use Rattle.ui_machine.specs.Definition.{Definition}
@@ -9,21 +8,19 @@ use Rattle.law_typing.specs.Graph.{Raised, connections, graph, raised_at}
 use Rattle.law_typing.specs.Graph.Channels.{Channel, channels, same_channel}
 use Rattle.law_typing.specs.Graph.Channels as entries
 use Rattle.law_typing.specs.Graph.Costs.{bound}
-use Rattle.law_typing.specs.Graph.Depths.{depth}
 use Rattle.law_typing.specs.Graph.Ranks.{is_raised, node}
-use Rattle.law_typing.specs.Graph.Tables.{Table, Tables, entry}
+use Rattle.law_typing.specs.Graph.Tables.{entry}
 use Rattle.law_typing.specs.Laws.{IsIn}
 use Rattle.law_typing.specs.Laws.Capped.{capped}
 use Rattle.law_typing.specs.Rules.Sites.{sites}
 use Rattle.law_typing.proofs.Lists.{any_true, filter_in, map_in, same_channel_refl}
 use Rattle.law_typing.proofs.OneSolutionProofs.{filtered_kept, map_same}
 use Rattle.law_idle.specs.Idle.{busy_channels, busy_graph, is_busy}
-use Rattle.law_idle.specs.Resting.{AddsCosts, AddsDepths, AddsRanks}
 use Rattle.definition_graph.specs.Numbers.{number_of}
 use Rattle.definition_graph.proofs.Positions.{found_is, is_found}
-use Rattle.definition_graph.proofs.Prefixes.{take_last}
-use Rattle.ui_verifier.specs.Bounds.{AddsIdle, AreCapped, AreCappedIn, value_among, value_at}
-use Rattle.verified.specs.Told.{source_view}
+use Rattle.law_typing.specs.Verdict.{most_bound}
+use Rattle.ui_verifier.specs.Bounds.{AddsIdle}
+use Rattle.verified.specs.Told.{value_among, value_at}
 use Rattle.verified.specs.declared.numbers.Numbers.{Numbers}
 
 -- ** numbers of channels
@@ -35,7 +32,7 @@ placed (e ∷ cs) c (inl s) = (0, ap Some (sym s))
 placed (e ∷ cs) c (inr h) = let p = placed cs c h in (suc p.0, p.1)
 
 -- what has a place in a list is in it
-stands : (cs : List Channel) (n : ℕ) (c : Channel) → slice_get cs n ≡ Some c → IsIn c cs
+pub stands : (cs : List Channel) (n : ℕ) (c : Channel) → slice_get cs n ≡ Some c → IsIn c cs
 stands [] n c is = absurd (none-some c is)
 stands (e ∷ cs) zero c is = inl (sym (same_Some _ _ is))
 stands (e ∷ cs) (suc n) c is = inr (stands cs n c is)
@@ -58,21 +55,6 @@ among {A} test f idle cs c false h is = by (number_of (filter test cs) c) refl
     by None e = refl
     by (Some n) e = absurd (let k = (filtered_kept test cs c (stands (filter test cs) n c (found_is (filter test cs) c n e))).0 in cc)
 
--- one more value
-pub next_value : {A : Type 0} (f : Channel → A) (old new : List A) (cs : List Channel) (n : ℕ) (x : A) → new ≡ old ++ x ∷ [] → old ≡ map f (take n cs) → n < length cs →
-    ((c : Channel) → slice_get cs n ≡ Some c → x ≡ f c) → new ≡ map f (take (n + 1) cs)
-next_value f old new cs n x is known within value =
-    let c = some_at cs n within in
-    is
-    ∙ (ap (λ xs. xs ++ x ∷ []) known
-    ∙ (ap (λ y. map f (take n cs) ++ y ∷ []) (value c.0 c.1)
-    ∙ sym (ap (map f) (take_last cs n c.0 (sym c.1)) ∙ map-append f (take n cs) (c.0 ∷ []))))
-  where
-    some_at : (es : List Channel) (m : ℕ) → m < length es → (c : Channel) × (slice_get es m ≡ Some c)
-    some_at [] m low = absurd (omega (arith, low))
-    some_at (e ∷ es) zero low = (e, refl)
-    some_at (e ∷ es) (suc m) low = some_at es m (omega (arith, low))
-
 -- ** numbers of a definition
 
 module _ (d : Definition) where
@@ -94,27 +76,29 @@ module _ (d : Definition) where
       by c there true is = busy c there is
       by c there false is = others c there is
 
-  -- of the channels and the busy channels that are known
-  pub all_among : {A : Type 0} (busy all : List Channel) (seen values : List A) (idle : A) → busy ≡ busy_channels d → all ≡ channels d → seen ≡ values →
-      map (value_among busy seen idle) all ≡ map (value_among (busy_channels d) values idle) (channels d)
-  all_among busy all seen values idle is known same =
-      ap (λ vs. map (value_among busy vs idle) all) same
-      ∙ (ap (λ bs. map (value_among bs values idle) all) is ∙ ap (map (value_among (busy_channels d) values idle)) known)
-
-  pub idle_added : (told all : Numbers) (idle : ℕ) → idle ≡ capped (1 + d.most_objects) →
-      all.ranks.items ≡ map (value_among (busy_channels d) told.ranks.items 0) (channels d) →
-      all.bounds.items ≡ map (value_among (busy_channels d) told.bounds.items idle) (channels d) →
-      all.build ≡ told.build → all.sources ≡ told.sources → all.depth ≡ told.depth → AddsIdle d told all
-  idle_added told all idle is ranks bounds build sources deep r u t v p q are more costs depths = record {
-    ranks = ranks
-        ∙ all_values (λ c. entry r (node (graph d) c)) (λ c. entry u (node (graph d) c)) 0 told.ranks.items are.ranks
+  -- the numbers of all channels are those of the busy ones, where that of an idle one is right
+  pub idle_added : (n : Numbers) → n.idle ≡ capped (1 + d.most_objects) → n.idle ≤ most_bound → AddsIdle d n
+  idle_added n is low r u t v p q are more costs depths = record {
+    ranks =
+        all_values (λ c. entry r (node (graph d) c)) (λ c. entry u (node (graph d) c)) 0 n.ranks.items are.ranks
         (λ c there busy. sym (more.at_busy c busy (raised_there c there))) (λ c there idle. sym (more.at_idle c idle));
-    bounds = bounds
-        ∙ all_values (λ c. capped (bound (busy_graph d) t (entries.at c))) (λ c. capped (bound (graph d) v (entries.at c))) idle told.bounds.items are.bounds
+    bounds =
+        all_values (λ c. capped (bound (busy_graph d) t (entries.at c))) (λ c. capped (bound (graph d) v (entries.at c))) n.idle n.bounds.items are.bounds
         (λ c there busy. ap capped (sym (costs.at_busy c busy))) (λ c there idle. is ∙ ap capped (sym (costs.at_idle c idle (raised_there c there))));
-    build = build ∙ (are.build ∙ ap capped (sym costs.build));
-    sources = ap (λ ss. map source_view ss.items) sources
-        ∙ (are.sources ∙ map_same {B = ℕ × ℕ} (λ (k : ℕ). (k, capped (bound (busy_graph d) t (entries.source k)))) (λ (k : ℕ). (k, capped (bound (graph d) v (entries.source k))))
-        (graph d).sources (λ k h. ap (λ n. (k, capped n)) (sym (costs.source k))));
-    depth = deep ∙ (are.depth ∙ sym depths.same);
+    idle = low;
+    build = are.build ∙ ap capped (sym costs.build);
+    sources = are.sources
+        ∙ map_same {B = ℕ × ℕ} (λ (k : ℕ). (k, capped (bound (busy_graph d) t (entries.source k)))) (λ (k : ℕ). (k, capped (bound (graph d) v (entries.source k))))
+        (graph d).sources (λ k h. ap (λ n. (k, capped n)) (sym (costs.source k)));
+    depth = are.depth ∙ sym depths.same;
   }
+
+-- the bound of an idle channel of a definition with few objects
+pub small_idle : (n objects : ℕ) → n ≡ capped (1 + objects) → objects ≤ 4096 → n ≤ most_bound
+small_idle n objects is few = at n (1 + objects) most_bound is (fits objects few)
+  where
+    at : (n b most : ℕ) → n ≡ min b (1 + most) → b ≤ most → n ≤ most
+    at n b most is low = omega (arith, is, low)
+
+    fits : (m : ℕ) → m ≤ 4096 → 1 + m ≤ 1_000_000_000_000
+    fits m low = omega (arith, low)

@@ -26,23 +26,25 @@ use Rattle.law_idle.proofs.IdleProofs.{others_are_idle}
 use Rattle.law_idle.proofs.Resting.{costs_are_added, depths_are_added, ranks_are_added}
 use Rattle.verified.specs.Told.{AreNumbersOf}
 use Rattle.verified.specs.declared.numbers.Numbers.{Numbers}
-use Rattle.ui_verifier.specs.Bounds.{AddsIdle, AreBusyNumbers, AreCapped}
+use Rattle.ui_verifier.specs.Bounds.{AreBusyNumbers, AreCapped}
 use Rattle.ui_verifier.specs.Verdicts.{AreAccepted}
+use Rattle.ui_verifier.proofs.IdleNumbers.{idle_added, small_idle}
 use Rattle.ui_verifier.proofs.LargeProofs.{raised_entries}
 
 -- the numbers of a definition by those of its busy channels
-pub record IsAdded (d : Definition) (told all : Numbers) : Type 0 where
+pub record IsAdded (d : Definition) (n : Numbers) : Type 0 where
   pub by_rank : Table
   pub by_cost : Tables
   pub by_depth : Tables
   pub reckoned : IsReckoned d by_rank by_cost by_depth
-  pub capped : AreCapped d all by_rank by_cost by_depth
+  pub capped : AreCapped d n by_rank by_cost by_depth
 
-pub added : (d : Definition) (told all : Numbers) → first_fault d ≡ None → AreBusyNumbers d told → AddsIdle d told all → IsAdded d told all
-added d told all lawful are adds =
+pub added : (d : Definition) (n : Numbers) → first_fault d ≡ None → AreBusyNumbers d n → d.most_objects ≤ 4096 → IsAdded d n
+added d n lawful are few =
     let ranks = ranks_are_added (graph d) (is_busy d) are.by_rank (others_are_idle d) are.ranking in
     let costs = costs_are_added (graph d) (is_busy d) are.by_cost (others_are_idle d) are.solves_costs in
     let depths = depths_are_added (graph d) (is_busy d) are.by_depth (others_are_idle d) are.solves_depths in
+    let adds = idle_added d n are.idle (small_idle n.idle d.most_objects are.idle few) in
     record {
       by_rank = ranks.0;
       by_cost = costs.0;
@@ -50,17 +52,6 @@ added d told all lawful are adds =
       reckoned = record { lawful = lawful; ranking = ranks.1.solves; solves_costs = costs.1.solves; solves_depths = depths.1.solves };
       capped = adds are.by_rank ranks.0 are.by_cost costs.0 are.by_depth depths.0 are.capped ranks.1 costs.1 depths.1;
     }
-
--- there are as many ranks and bounds as busy channels
-pub ranks_counted : (d : Definition) (told : Numbers) (busy : List Channel) → busy ≡ busy_channels d → AreBusyNumbers d told → length told.ranks.items ≡ length busy
-ranks_counted d told busy is are =
-    ap (λ xs. length xs) are.capped.ranks
-    ∙ (length-map (busy_channels d) (λ (c : Channel). entry are.by_rank (node (busy_graph d) c)) ∙ ap (λ cs. length cs) (sym is))
-
-pub bounds_counted : (d : Definition) (told : Numbers) (busy : List Channel) → busy ≡ busy_channels d → AreBusyNumbers d told → length told.bounds.items ≡ length busy
-bounds_counted d told busy is are =
-    ap (λ xs. length xs) are.capped.bounds
-    ∙ (length-map (busy_channels d) (λ (c : Channel). capped (bound (busy_graph d) are.by_cost (entries.at c))) ∙ ap (λ cs. length cs) (sym is))
 
 small_capped : (b m : ℕ) → b ≤ m → min b (1 + m) ≡ b
 small_capped b m low = omega (arith, low)

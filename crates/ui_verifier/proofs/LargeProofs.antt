@@ -1,8 +1,7 @@
 -- The first bound that is too large, by capped bounds.
-use Rattle.std.proofs.Common.{arith, min, ◌≤◌, ◌<◌, ◌≡◌, refl, sym, ap, ◌∙◌, ℕ, zero, suc, ◌+◌, Bool, true, false, cond, nat_lt, List, [], ◌∷◌, ◌++◌, drop, get_or, map, Option, Some, None, option_map, slice_get}
+use Rattle.std.proofs.Common.{arith, min, ◌≤◌, ◌<◌, ◌≡◌, refl, sym, ap, ◌∙◌, ℕ, zero, suc, ◌+◌, Bool, true, false, cond, nat_lt, List, [], ◌∷◌, ◌++◌, drop, map, Option, Some, None, option_map, slice_get}
 use Rattle.std.specs.List.{find}
 use Rattle.std.proofs.lemmas.Bool.{ltb-true, lt-ltb, le-ltb, ltb-false}
-use Rattle.std.proofs.lemmas.Option.{get_or_from_slice_get, slice_get-map}
 use Rattle.ui_machine.specs.Definition.{Definition}
 use Rattle.law_typing.specs.Graph.{Connection, Raised, connections, graph, raised_at}
 use Rattle.law_typing.specs.Graph.Channels.{Channel, Entry, channels}
@@ -109,17 +108,6 @@ source_found d t (s ∷ ss) (p ∷ ps) is =
     by false number value rest =
         ap (λ b. option_map (λ (s : SourceBound). entries.source s.program) (cond b (Some s) (find (λ (s : SourceBound). nat_lt most_bound s.bound) ss))) value
         ∙ rest
-
--- the bound at the number of a channel
-pub bound_at : (d : Definition) (t : Tables) (bounds : List ℕ) (k : ℕ) (c : Channel) →
-    bounds ≡ map (λ (c : Channel). capped (bound (graph d) t (entries.at c))) (channels d) → slice_get (channels d) k ≡ Some c →
-    nat_lt most_bound (get_or bounds k 0) ≡ is_large d t (entries.at c)
-bound_at d t bounds k c are is =
-    ap (nat_lt most_bound)
-    (get_or_from_slice_get bounds k (capped (bound (graph d) t (entries.at c))) 0
-    (ap (λ bs. slice_get bs k) are
-    ∙ (slice_get-map (λ (c : Channel). capped (bound (graph d) t (entries.at c))) (channels d) k ∙ ap (option_map (λ (c : Channel). capped (bound (graph d) t (entries.at c)))) is)))
-    ∙ same_large (bound (graph d) t (entries.at c))
 
 -- building takes as long as it may
 pub build_small : (d : Definition) (t : Tables) (build : ℕ) → build ≡ capped (bound (graph d) t entries.build) → build ≤ most_bound →

@@ -1,4 +1,5 @@
 pub mod FewNumbers
+pub mod BusyBounds
 pub mod CycleProofs
 pub mod JudgeProofs
 pub mod LargeProofs

@@ -1,6 +1,5 @@
 -- The numbers of a definition as they are reckoned: no bound is distinguished above the greatest one.
-use Rattle.std.specs.Prelude.{◌≡◌, ◌+◌, ℕ, List, map, Option, None, Some}
-use Rattle.ui_machine.specs.Seq.{read}
+use Rattle.std.specs.Prelude.{◌≡◌, ◌+◌, ◌≤◌, ℕ, List, map}
 use Rattle.ui_machine.specs.Definition.{Definition}
 use Rattle.law_typing.specs.Graph.{Graph, graph}
 use Rattle.law_typing.specs.Graph.Channels.{Channel, channels}
@@ -13,8 +12,8 @@ use Rattle.law_typing.specs.Laws.Capped.{capped}
 use Rattle.law_judging.specs.CappedNumbers.{SolvesCapped}
 use Rattle.law_idle.specs.Idle.{busy_channels, busy_graph, is_busy}
 use Rattle.law_idle.specs.Resting.{AddsCosts, AddsDepths, AddsRanks}
-use Rattle.definition_graph.specs.Numbers.{number_of}
-use Rattle.verified.specs.Told.{source_view}
+use Rattle.law_typing.specs.Verdict.{most_bound}
+use Rattle.verified.specs.Told.{source_view, told_bound, told_rank}
 use Rattle.verified.specs.declared.numbers.Numbers.{Numbers}
 
 -- numbers by these tables of a graph with these channels, each bound capped
@@ -25,9 +24,14 @@ pub record AreCappedIn (g : Graph) (cs : List Channel) (n : Numbers) (by_rank : 
   pub sources : map source_view n.sources.items ≡ map (λ (p : ℕ). (p, capped (bound g by_cost (entries.source p)))) g.sources
   pub depth : n.depth ≡ depth g by_depth
 
--- those of a definition
-abbrev pub AreCapped : Definition → Numbers → Table → (by_cost by_depth : Tables) → Type 0
-AreCapped d n by_rank by_cost by_depth = AreCappedIn (graph d) (channels d) n by_rank by_cost by_depth
+-- those of a definition, where its busy channels have numbers; the bound of an idle channel is not too large
+pub record AreCapped (d : Definition) (n : Numbers) (by_rank : Table) (by_cost by_depth : Tables) : Type 0 where
+  pub ranks : map (told_rank d n) (channels d) ≡ map (λ (c : Channel). entry by_rank (node (graph d) c)) (channels d)
+  pub bounds : map (told_bound d n) (channels d) ≡ map (λ (c : Channel). capped (bound (graph d) by_cost (entries.at c))) (channels d)
+  pub idle : n.idle ≤ most_bound
+  pub build : n.build ≡ capped (bound (graph d) by_cost entries.build)
+  pub sources : map source_view n.sources.items ≡ map (λ (p : ℕ). (p, capped (bound (graph d) by_cost (entries.source p)))) (graph d).sources
+  pub depth : n.depth ≡ depth (graph d) by_depth
 
 -- those of a definition without its idle channels, as they are reckoned
 pub record AreBusyNumbers (d : Definition) (n : Numbers) : Type 0 where
@@ -38,24 +42,16 @@ pub record AreBusyNumbers (d : Definition) (n : Numbers) : Type 0 where
   pub solves_costs : SolvesCapped (busy_graph d) by_cost
   pub solves_depths : SolvesDepths (busy_graph d) by_depth
   pub capped : AreCappedIn (busy_graph d) (busy_channels d) n by_rank by_cost by_depth
+  pub idle : n.idle ≡ capped (1 + d.most_objects)
 
 -- ** idle channels
 
--- the value at the number of a channel, if it has one, or else that of an idle channel
-abbrev pub value_at : {A : Type 0} → List A → (idle : A) → Option ℕ → A
-value_at values idle None = idle
-value_at values idle (Some number) = read idle values number
-
--- the value of a channel, where some channels have values
-abbrev pub value_among : {A : Type 0} → List Channel → List A → (idle : A) → Channel → A
-value_among busy values idle c = value_at values idle (number_of busy c)
-
--- numbers of all channels by those of the busy ones
-abbrev pub AddsIdle : Definition → (told all : Numbers) → Type 0
-AddsIdle d told all =
-    (by_rank all_ranks : Table) (by_cost all_costs by_depth all_depths : Tables) → AreCappedIn (busy_graph d) (busy_channels d) told by_rank by_cost by_depth →
+-- numbers of all channels are those of the busy ones, and those of idle ones
+abbrev pub AddsIdle : Definition → Numbers → Type 0
+AddsIdle d n =
+    (by_rank all_ranks : Table) (by_cost all_costs by_depth all_depths : Tables) → AreCappedIn (busy_graph d) (busy_channels d) n by_rank by_cost by_depth →
     AddsRanks (graph d) (is_busy d) by_rank all_ranks → AddsCosts (graph d) (is_busy d) by_cost all_costs → AddsDepths (graph d) (is_busy d) by_depth all_depths →
-    AreCapped d all all_ranks all_costs all_depths
+    AreCapped d n all_ranks all_costs all_depths
 
 -- ** bounds
 

@@ -145,10 +145,11 @@ pub(crate) fn told_numbers(
     requires sketched { IsSketch (busy_graph lookups.now) (sketch_view sketch.now) }
     requires reckoned { AreGraphNumbers (busy_graph lookups.now) (sketch_view sketch.now) nodes.now }
     requires few { HaveFew nodes.now }
-    ensures { IfOk result (λ numbers. AreCappedIn (busy_graph lookups.now) (busy_channels lookups.now) numbers
+    ensures capped { IfOk result (λ numbers. AreCappedIn (busy_graph lookups.now) (busy_channels lookups.now) numbers
         (rank_table (busy_graph lookups.now) (sketch_view sketch.now) (at_in (sketch_view sketch.now)) nodes.now.ranks.items)
         (cost_tables (busy_graph lookups.now) (at_in (sketch_view sketch.now)) nodes.now.costs.items)
         (depth_tables (busy_graph lookups.now) (sketch_view sketch.now) (at_in (sketch_view sketch.now)) nodes.now.depths.items)) }
+    ensures idle { IfOk result (λ numbers. numbers.idle ≡ capped (1 + lookups.now.most_objects)) }
 {
     let objects = lookups.definition().limits().objects;
     let costs = channel_values(alloc, sketch, layout, nodes.costs.as_slice())?;
@@ -176,6 +177,7 @@ pub(crate) fn told_numbers(
     Ok(Numbers {
         ranks,
         bounds,
+        idle: capped_sum(1, u64::from(objects)),
         build,
         sources,
         depth,

@@ -5,6 +5,7 @@ ghost use Rattle.std.specs.List.{find};
 ghost use Rattle.ui_machine.specs.Definition as machine;
 ghost use Rattle.law_typing.specs.Graph.{graph};
 ghost use Rattle.law_typing.specs.Graph.Channels as law;
+ghost use Rattle.law_idle.specs.Idle.{busy_channels};
 ghost use Rattle.law_typing.specs.Graph.Tables.{Table, Tables};
 ghost use Rattle.law_typing.specs.Verdict.{too_large};
 ghost use Rattle.verified.specs.Entries.{entry_of};
@@ -28,15 +29,15 @@ fn is_large(bounds: &[u64], number: usize) -> bool
     }
 }
 
-// Returns the first channel whose bound is too large.
-fn large_channel(numbers: &Numbers, channels: &ChannelNumbers) -> Option<Entry>
-    ensures { (d : machine.Definition) (by_rank : Table) (by_cost by_depth : Tables) → AreCapped d numbers.now by_rank by_cost by_depth → channels.now ≡ law.channels d
+// Returns the first channel whose bound is too large, which is a busy one.
+fn large_channel(numbers: &Numbers, busy: &ChannelNumbers) -> Option<Entry>
+    ensures { (d : machine.Definition) (by_rank : Table) (by_cost by_depth : Tables) → AreCapped d numbers.now by_rank by_cost by_depth → busy.now ≡ busy_channels d
         → option_map entry_of result ≡ large_channel d by_cost (law.channels d) }
 {
     let bounds = numbers.bounds.as_slice();
-    for number in 0..channels.count() {
+    for number in 0..busy.count() {
         if is_large(bounds, number) {
-            return Some(Entry::At(channels.channel(number)));
+            return Some(Entry::At(busy.channel(number)));
         }
     }
     None
@@ -53,14 +54,14 @@ fn large_source(sources: &[SourceBound]) -> Option<SourceBound>
 }
 
 /// Returns the first entry of the report whose bound is too large.
-pub(crate) fn too_large(numbers: &Numbers, channels: &ChannelNumbers) -> Option<Entry>
-    ensures { (d : machine.Definition) (by_rank : Table) (by_cost by_depth : Tables) → AreCapped d numbers.now by_rank by_cost by_depth → channels.now ≡ law.channels d
+pub(crate) fn too_large(numbers: &Numbers, busy: &ChannelNumbers) -> Option<Entry>
+    ensures { (d : machine.Definition) (by_rank : Table) (by_cost by_depth : Tables) → AreCapped d numbers.now by_rank by_cost by_depth → busy.now ≡ busy_channels d
         → option_map entry_of result ≡ too_large (graph d) by_cost }
 {
     if numbers.build > MOST_BOUND {
         return Some(Entry::Build);
     }
-    if let Some(entry) = large_channel(numbers, channels) {
+    if let Some(entry) = large_channel(numbers, busy) {
         return Some(entry);
     }
     match large_source(numbers.sources.as_slice()) {

@@ -4,7 +4,6 @@
 mod bounds;
 mod cycles;
 mod faults;
-mod idle_numbers;
 mod large_bounds;
 mod texts;
 mod verdicts;

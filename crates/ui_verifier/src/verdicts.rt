@@ -3,7 +3,6 @@
 ghost use Rattle.std.specs.Prelude.{◌≡◌, All, None, Some, IfOk};
 ghost use Rattle.ui_machine.specs.Definition as machine;
 ghost use Rattle.law_judging.specs.FirstFaults.{first_fault};
-ghost use Rattle.law_typing.specs.Graph.Channels as law;
 ghost use Rattle.law_typing.specs.Rules.Faults.{bound_too_large, cycle};
 ghost use Rattle.law_typing.specs.Verdict.Judges.{IsToldCycle, Judges};
 ghost use Rattle.law_idle.specs.Idle.{busy_channels, busy_graph};
@@ -21,7 +20,6 @@ ghost use Rattle.ui_verifier.specs.Verdicts.{AreAccepted, IsJudged, IsRefusal, V
 use crate::bounds::told_numbers;
 use crate::cycles::cycle_from_first;
 use crate::faults::{Refusal, VerifyError, VerifyFault};
-use crate::idle_numbers::with_idle;
 use crate::large_bounds::too_large;
 use crate::texts::{bound_text, cycle_text};
 use definition_graph::ChannelNumbers;
@@ -61,20 +59,19 @@ fn rule_refusal(
 // Makes the refusal for a cycle.
 fn cycle_refusal(
     alloc: Global,
-    definition: &Definition,
-    channels: &ChannelNumbers,
+    lookups: &Lookups<'_>,
     busy: &ChannelNumbers,
     links: &[SketchedLink],
 ) -> Result<Refusal, AllocError>
-    requires known { channels.now ≡ law.channels definition.now }
-    requires busy { busy.now ≡ busy_channels definition.now }
-    requires lawful { first_fault definition.now ≡ None }
+    requires busy { busy.now ≡ busy_channels lookups.now }
+    requires lawful { first_fault lookups.now ≡ None }
     requires few { All (NamesBelow 256) links.now }
-    requires cycle { IsCycleOnce (busy_graph definition.now) (links_view (busy_graph definition.now) links.now) }
-    ensures { IfOk result (λ r. IsRefusal definition.now r) }
+    requires cycle { IsCycleOnce (busy_graph lookups.now) (links_view (busy_graph lookups.now) links.now) }
+    ensures { IfOk result (λ r. IsRefusal lookups.now r) }
 {
-    let links = cycle_from_first(alloc, channels, busy, links)?;
-    let text = cycle_text(alloc, definition, links.as_slice())?;
+    let channels = ChannelNumbers::new(alloc, lookups)?;
+    let links = cycle_from_first(alloc, &channels, busy, links)?;
+    let text = cycle_text(alloc, lookups.definition(), links.as_slice())?;
     Ok(Refusal {
         fault: VerifyFault::Cycle(links),
         text,
@@ -101,19 +98,18 @@ fn bound_refusal(
 fn judge_numbers(
     alloc: Global,
     lookups: &Lookups<'_>,
-    channels: &ChannelNumbers,
     busy: &ChannelNumbers,
-    told: Numbers,
+    numbers: Numbers,
 ) -> Result<Judgement, AllocError>
-    requires known { channels.now ≡ law.channels lookups.now }
     requires busy { busy.now ≡ busy_channels lookups.now }
     requires read { IsDenoted lookups.now }
     requires lawful { first_fault lookups.now ≡ None }
-    requires told { AreBusyNumbers lookups.now told }
+    requires told { AreBusyNumbers lookups.now numbers }
     ensures { IfOk result (λ j. IsJudged lookups.now j) }
 {
-    let numbers = with_idle(alloc, lookups, channels, busy, told)?;
-    match too_large(&numbers, channels) {
+    // For the proof: a definition has few objects.
+    let _limits = lookups.definition().limits();
+    match too_large(&numbers, busy) {
         Some(entry) => {
             let refusal = bound_refusal(alloc, lookups.definition(), entry)?;
             Ok(Judgement::Refused(refusal))
@@ -126,11 +122,9 @@ fn judge_numbers(
 fn judge_sketch(
     alloc: Global,
     lookups: &Lookups<'_>,
-    channels: &ChannelNumbers,
     busy: &ChannelNumbers,
     sketch: &Sketch,
 ) -> Result<Judgement, AllocError>
-    requires known { channels.now ≡ law.channels lookups.now }
     requires busy { busy.now ≡ busy_channels lookups.now }
     requires read { IsDenoted lookups.now }
     requires lawful { first_fault lookups.now ≡ None }
@@ -143,31 +137,30 @@ fn judge_sketch(
     match reckon(alloc, sketch, &layout, definition.limits().handlers)? {
         Reckoned::Numbers(nodes) => {
             let told = told_numbers(alloc, lookups, busy, sketch, &layout, &nodes)?;
-            judge_numbers(alloc, lookups, channels, busy, told)
+            judge_numbers(alloc, lookups, busy, told)
         }
         Reckoned::Cycle(links) => {
-            let refusal = cycle_refusal(alloc, definition, channels, busy, links.as_slice())?;
+            let refusal = cycle_refusal(alloc, lookups, busy, links.as_slice())?;
             Ok(Judgement::Refused(refusal))
         }
     }
 }
 
-// Judges a definition that breaks no rule, and returns its channels as well.
+// Judges a definition that breaks no rule, and returns its busy channels as well.
 fn judge_lawful(
     alloc: Global,
     definition: &Definition,
 ) -> Result<(ChannelNumbers, Judgement), AllocError>
     requires { first_fault definition.now ≡ None }
-    ensures { IfOk result (λ r. (r.0 ≡ law.channels definition.now) × IsJudged definition.now r.1) }
+    ensures { IfOk result (λ r. (r.0 ≡ busy_channels definition.now) × IsJudged definition.now r.1) }
 {
     let lookups = Lookups::new(alloc, definition)?;
-    let channels = ChannelNumbers::new(alloc, &lookups)?;
     let busy = ChannelNumbers::of_busy(alloc, &lookups)?;
     let sketch = sketch(alloc, &lookups, &busy)?;
     // For the proof: some bytes denote the definition.
     let _types = definition.types();
-    let judgement = judge_sketch(alloc, &lookups, &channels, &busy, &sketch)?;
-    Ok((channels, judgement))
+    let judgement = judge_sketch(alloc, &lookups, &busy, &sketch)?;
+    Ok((busy, judgement))
 }
 
 /// Judges a definition: whether each program is typed, each handler and binding fits, no property is in two pairs, freezes and thaws match,
@@ -185,9 +178,9 @@ pub fn verify(alloc: Global, definition: Definition) -> Result<Verified, VerifyE
         let refusal = rule_refusal(alloc, &definition, fault)?;
         return Err(VerifyError::Refused(refusal));
     }
-    let (channels, judgement) = judge_lawful(alloc, &definition)?;
+    let (busy, judgement) = judge_lawful(alloc, &definition)?;
     match judgement {
-        Judgement::Accepted(numbers) => Ok(Verified::new(definition, channels, numbers)),
+        Judgement::Accepted(numbers) => Ok(Verified::new(definition, busy, numbers)),
         Judgement::Refused(refusal) => Err(VerifyError::Refused(refusal)),
     }
 }

@@ -1,9 +1,10 @@
--- Numbers of a verified definition, looked up by the number of a channel or by a source's program.
-use Rattle.std.proofs.Common.{◌≡◌, ◌⊎◌, inl, inr, refl, sym, ap, subst, ◌∙◌, ℕ, suc, Bool, true, false, cond, nat_eq, List, [], ◌∷◌, map}
-use Rattle.std.proofs.Common.{None, Some, option_map, slice_get, get_or}
+-- Numbers of a verified definition, looked up by a channel or by a source's program.
+use Rattle.std.proofs.Common.{◌≡◌, ◌⊎◌, inl, inr, refl, sym, ap, subst, ◌∙◌, ℕ, zero, suc, Bool, true, false, cond, nat_eq, List, [], ◌∷◌, map}
+use Rattle.std.proofs.Common.{None, Some, option_map, slice_get}
 use Rattle.std.specs.List.{find, list_any}
 use Rattle.std.proofs.lemmas.Bool.{eqb-true, eq-eqb}
-use Rattle.std.proofs.lemmas.Option.{none-some, same_Some, slice_get-map, get_or_from_slice_get}
+use Rattle.std.proofs.lemmas.Option.{none-some, same_Some}
+use Rattle.ui_machine.specs.Seq.{read}
 use Rattle.ui_machine.specs.Definition.{Definition}
 use Rattle.law_typing.specs.Rules.Sites.{sites}
 use Rattle.law_typing.specs.Graph.{Raised, graph, raised_at, connections}
@@ -13,13 +14,14 @@ use Rattle.law_typing.specs.Graph.Costs.{bound}
 use Rattle.law_typing.specs.Graph.Depths.{depth}
 use Rattle.law_typing.specs.Graph.Ranks.{node}
 use Rattle.law_typing.specs.Graph.Tables.{entry}
+use Rattle.law_typing.specs.Laws.{IsIn}
 use Rattle.law_typing.specs.Verdict.Accepted.{Accepted}
 use Rattle.law_typing.proofs.Lists.{either_part, same_channel_true}
 use Rattle.law_typing.proofs.EdgeProofs.{channel_is_raised}
 use Rattle.law_typing.proofs.PairProofs.{accepted_once}
 use Rattle.verified.specs.declared.numbers.Numbers.{Numbers}
 use Rattle.verified.specs.declared.numbers.SourceBound.{SourceBound}
-use Rattle.verified.specs.Told.{AreSources, IsVerified, IsBound, IsDepth, IsRank, bound_in, bound_of, rank_of, source_view}
+use Rattle.verified.specs.Told.{AreSources, IsVerified, IsBound, IsDepth, IsRank, bound_in, bound_of, rank_of, source_view, told_bound, told_rank, value_among}
 
 -- ** lists
 
@@ -27,26 +29,30 @@ use Rattle.verified.specs.Told.{AreSources, IsVerified, IsBound, IsDepth, IsRank
 abbrev among : List Raised → Channel → Bool
 among rs c = list_any (λ (r : Raised). same_channel r.channel c) rs
 
--- one that is among those of some channels has a number there
-place_in : (f : Channel → Raised) → ((e : Channel) → (f e).channel ≡ e) → (c : Channel) (cs : List Channel) → among (map f cs) c ≡ true →
-    (k : ℕ) × (slice_get cs k ≡ Some c)
-place_in f own c [] h = absurd (cc)
-place_in f own c (e ∷ cs) h = by (place_in f own c cs) (either_part (same_channel (f e).channel c) (among (map f cs) c) h)
+-- one that is among those of some channels is one of them
+in_list : (f : Channel → Raised) → ((e : Channel) → (f e).channel ≡ e) → (c : Channel) (cs : List Channel) → among (map f cs) c ≡ true → IsIn c cs
+in_list f own c [] h = absurd (cc)
+in_list f own c (e ∷ cs) h = by (in_list f own c cs) (either_part (same_channel (f e).channel c) (among (map f cs) c) h)
   where
-    by : (among (map f cs) c ≡ true → (k : ℕ) × (slice_get cs k ≡ Some c)) →
-        (same_channel (f e).channel c ≡ true) ⊎ (among (map f cs) c ≡ true) → (k : ℕ) × (slice_get (e ∷ cs) k ≡ Some c)
-    by more (inl here) = (0, ap Some (sym (own e) ∙ same_channel_true (f e).channel c here))
-    by more (inr later) = let found = more later in (suc found.0, found.1)
+    by : (among (map f cs) c ≡ true → IsIn c cs) → (same_channel (f e).channel c ≡ true) ⊎ (among (map f cs) c ≡ true) → IsIn c (e ∷ cs)
+    by more (inl here) = inl (sym (sym (own e) ∙ same_channel_true (f e).channel c here))
+    by more (inr later) = inr (more later)
 
--- each channel of a definition has a number
-has_number : (d : Definition) (c : Channel) → is_channel d c ≡ true → (k : ℕ) × (slice_get (channels d) k ≡ Some c)
-has_number d c is = place_in (raised_at d (connections d (sites d))) (λ e. refl) c (channels d) (channel_is_raised d c is)
+-- each channel of a definition is in its list
+pub has_channel : (d : Definition) (c : Channel) → is_channel d c ≡ true → IsIn c (channels d)
+has_channel d c is = in_list (raised_at d (connections d (sites d))) (λ e. refl) c (channels d) (channel_is_raised d c is)
 
--- what is kept at the number of an entry
-kept_at : (f : Channel → ℕ) (cs : List Channel) (ns : List ℕ) (k : ℕ) (c : Channel) → ns ≡ map f cs → slice_get cs k ≡ Some c →
-    get_or ns k 0 ≡ f c
-kept_at f cs ns k c is at =
-    get_or_from_slice_get ns k (f c) 0 (ap (λ zs. slice_get zs k) is ∙ (slice_get-map f cs k ∙ ap (option_map f) at))
+-- what two functions give for one of a list, where they give the same for all
+pub same_in : (f g : Channel → ℕ) (cs : List Channel) (c : Channel) → map f cs ≡ map g cs → IsIn c cs → f c ≡ g c
+same_in f g [] c same there = absurd there
+same_in f g (e ∷ es) c same (inl is) = let head : f e ≡ g e = cc in ap f is ∙ (head ∙ ap g (sym is))
+same_in f g (e ∷ es) c same (inr there) = let tail : map f es ≡ map g es = cc in same_in f g es c tail there
+
+-- what is read where something is
+pub read_got : {A : Type 0} (none : A) (xs : List A) (n : ℕ) (x : A) → slice_get xs n ≡ Some x → x ≡ read none xs n
+read_got none [] n x is = absurd (none-some x is)
+read_got none (y ∷ ys) zero x is = sym (same_Some _ _ is)
+read_got none (y ∷ ys) (suc n) x is = read_got none ys n x is
 
 -- the bound of a program that is among those that are kept
 found_in : (f : ℕ → ℕ) (program : ℕ) (ss : List SourceBound) (ps : List ℕ) → map source_view ss ≡ map (λ (p : ℕ). (p, f p)) ps →
@@ -95,11 +101,11 @@ module _ (d : Definition) (ss : List SourceBound) (are : AreSources d ss) (progr
 
 module _ {d : Definition} {cs : List Channel} {ns : Numbers} (v : IsVerified d cs ns) where
   -- what is kept are the numbers of each acceptance
-  ranks_kept : (a : Accepted d) → ns.ranks.items ≡ map (rank_of d a) (channels d)
+  ranks_kept : (a : Accepted d) → map (told_rank d ns) (channels d) ≡ map (rank_of d a) (channels d)
   ranks_kept a =
       v.numbers.ranks ∙ ap (λ t. map (λ (c : Channel). entry t (node (graph d) c)) (channels d)) (accepted_once d v.accepted a).0
 
-  bounds_kept : (a : Accepted d) → ns.bounds.items ≡ map (λ (c : Channel). bound_of d a (entries.at c)) (channels d)
+  bounds_kept : (a : Accepted d) → map (told_bound d ns) (channels d) ≡ map (λ (c : Channel). bound_of d a (entries.at c)) (channels d)
   bounds_kept a =
       v.numbers.bounds ∙ ap (λ t. map (λ (c : Channel). bound (graph d) t (entries.at c)) (channels d)) (accepted_once d v.accepted a).1
 
@@ -116,26 +122,17 @@ module _ {d : Definition} {cs : List Channel} {ns : Numbers} (v : IsVerified d c
 
   -- where the definition is seen as this one
   module _ {seen : Definition} (same : d ≡ seen) where
-    -- each channel is found
-    pub never_missing : (c : Channel) → is_channel seen c ≡ true → ((k : ℕ) → slice_get cs k ≡ Some c → ⊥) → ⊥
-    never_missing c is missing =
-        let found = has_number d c (ap (λ x. is_channel x c) same ∙ is) in
-        missing found.0 (ap (λ xs. slice_get xs found.0) v.channels ∙ found.1)
+    pub rank_read : (c : Channel) (n : ℕ) → n ≡ value_among cs ns.ranks.items 0 c → IsIn c (channels seen) → IsRank seen c n
+    rank_read c n is there =
+        subst (λ (x : Definition). IsRank x c n) same
+        (λ a. is ∙ (ap (λ busy. value_among busy ns.ranks.items 0 c) v.busy_channels
+        ∙ same_in (told_rank d ns) (rank_of d a) (channels d) c (ranks_kept a) (subst (λ (x : Definition). IsIn c (channels x)) (sym same) there)))
 
-    -- the channel of a number
-    abbrev IsAt : ℕ → Channel → Definition → Type 0
-    IsAt k c x = slice_get (channels x) k ≡ Some c
-
-    pub rank_read : (ranks : List ℕ) → ranks ≡ ns.ranks.items → (k : ℕ) (c : Channel) → IsAt k c seen → IsRank seen c (get_or ranks k 0)
-    rank_read ranks kept k c at =
-        subst (λ (x : Definition). IsRank x c (get_or ranks k 0)) same
-        (λ a. kept_at (rank_of d a) (channels d) ranks k c (kept ∙ ranks_kept a) (subst (IsAt k c) (sym same) at))
-
-    pub bound_read : (bounds : List ℕ) → bounds ≡ ns.bounds.items → (k : ℕ) (c : Channel) → IsAt k c seen →
-        IsBound seen (entries.at c) (get_or bounds k 0)
-    bound_read bounds kept k c at =
-        subst (λ (x : Definition). IsBound x (entries.at c) (get_or bounds k 0)) same
-        (λ a. kept_at (λ e. bound_of d a (entries.at e)) (channels d) bounds k c (kept ∙ bounds_kept a) (subst (IsAt k c) (sym same) at))
+    pub bound_read : (c : Channel) (n : ℕ) → n ≡ value_among cs ns.bounds.items ns.idle c → IsIn c (channels seen) → IsBound seen (entries.at c) n
+    bound_read c n is there =
+        subst (λ (x : Definition). IsBound x (entries.at c) n) same
+        (λ a. is ∙ (ap (λ busy. value_among busy ns.bounds.items ns.idle c) v.busy_channels
+        ∙ same_in (told_bound d ns) (λ e. bound_of d a (entries.at e)) (channels d) c (bounds_kept a) (subst (λ (x : Definition). IsIn c (channels x)) (sym same) there)))
 
     pub sources_read : (ss : List SourceBound) → ss ≡ ns.sources.items → AreSources seen ss
     sources_read ss kept = subst (λ (x : Definition). AreSources x ss) same (subst (AreSources d) (sym kept) sources_kept)

@@ -42,6 +42,10 @@ none_came a lines = record { first = []; more = lines; split = refl; appends = A
 joined : (xs ys : List (List ℕ)) → lines_text (xs ++ ys) ≡ lines_text xs ++ lines_text ys
 joined xs ys = flat_map-append (λ line. line ++ codes "\n") xs ys
 
+-- the same lines, said otherwise
+pub same_came : (a b : Option (List ℕ)) (xs ys : List (List ℕ)) → xs ≡ ys → Appends a b (lines_text xs) → Appends a b (lines_text ys)
+same_came a b xs ys same h = subst (λ ls. Appends a b (lines_text ls)) same h
+
 -- some lines came, and then more
 pub more_came : (a b c : Option (List ℕ)) (xs ys : List (List ℕ)) → Appends a b (lines_text xs) → Appends b c (lines_text ys) →
     Appends a c (lines_text (xs ++ ys))

@@ -3,7 +3,7 @@ use Rattle.std.specs.Prelude.{ℕ, List, [], ◌∷◌, ◌++◌, codes, map}
 use Rattle.ui_machine.specs.Definition.{Definition}
 use Rattle.ui_machine.specs.Definition.Lookups.{program_at}
 use Rattle.law_typing.specs.Graph.{graph}
-use Rattle.law_typing.specs.Graph.Channels.{Channel, channels}
+use Rattle.law_typing.specs.Graph.Channels.{Channel, channels, channels_at}
 use Rattle.law_typing.specs.Graph.Channels as entries
 use Rattle.law_typing.specs.Verdict.Accepted.{Accepted}
 use Rattle.law_typing.specs.Verdict.Report.{channel_line, name_of_program, numbered, report, source_line, text_of_channel}
@@ -25,9 +25,17 @@ line_of_source d program bound = codes "source " ++ (name_of_program (program_at
 abbrev pub total_lines : (d : Definition) → Accepted d → List (List ℕ)
 total_lines d a = numbered (codes "depth ") (depth_of d a) ∷ numbered (codes "build bound ") (bound_of d a entries.build) ∷ []
 
+-- a channel's line, however the definition is accepted
+abbrev pub line_in : (d : Definition) → Accepted d → Channel → List ℕ
+line_in d a c = channel_line d (graph d) a.weighed.ranks a.weighed.costs c
+
 -- the lines of the channels
 abbrev pub channel_lines : (d : Definition) → Accepted d → List (List ℕ)
-channel_lines d a = map (channel_line d (graph d) a.weighed.ranks a.weighed.costs) (channels d)
+channel_lines d a = map (line_in d a) (channels d)
+
+-- those of the channels of a place
+abbrev pub place_lines : (d : Definition) → Accepted d → ℕ → List (List ℕ)
+place_lines d a place = map (line_in d a) (channels_at d place)
 
 -- the lines of the sources
 abbrev pub source_lines : (d : Definition) → Accepted d → List (List ℕ)

@@ -12,10 +12,12 @@ pub struct SourceBound {
 /// The numbers that a verification gives. The contracts see them through `AreTold`.
 #[derive(Debug, Drop)]
 pub struct Numbers {
-    /// The rank of each channel's node, in the order of the report.
+    /// The rank of each busy channel's node, in the order of the report. The node of an idle channel has rank 0.
     pub ranks: Vec<u32>,
-    /// The bound on the steps of a dispatch that begins at each channel, in the same order.
+    /// The bound on the steps of a dispatch that begins at each busy channel, in the same order.
     pub bounds: Vec<u64>,
+    /// The bound on the steps of a dispatch that begins at an idle channel.
+    pub idle: u64,
     /// The bound on the steps of the build.
     pub build: u64,
     /// The programs of sources with their bounds, in document order.

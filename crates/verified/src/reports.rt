@@ -1,17 +1,28 @@
 //! Writes the report of a verified definition.
 
-ghost use Rattle.std.specs.Prelude.{◌≡◌, ◌<◌, Some, false, length, slice_get, string_bytes, IfOk};
-ghost use Rattle.law_typing.specs.Graph.Channels.{channels};
+ghost use Rattle.std.specs.Prelude.{◌≡◌, ◌<◌, ℕ, Some, false, length, slice_get};
+ghost use Rattle.law_typing.specs.Graph.Channels.{channels_at};
 ghost use Rattle.law_typing.specs.Verdict.Accepted.{Accepted};
-ghost use Rattle.verified.specs.Lines.{channel_lines, report_of, source_lines, total_lines};
+ghost use Rattle.definition_graph.specs.ChannelView.{channels_of};
+ghost use Rattle.verified.specs.Lines.{channel_lines, place_lines, report_of, source_lines, total_lines};
 ghost use Rattle.verified.specs.Writing.{IsMarked, Reports};
 
 use crate::faults::ReportFault;
-use crate::texts::{build_line, channel_line, depth_line, source_line};
+use crate::texts::{build_line, depth_line, source_line};
 use crate::verified::Verified;
 use crate::writing::write_line;
-use std::alloc::{AllocError, Global};
-use ui_machine::{Entry, Sink};
+use definition_graph::channels_at;
+use operand_types::Lookups;
+use std::alloc::Global;
+use ui_machine::{Channel, Entry, Place, Sink};
+
+// Returns the channel at an index of a slice.
+fn channel_at(channels: &[Channel], number: usize) -> Channel
+    requires { number < length channels.now }
+    ensures { slice_get channels.now number ≡ Some result }
+{
+    channels[number]
+}
 
 impl Verified {
     /// Writes the report. It has a line with the depth, one with the bound of the build, one for each channel with its rank and bound, and
@@ -43,26 +54,35 @@ impl Verified {
         write_line(writer, build)
     }
 
-    // Returns the line of the channel with this number.
-    fn line_of_channel(&self, alloc: Global, number: usize) -> Result<String, AllocError>
-        requires { number < length (channels self.now) }
-        ensures { IfOk result (λ line. (a : Accepted self.now) → slice_get (channel_lines self.now a) number ≡ Some (string_bytes line)) }
+    // Writes the lines of some channels of a place.
+    fn report_place<W: Sink>(
+        &self,
+        alloc: Global,
+        writer: &mut W,
+        channels: &[Channel],
+    ) -> Result<(), ReportFault>
+        requires works { W.failed writer.old ≡ false }
+        ensures lines { (place : ℕ) (a : Accepted self.now) → place < length self.now.places → channels_of channels.now ≡ channels_at self.now place
+            → Reports result (W.taken writer.old) (W.taken writer.new) (place_lines self.now a place) }
+        ensures marks { IsMarked result (W.failed writer.new) }
     {
-        let channel = self.channel_at(number);
-        let rank = self.rank_at(number);
-        let bound = self.bound_at(number);
-        channel_line(alloc, self.definition(), channel, rank, bound)
+        for number in 0..channels.len() {
+            let line = self.line_of_channel(alloc, &channel_at(channels, number))?;
+            write_line(writer, line)?;
+        }
+        Ok(())
     }
 
-    // Writes the lines of the channels.
+    // Writes the lines of the channels, place by place: no list of all of them is made.
     fn report_channels<W: Sink>(&self, alloc: Global, writer: &mut W) -> Result<(), ReportFault>
         requires works { W.failed writer.old ≡ false }
         ensures lines { (a : Accepted self.now) → Reports result (W.taken writer.old) (W.taken writer.new) (channel_lines self.now a) }
         ensures marks { IsMarked result (W.failed writer.new) }
     {
-        for number in 0..self.channel_count() {
-            let line = self.line_of_channel(alloc, number)?;
-            write_line(writer, line)?;
+        let lookups = Lookups::new(alloc, self.definition())?;
+        for place in 0..self.definition().place_count() {
+            let channels = channels_at(alloc, &lookups, Place(place as u16))?;
+            self.report_place(alloc, writer, channels.as_slice())?;
         }
         Ok(())
     }

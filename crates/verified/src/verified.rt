@@ -1,16 +1,21 @@
 //! Definitions that are verified.
 
-ghost use Rattle.std.specs.Prelude.{◌≡◌, ◌<◌, true, Some, length, slice_get};
+ghost use Rattle.std.specs.Prelude.{◌≡◌, true, string_bytes, IfOk};
 ghost use Rattle.law_typing.specs.Graph.Channels as law;
 ghost use Rattle.law_typing.specs.Graph.Channels.{is_channel};
+ghost use Rattle.law_typing.specs.Laws.{IsIn};
 ghost use Rattle.law_typing.specs.Verdict.Accepted.{Accepted};
+ghost use Rattle.law_idle.specs.Idle.{busy_channels};
 ghost use Rattle.definition_graph.specs.ChannelView.{channel_of};
 ghost use Rattle.verified.specs.Entries.{entry_of, is_entry};
-ghost use Rattle.verified.specs.Told.{AreNumbersOf, AreSources, IsBound, IsDepth, IsRank, bound_in};
+ghost use Rattle.verified.specs.Lines.{line_in};
+ghost use Rattle.verified.specs.Told.{AreNumbersOf, AreSources, IsBound, IsDepth, IsRank, bound_in, value_among};
 
 use crate::numbers::{Numbers, SourceBound};
+use crate::texts::channel_line;
 use definition_graph::ChannelNumbers;
 use definitions::Definition;
+use std::alloc::{AllocError, Global};
 use std::marker::Model;
 use ui_machine::{Channel, Entry, ProgramId};
 
@@ -18,7 +23,8 @@ use ui_machine::{Channel, Entry, ProgramId};
 #[derive(Drop)]
 pub struct Verified {
     definition: Definition,
-    channels: ChannelNumbers,
+    // The busy channels. All others are idle.
+    busy: ChannelNumbers,
     numbers: Numbers,
 }
 
@@ -30,7 +36,7 @@ impl Model for Verified {
 
     ghost view = { λ v. v.definition };
 
-    ghost invariant = { λ v. IsVerified v.definition v.channels v.numbers };
+    ghost invariant = { λ v. IsVerified v.definition v.busy v.numbers };
 }
 
 // Returns the bound of the first of these sources that runs the program.
@@ -41,16 +47,34 @@ fn bound_of_source(sources: &[SourceBound], program: ProgramId) -> Option<u64>
     Some(source.bound)
 }
 
+// Returns the value of a channel, which is `idle` for an idle one.
+fn value_of<T: Copy + Drop>(
+    busy: &ChannelNumbers,
+    values: &[T],
+    idle: T,
+    channel: &Channel,
+) -> T
+    ensures { result ≡ value_among busy.now values.now idle (channel_of channel.now) }
+{
+    let Some(number) = busy.number(channel) else {
+        return idle;
+    };
+    match values.get(number as usize) {
+        Some(value) => *value,
+        None => idle,
+    }
+}
+
 impl Verified {
-    /// Creates a verified definition of these parts. The definition must be accepted, and the channels and numbers must be its own.
-    pub fn new(definition: Definition, channels: ChannelNumbers, numbers: Numbers) -> Verified
-        requires channels { channels ≡ law.channels definition }
+    /// Creates a verified definition of these parts. The definition must be accepted, and the busy channels and numbers must be its own.
+    pub fn new(definition: Definition, busy: ChannelNumbers, numbers: Numbers) -> Verified
+        requires busy { busy ≡ busy_channels definition }
         requires accepted { (a : Accepted definition) × AreNumbersOf definition numbers a }
         ensures { result ≡ definition }
     {
         Verified {
             definition,
-            channels,
+            busy,
             numbers,
         }
     }
@@ -71,48 +95,37 @@ impl Verified {
         self.definition
     }
 
-    // Returns the number of a channel in the order of the report.
-    fn number_of(&self, channel: &Channel) -> usize
-        requires { is_channel self.now (channel_of channel.now) ≡ true }
-        ensures { slice_get (law.channels self.now) result ≡ Some (channel_of channel.now) }
-    {
-        let Some(number) = self.channels.number(channel) else {
-            unreachable!()
-        };
-        number as usize
-    }
-
-    /// Returns the number of channels of the definition.
-    pub(crate) fn channel_count(&self) -> usize
-        ensures { result ≡ length (law.channels self.now) }
-    {
-        self.channels.count()
-    }
-
-    /// Returns the channel with this number.
-    pub(crate) fn channel_at(&self, number: usize) -> Channel
-        requires { number < length (law.channels self.now) }
-        ensures { slice_get (law.channels self.now) number ≡ Some (channel_of result) }
-    {
-        self.channels.channel(number)
-    }
-
-    /// Returns the rank of the channel with this number.
-    pub(crate) fn rank_at(&self, number: usize) -> u32
-        requires { number < length (law.channels self.now) }
-        ensures { (c : law.Channel) → slice_get (law.channels self.now) number ≡ Some c → IsRank self.now c result }
+    // Returns the rank of a channel of the definition.
+    fn rank_of(&self, channel: &Channel) -> u32
+        ensures { IsIn (channel_of channel.now) (law.channels self.now) → IsRank self.now (channel_of channel.now) result }
     {
         let ranks = self.numbers.ranks.as_slice();
-        ranks[number]
+        value_of(&self.busy, ranks, 0, channel)
     }
 
-    /// Returns the bound of the channel with this number.
-    pub(crate) fn bound_at(&self, number: usize) -> u64
-        requires { number < length (law.channels self.now) }
-        ensures { (c : law.Channel) → slice_get (law.channels self.now) number ≡ Some c → IsBound self.now (law.at c) result }
+    // Returns the bound of a channel of the definition.
+    fn bound_of(&self, channel: &Channel) -> u64
+        ensures { IsIn (channel_of channel.now) (law.channels self.now) → IsBound self.now (law.at (channel_of channel.now)) result }
     {
         let bounds = self.numbers.bounds.as_slice();
-        bounds[number]
+        value_of(&self.busy, bounds, self.numbers.idle, channel)
+    }
+
+    /// Returns the line of a channel of the definition in the report.
+    ///
+    /// # Errors
+    ///
+    /// `AllocError` if memory is refused.
+    pub(crate) fn line_of_channel(
+        &self,
+        alloc: Global,
+        channel: &Channel,
+    ) -> Result<String, AllocError>
+        ensures { IfOk result (λ line. IsIn (channel_of channel.now) (law.channels self.now) → (a : Accepted self.now) → string_bytes line ≡ line_in self.now a (channel_of channel.now)) }
+    {
+        let rank = self.rank_of(channel);
+        let bound = self.bound_of(channel);
+        channel_line(alloc, self.definition(), *channel, rank, bound)
     }
 
     /// Returns the programs of sources with their bounds, in document order.
@@ -139,7 +152,7 @@ impl Verified {
         requires { is_channel self.now (channel_of channel) ≡ true }
         ensures { IsRank self.now (channel_of channel) result }
     {
-        self.rank_at(self.number_of(&channel))
+        self.rank_of(&channel)
     }
 
     /// Returns the greatest number of counted steps of a dispatch that begins with `entry`.
@@ -149,7 +162,7 @@ impl Verified {
     {
         match entry {
             Entry::Build => self.numbers.build,
-            Entry::At(channel) => self.bound_at(self.number_of(&channel)),
+            Entry::At(channel) => self.bound_of(&channel),
             Entry::Source(program) => self.source_bound(program),
             Entry::Plain => u64::from(self.definition.limits().objects),
         }

@@ -19,7 +19,9 @@ use Rattle.law_typing.proofs.JudgedProofs.{judged_is_accepted}
 use Rattle.law_typing.proofs.JudgedRows.{knobs_holds, mainloop_holds}
 use Rattle.law_typing.proofs.PairProofs.{accepted_is_paired}
 use Rattle.verified.specs.declared.numbers.Numbers.{Numbers}
-use Rattle.verified.specs.Told.{AreNumbersOf, AreTold, source_view}
+use Rattle.law_typing.specs.Graph.Channels.{channels}
+use Rattle.law_idle.specs.Idle.{busy_channels}
+use Rattle.verified.specs.Told.{AreNumbersOf, AreTold, source_view, value_among}
 
 -- what is reckoned, where something is
 abbrev or_none : Option Table → Table
@@ -57,22 +59,30 @@ costs_of d = or_nothing (costs (graph d))
 abbrev depths_of : Definition → Tables
 depths_of d = or_nothing (depths (graph d))
 
+-- the ranks of all channels, by those of the busy ones
+abbrev rank_list : Definition → List ℕ → List ℕ
+rank_list d ranks = map (value_among (busy_channels d) ranks 0) (channels d)
+
+-- and their bounds
+abbrev bound_list : Definition → List ℕ → (idle : ℕ) → List ℕ
+bound_list d bounds idle = map (value_among (busy_channels d) bounds idle) (channels d)
+
 -- numbers that are those of the knobs
-pub knobs_meet : (n : Numbers) → n.ranks.items ≡ 0 ∷ 0 ∷ 0 ∷ 1 ∷ 0 ∷ 0 ∷ 2 ∷ 0 ∷ 0 ∷ 1 ∷ 0 ∷ 0 ∷ [] →
-    n.bounds.items ≡ 13 ∷ 7 ∷ 9 ∷ 7 ∷ 7 ∷ 5 ∷ 5 ∷ 5 ∷ 5 ∷ 5 ∷ 5 ∷ 5 ∷ [] → n.build ≡ 8 → n.sources.items ≡ [] → n.depth ≡ 4 →
+pub knobs_meet : (n : Numbers) → n.ranks.items ≡ 0 ∷ 0 ∷ 0 ∷ 1 ∷ 0 ∷ 2 ∷ 0 ∷ 1 ∷ 0 ∷ [] →
+    n.bounds.items ≡ 13 ∷ 7 ∷ 9 ∷ 7 ∷ 7 ∷ 5 ∷ 5 ∷ 5 ∷ 5 ∷ [] → n.idle ≡ 5 → n.build ≡ 8 → n.sources.items ≡ [] → n.depth ≡ 4 →
     (a : Accepted knobs.definition) × AreNumbersOf knobs.definition n a
 unfolding digits data_in passing two_numbers two_passing moving reckoning comparing sameness negating combining joining converting property_of get_property changing_none set_property place_for look_up_object adopting arguments emitting program_named connecting on_handlers attaching methods_for method_named calling entering branching branching_null returning
-knobs_meet n by_channel bounded build sources deep =
+knobs_meet n by_channel bounded idle build sources deep =
     let d = knobs.definition in
     reckoned_meet d knobs.lines refl knobs_holds (ranks_of d) (costs_of d) (depths_of d) (record { ranks = refl; costs = refl; depths = refl }) n
-    (record { ranks = by_channel; bounds = bounded; build = build; sources = ap (map source_view) sources; depth = deep })
+    (record { ranks = ap (rank_list d) by_channel; bounds = ap (λ bounds. bound_list d bounds n.idle) bounded ∙ ap (bound_list d _) idle; build = build; sources = ap (map source_view) sources; depth = deep })
 
 -- and those of the main loop
-pub loop_meets : (n : Numbers) → n.ranks.items ≡ 0 ∷ [] → n.bounds.items ≡ 68 ∷ [] → n.build ≡ 64 →
+pub loop_meets : (n : Numbers) → n.ranks.items ≡ 0 ∷ [] → n.bounds.items ≡ 68 ∷ [] → n.idle ≡ 65 → n.build ≡ 64 →
     n.sources.items ≡ record { program = 1; bound = 66 } ∷ record { program = 2; bound = 66 } ∷ [] → n.depth ≡ 2 →
     (a : Accepted main_loop.definition) × AreNumbersOf main_loop.definition n a
 unfolding digits data_in passing two_numbers two_passing moving reckoning comparing sameness negating combining joining converting property_of get_property changing_none set_property place_for look_up_object adopting arguments emitting program_named connecting on_handlers attaching methods_for method_named calling entering branching branching_null returning
-loop_meets n by_channel bounded build sources deep =
+loop_meets n by_channel bounded idle build sources deep =
     let d = main_loop.definition in
     reckoned_meet d main_loop.lines refl mainloop_holds (ranks_of d) (costs_of d) (depths_of d) (record { ranks = refl; costs = refl; depths = refl }) n
-    (record { ranks = by_channel; bounds = bounded; build = build; sources = ap (map source_view) sources; depth = deep })
+    (record { ranks = ap (rank_list d) by_channel; bounds = ap (λ bounds. bound_list d bounds n.idle) bounded ∙ ap (bound_list d _) idle; build = build; sources = ap (map source_view) sources; depth = deep })

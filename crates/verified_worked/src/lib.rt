@@ -11,7 +11,8 @@ use std::alloc::{AllocError, Global};
 use verified::{Numbers, SourceBound};
 
 /// The numbers of a definition whose knobs follow each other: by a program, by a binding, and two of them both ways. Their class has two
-/// properties and a signal, and there are three of them and a prototype.
+/// properties and a signal, and there are three of them and a prototype. The signal of one of them is handled, and those of the others are
+/// idle.
 ///
 /// # Errors
 ///
@@ -19,11 +20,12 @@ use verified::{Numbers, SourceBound};
 pub fn knob_numbers(alloc: Global) -> Result<Numbers, AllocError>
     ensures { IfOk result (λ numbers. (a : Accepted knobs.definition) × AreNumbersOf knobs.definition numbers a) }
 {
-    let ranks = vec![in alloc; 0, 0, 0, 1, 0, 0, 2, 0, 0, 1, 0, 0]?;
-    let bounds = vec![in alloc; 13, 7, 9, 7, 7, 5, 5, 5, 5, 5, 5, 5]?;
+    let ranks = vec![in alloc; 0, 0, 0, 1, 0, 2, 0, 1, 0]?;
+    let bounds = vec![in alloc; 13, 7, 9, 7, 7, 5, 5, 5, 5]?;
     Ok(Numbers {
         ranks,
         bounds,
+        idle: 5,
         build: 8,
         sources: Vec::new(alloc),
         depth: 4,
@@ -52,6 +54,7 @@ pub fn loop_numbers(alloc: Global) -> Result<Numbers, AllocError>
     Ok(Numbers {
         ranks,
         bounds,
+        idle: 65,
         build: 64,
         sources,
         depth: 2,

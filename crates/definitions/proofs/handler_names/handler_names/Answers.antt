@@ -12,6 +12,6 @@ pub returns : goal.returns
 returns c class name =
     let handlers = c.args.signals.now.handlers in
     let own = λ (k : ℕ). all_classes (λ u. handler_in (named_of handlers u)) c.classes.class (number_of c.classes.names) c.classes.invariant
-    (λ u past n. ap (λ (hs : List ClassHandler). handler_in hs n) (c.requires u (omega (arith, past, c.classes-test.false, c.len.ensures)))) k name in
+    (λ u past n. ap (λ (hs : List ClassHandler). handler_in hs n) (c.requires u (omega (arith, past, c.classes-test.false, c.len-class-end.ensures)))) k name in
     c.in_ok-inherit.ensures class name
     ∙ ap (λ (f : ℕ → Option ℕ). first_given f (lineage c.args.types.now class)) (fun_ext own)

@@ -22,11 +22,11 @@ returns c =
     let d = c.args.lookups.now in
     let channel = c.args.channel.now in
     let place = c.from-place.result in
-    let s = c.index-lists-place.result.now in
+    let s = c.index-lists-place.result in
     let within : place < length c.args.lists.now = omega arith in
     let number = signal_of_channel (channel_of channel) in
     c.in_ok-programs.ensures
     ∙ (ap (λ (xs : List AttachedHandler). meant (channel_of channel) (map handler_view xs)) (c.list-handlers.ensures ∙ ap (list_of s) c.signal_of.ensures)
     ∙ (ap (meant (channel_of channel))
-    (attached_at d c.args.lists.now channel.place.0 number s c.requires (ap (slice_get c.args.lists.now) (sym c.from-place.ensures) ∙ got c.args.lists.now place s within c.index-lists-place.ensures))
+    (attached_at d c.args.lists.now channel.place.0 number s c.requires (ap (slice_get c.args.lists.now) (sym c.from-place.ensures) ∙ got c.args.lists.now place s within c.index-lists-place.is))
     ∙ (meant_of_signal (channel_of channel) (attached_meanings d channel.place.0) ∙ attached_here d channel)))

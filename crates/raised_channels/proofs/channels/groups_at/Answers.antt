@@ -26,9 +26,9 @@ returns c =
     let number = signal_of_channel channel in
     let seen : SignalLists PlacedGroup → List Meant = λ s. map group_view (list_of s number) in
     let place = c.from-place.result in
-    let s = c.index-at-place.result.now in
+    let s = c.index-at-place.result in
     let within : place < length c.args.at.now = omega arith in
     c.in_ok-groups.ensures
     ∙ (ap (λ (xs : List PlacedGroup). meant channel (map group_view xs)) (c.list.ensures ∙ ap (list_of s) c.signal_of.ensures)
-    ∙ (ap (meant channel) (sym (read_mapped seen c.args.at.now place s (got c.args.at.now place s within c.index-at-place.ensures)))
+    ∙ (ap (meant channel) (sym (read_mapped seen c.args.at.now place s (got c.args.at.now place s within c.index-at-place.is)))
     ∙ ap (λ p. meant channel (placed c.args.at.now p number)) (c.from-place.ensures ∙ sym (place_is c.args.channel.now))))

@@ -71,8 +71,13 @@ depth_of-requires-clause-count c =
     ∙ (mapped_length (λ (x : Channel). entry (by_depth d s n c.requires.sketched c.requires.reckoned).channels x) (busy_channels d)
     ∙ ap (λ cs. length cs) (sym c.requires.known))
 
-pub returns : goal.returns
-returns c =
+pub returns-clause-idle : goal.returns-clause-idle
+returns-clause-idle c =
+    let objects = c.limits-objects.ensures.objects ∙ ap (λ (x : Definition). x.most_objects) c.definition.ensures in
+    c.capped_sum.ensures ∙ (ap (λ k. capped (1 + k)) c.from.ensures ∙ ap (λ k. capped (1 + k)) objects)
+
+pub returns-clause-capped : goal.returns-clause-capped
+returns-clause-capped c =
     let d = c.args.lookups.now in
     let s = sketch_view c.args.sketch.now in
     let n = c.args.nodes.now in

@@ -4,7 +4,6 @@ use Rattle.law_idle.specs.Idle.{busy_graph}
 use Rattle.graph_sketches.specs.View.{sketch_view}
 use Rattle.graph_numbers.specs.Links.{NamesBelow, links_view}
 use Rattle.graph_numbers.specs.Reckonings.{AreFewNumbers, AreGraphNumbers, IsCycleOnce, Reckons}
-use Rattle.ui_verifier.specs.Verdicts.{IsRefusal}
 use Rattle.ui_verifier.proofs.ToldNumbers.{by_cost, by_depth, by_rank}
 use Rattle.ui_verifier.proofs.verdicts.judge_sketch.Goals as goal
 
@@ -32,7 +31,8 @@ judge_numbers-requires-clause-told c =
       ranking = numbers.ranks;
       solves_costs = numbers.costs;
       solves_depths = numbers.depths;
-      capped = c.in_ok-told-in-Numbers.ensures;
+      capped = c.in_ok-told-in-Numbers.ensures.capped;
+      idle = c.in_ok-told-in-Numbers.ensures.idle;
     }
 
 pub cycle_refusal-requires-clause-few : goal.cycle_refusal-requires-clause-few
@@ -45,8 +45,4 @@ cycle_refusal-requires-clause-cycle c =
     let handlers = sym (c.limits.ensures.handlers ∙ ap (λ (x : Definition). x.most_handlers) c.definition-definition.ensures) in
     let once : IsCycleOnce (busy_graph d) (links_view (busy_graph d) c.in-Cycle.links.items) =
     subst (Reckons (busy_graph d) (sketch_view c.args.sketch.now)) c.in-Cycle.is (c.in_ok-nodes.ensures.reckoned (busy_graph d) c.requires.sketched handlers) in
-    subst (λ (x : Definition). IsCycleOnce (busy_graph x) (links_view (busy_graph x) c.as_slice.result.now)) (sym c.definition-definition.ensures)
-    (subst (λ ls. IsCycleOnce (busy_graph d) (links_view (busy_graph d) ls)) (sym c.as_slice.ensures.value) once)
-
-pub returns : goal.returns
-returns c = subst (λ (x : Definition). IsRefusal x c.in_ok-refusal-in-Cycle.refusal) c.definition-definition.ensures c.in_ok-refusal-in-Cycle.ensures
+    subst (λ ls. IsCycleOnce (busy_graph d) (links_view (busy_graph d) ls)) (sym c.as_slice.ensures.value) once

@@ -11,4 +11,4 @@ returns c =
     ∙ c.self.invariant.handled c.args.class c.in-Some.signal.name.now
     ∙ handler_is (parts c.self.inside.types c.self.inside.specs c.self.inside.signals c.self.inside.constructed.items c.self.inside.shapes.entries c.self.inside.shaped.items c.self.inside.programs.entries c.self.inside.prototypes.entries c.self.inside.objects.entries c.self.inside.bindings.items c.self.inside.limits)
     c.self.invariant.sound c.args.self.now c.self.view_is c.args.class c.in-Some.signal.name.now
-    ∙ ap (option_and_then (λ (s : Signal). class_handler_of c.args.self.now c.args.class s.name)) c.signal.ensures
+    ∙ ap (option_and_then (λ (s : Signal). class_handler_of c.args.self.now c.args.class s.name)) c.in-Some.ensures
