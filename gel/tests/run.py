@@ -2,6 +2,7 @@
 import json
 import re
 import subprocess
+import sys
 import tempfile
 import time
 from pathlib import Path
@@ -20,6 +21,9 @@ from ..syntax import ACCUMULATORS, BEGINS, BIND_WORDS, PROPERTY_WORDS, SIGNAL_FL
 from .changed import changed
 from .made import events, made
 from .mistakes import FRAMES, JUDGED, MISTAKES, PRELUDE
+
+sys.path.insert(0, str(TOP / "scripts" / "modules"))
+from cases import conformance, examples  # noqa: E402
 
 # How many definitions are made up and how many sources are changed: on a sample, and with --all.
 MADE, CHANGED = (60, 2_000), (400, 10_000)
@@ -77,12 +81,12 @@ class Tests:
 
     def cases(self):
         """Each accepted case of conformance/ and examples/, with its transcript and its bounds."""
-        for file in sorted((*(TOP / "conformance").glob("*/definition.json"), *(TOP / "examples").glob("**/definition.json"))):
-            out, status = self.said("verify", file)
+        for case in (*conformance(), *examples()):
+            out, status = self.said("verify", case.definition)
             if status == 0:
-                definition, name = json.loads(file.read_text(encoding="utf-8")), str(file.parent.relative_to(TOP))
-                self.way_back("cases", name, definition, file.parent / "events.jsonl", file)
-                self.bounds(name, definition, out.decode().splitlines())
+                definition = json.loads(case.definition.read_text(encoding="utf-8"))
+                self.way_back("cases", case.name, definition, case.events, case.definition)
+                self.bounds(case.name, definition, out.decode().splitlines())
 
     def bounds(self, name, definition, report):
         """The bounds that are worked out are those of the report."""
