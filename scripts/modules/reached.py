@@ -144,7 +144,10 @@ def in_path(path, name):
 
 @lru_cache(maxsize=None)
 def in_code(file, words):
-    """The types, traits and constants at a path of code: of the path's file, or else all of that name in its crate, or given out there."""
+    """The types, traits and constants at a path of code: of the path's file, or else all of that name in its crate, or given out there.
+
+    Some at least where the name is a type's, and its crate the project's.
+    """
     own = file.split("/")[0]
     crate = own if words[0] in ("crate", "super", "self") else words[0]
     if crate not in crates():
@@ -152,9 +155,13 @@ def in_code(file, words):
     name, exact = words[-1], "/".join((crate, "src", *words[1:-1])) + ".rt"
     if words[0] != "super" and exists(exact) and name in named_items(exact):
         return named_items(exact)[name]
-    found = [item for other in code_files(crate) for item in named_items(other).get(name, ()) if item.name == name]
+    found = [item for other in code_files(crate) for item in named_items(other).get(name, ())]
+    found = [item for item in found if item.name == name] or found
     others = ((other, path) for other in code_files(crate) for path in code_names(other).get(name, ()) if path[0] not in ("crate", crate))
-    return found or [item for other, path in others if path[0] in crates() for item in in_code(other, path)]
+    found = found or [item for other, path in others if path[0] in crates() for item in in_code(other, path)]
+    if not found and name[0].isupper():
+        raise NotFound(f"{crate}::{name}")
+    return found
 
 
 # ** words
