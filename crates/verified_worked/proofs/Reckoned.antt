@@ -75,7 +75,7 @@ unfolding digits data_in passing two_numbers two_passing moving reckoning compar
 knobs_meet n by_channel bounded idle build sources deep =
     let d = knobs.definition in
     reckoned_meet d knobs.lines refl knobs_holds (ranks_of d) (costs_of d) (depths_of d) (record { ranks = refl; costs = refl; depths = refl }) n
-    (record { ranks = ap (rank_list d) by_channel; bounds = ap (λ bounds. bound_list d bounds n.idle) bounded ∙ ap (bound_list d _) idle; build = build; sources = ap (map source_view) sources; depth = deep })
+    (record { ranks = ap (rank_list d) by_channel; bounds = ap (bound_list d n.bounds.items) idle ∙ ap (λ bounds. bound_list d bounds 5) bounded; build = build; sources = ap (map source_view) sources; depth = deep })
 
 -- and those of the main loop
 pub loop_meets : (n : Numbers) → n.ranks.items ≡ 0 ∷ [] → n.bounds.items ≡ 68 ∷ [] → n.idle ≡ 65 → n.build ≡ 64 →
@@ -85,4 +85,4 @@ unfolding digits data_in passing two_numbers two_passing moving reckoning compar
 loop_meets n by_channel bounded idle build sources deep =
     let d = main_loop.definition in
     reckoned_meet d main_loop.lines refl mainloop_holds (ranks_of d) (costs_of d) (depths_of d) (record { ranks = refl; costs = refl; depths = refl }) n
-    (record { ranks = ap (rank_list d) by_channel; bounds = ap (λ bounds. bound_list d bounds n.idle) bounded ∙ ap (bound_list d _) idle; build = build; sources = ap (map source_view) sources; depth = deep })
+    (record { ranks = ap (rank_list d) by_channel; bounds = ap (bound_list d n.bounds.items) idle ∙ ap (λ bounds. bound_list d bounds 65) bounded; build = build; sources = ap (map source_view) sources; depth = deep })
