@@ -10,6 +10,7 @@ use crate::line_lists::LineList;
 use g_values::{Kind, Value};
 use native_peers::{Method, Peer, PeerFault};
 use std::alloc::{AllocError, Global};
+use std::rc::Rc;
 use std::snapshot::Snapshot;
 
 /// A list of lines of text. `show` adds a line and returns how many there are then. It faults if there is no room for another line or the
@@ -17,14 +18,14 @@ use std::snapshot::Snapshot;
 /// leaves the lines unchanged. Once a screen is closed, its lines take no memory.
 #[derive(Drop)]
 pub struct Screen {
-    methods: Vec<Method>,
+    methods: Rc<Vec<Method>>,
     pub(crate) lines: LineList,
     // The lines as the state has them: those of an open screen, and those that a closed one had. Takes no memory.
     shown: Snapshot<LineList>,
     is_callable: bool,
     calls: u64,
     faults: u64,
-    ghost shaped: { map method_view methods.items ≡ screen_shape },
+    ghost shaped: { map method_view methods.value.items ≡ screen_shape },
     ghost as_shown: { IsTrue is_callable → map rc_str_bytes shown.value.items.items ≡ map rc_str_bytes lines.items.items },
     ghost given_back: { is_callable ≡ false → vec_capacity lines.items ≡ 0 },
 }
@@ -48,15 +49,36 @@ impl Screen {
             params: vec![in alloc; Kind::UInt]?,
             result: Kind::Text,
         };
+        let methods = Rc::new(alloc, vec![in alloc; show, line]?)?;
+        Ok(Screen::of(alloc, methods))
+    }
+
+    /// Creates an open screen without lines, which shares its list of methods with this one.
+    ///
+    /// # Errors
+    ///
+    /// `AllocError` if memory is refused.
+    pub fn another(&self) -> Result<Self, AllocError>
+        ensures { IfOk result (λ s. ⟦<Screen as Peer>⟧.state s ≡ new_screen) }
+    {
+        let methods = self.methods.clone()?;
+        Ok(Screen::of(*methods.allocator(), methods))
+    }
+
+    // Creates an open screen without lines, of these methods.
+    fn of(alloc: Global, methods: Rc<Vec<Method>>) -> Self
+        requires { map method_view methods.value.items ≡ screen_shape }
+        ensures { ⟦<Screen as Peer>⟧.state result ≡ new_screen }
+    {
         let lines = LineList::new(alloc);
-        Ok(Screen {
-            methods: vec![in alloc; show, line]?,
+        Screen {
+            methods,
             shown: Snapshot::of(&lines),
             lines,
             is_callable: true,
             calls: 0,
             faults: 0,
-        })
+        }
     }
 }
 
@@ -66,7 +88,7 @@ impl Peer for Screen {
     ghost moves = { λ s. Screens };
 
     fn shape(&self) -> &[Method] {
-        &self.methods
+        self.methods.as_slice()
     }
 
     fn is_open(&self) -> bool {
