@@ -5,6 +5,7 @@
 #![tactic(auto)]
 
 mod adding;
+mod line_lists;
 mod screens;
 mod stock_lists;
 mod stocked_runs;
@@ -13,7 +14,8 @@ mod tallies;
 mod tests;
 
 pub use adding::put;
-pub use screens::{MOST_LINE_BYTES, MOST_LINES, Screen};
+pub use line_lists::{MOST_LINE_BYTES, MOST_LINES};
+pub use screens::Screen;
 pub use stock_lists::{StockKind, StockPeer, stock};
 pub use stocked_runs::{PoolProgram, run_with_stock};
 pub use tallies::Tally;

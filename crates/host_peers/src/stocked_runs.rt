@@ -40,15 +40,18 @@ pub fn run_with_stock<P: PoolProgram>(
     requires { P.asks program (stocked_pool definition.now) }
     ensures { IfOk result (λ status. P.answers program status) }
 {
+    // All screens share the methods of this one, and all tallies those of the other.
+    let screen = Screen::new(alloc)?;
+    let tally = Tally::new(alloc)?;
     let mut pool = PeerPool::new(alloc);
     'peers: for peer in stock(alloc, definition)? {
         match peer.kind {
             StockKind::Screen => {
-                let screen = Box::new(alloc, Screen::new(alloc)?)?;
+                let screen = Box::new(alloc, screen.another()?)?;
                 put_new(&mut pool, peer.name, StockKind::Screen, screen)?;
             }
             StockKind::Tally => {
-                let tally = Box::new(alloc, Tally::new(alloc)?)?;
+                let tally = Box::new(alloc, tally.another()?)?;
                 put_new(&mut pool, peer.name, StockKind::Tally, tally)?;
             }
         }

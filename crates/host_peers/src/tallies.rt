@@ -9,17 +9,18 @@ ghost use Rattle.host_peers.specs.Tallies.{Tallies, first_number, new_tally, num
 use g_values::{Kind, Value};
 use native_peers::{Method, Peer, PeerFault};
 use std::alloc::{AllocError, Global};
+use std::rc::Rc;
 
 /// A sum of signed numbers of 64 bits, to which `add` adds a number, wrapping around on overflow. `read` does not change it. Both return
 /// the sum.
 #[derive(Drop)]
 pub struct Tally {
-    methods: Vec<Method>,
+    methods: Rc<Vec<Method>>,
     sum: i64,
     is_callable: bool,
     calls: u64,
     faults: u64,
-    ghost shaped: { map method_view methods.items ≡ tally_shape },
+    ghost shaped: { map method_view methods.value.items ≡ tally_shape },
 }
 
 impl Tally {
@@ -41,13 +42,33 @@ impl Tally {
             params: Vec::new(alloc),
             result: Kind::Int64,
         };
-        Ok(Tally {
-            methods: vec![in alloc; add, read]?,
+        let methods = Rc::new(alloc, vec![in alloc; add, read]?)?;
+        Ok(Tally::of(methods))
+    }
+
+    /// Creates an open tally at 0, which shares its list of methods with this one.
+    ///
+    /// # Errors
+    ///
+    /// `AllocError` if memory is refused.
+    pub fn another(&self) -> Result<Self, AllocError>
+        ensures { IfOk result (λ t. ⟦<Tally as Peer>⟧.state t ≡ new_tally) }
+    {
+        Ok(Tally::of(self.methods.clone()?))
+    }
+
+    // Creates an open tally at 0, of these methods.
+    fn of(methods: Rc<Vec<Method>>) -> Self
+        requires { map method_view methods.value.items ≡ tally_shape }
+        ensures { ⟦<Tally as Peer>⟧.state result ≡ new_tally }
+    {
+        Tally {
+            methods,
             sum: 0,
             is_callable: true,
             calls: 0,
             faults: 0,
-        })
+        }
     }
 }
 
@@ -87,7 +108,7 @@ impl Peer for Tally {
     ghost moves = { λ t. Tallies };
 
     fn shape(&self) -> &[Method] {
-        &self.methods
+        self.methods.as_slice()
     }
 
     fn is_open(&self) -> bool {

@@ -7,7 +7,8 @@ ghost use Rattle.host_peers.specs.Screens.{screen_shape};
 ghost use Rattle.host_peers.specs.Tallies.{tally_shape};
 
 use crate::adding::put;
-use crate::screens::{MOST_LINE_BYTES, Screen};
+use crate::line_lists::MOST_LINE_BYTES;
+use crate::screens::Screen;
 use crate::tallies::Tally;
 use g_values::Value;
 use native_peers::{Peer, PeerFault, PeerPool};
@@ -75,6 +76,46 @@ fn a_screen_keeps_lines(rt: HostRuntime) -> Result<(), Fail> {
         )
     );
     assert_eq!(rt; screen.counts(), (4, 1));
+    Ok(())
+}
+
+#[test]
+fn another_tally_is_new(rt: HostRuntime) -> Result<(), Fail> {
+    let mut tally = Tally::new(rt.alloc())?;
+    assert!(rt; ask_tally(&mut tally, 0, &[Value::Int64(5)]).is_ok());
+    let mut other = tally.another()?;
+    assert!(rt; matches!(ask_tally(&mut other, 1, &[]), Ok(Value::Int64(0))));
+    assert_eq!(rt; other.shape().len(), 2);
+    assert_eq!(rt; other.counts(), (1, 0));
+    Ok(())
+}
+
+#[test]
+fn another_screen_is_new(rt: HostRuntime) -> Result<(), Fail> {
+    let mut screen = Screen::new(rt.alloc())?;
+    assert!(rt; ask_screen(&mut screen, 0, &[Value::Text(None)]).is_ok());
+    let mut other = screen.another()?;
+    assert!(rt;
+        matches!(
+            ask_screen(&mut other, 0, &[Value::Text(None)]),
+            Ok(Value::UInt(1))
+        )
+    );
+    assert_eq!(rt; other.shape().len(), 2);
+    assert_eq!(rt; screen.counts(), (1, 0));
+    Ok(())
+}
+
+#[test]
+fn a_closed_screen_keeps_no_memory(rt: HostRuntime) -> Result<(), Fail> {
+    let mut screen = Screen::new(rt.alloc())?;
+    let text = RcStr::from_str(rt.alloc(), "a line")?;
+    assert!(rt; ask_screen(&mut screen, 0, &[Value::Text(Some(text))]).is_ok());
+    screen.close();
+    assert!(rt; !screen.is_open());
+    assert_eq!(rt; screen.lines.items.len(), 0);
+    assert_eq!(rt; screen.lines.items.capacity(), 0);
+    assert_eq!(rt; screen.counts(), (1, 0));
     Ok(())
 }
 

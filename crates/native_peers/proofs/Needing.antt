@@ -1,6 +1,7 @@
 -- What needs a peer.
-use Rattle.std.proofs.Common.{◌≡◌, refl, ap, sym, ◌∙◌, ℕ, Bool, true, false, cond, ◌||◌, List, [], ◌∷◌, map, None, Some}
-use Rattle.std.specs.List.{list_any}
+use Rattle.std.proofs.Common.{◌≡◌, refl, ap, sym, ◌∙◌, arith, ℕ, suc, ◌+◌, Bool, true, false, cond, not, ◌||◌, is_some, nat_lt, List, [], ◌∷◌, length, map, None, Some}
+use Rattle.std.specs.List.{list_any, position, position_or_len}
+use Rattle.std.proofs.lemmas.Bool.Decides.{nat_tests}
 use Rattle.ui_machine.specs.Definition.Names.{same_name}
 use Rattle.ui_machine.specs.State.Peers.{Peer}
 use Rattle.law_pools.specs.Needs as law
@@ -21,3 +22,20 @@ module _ (needs : List Need) (p : Peer) (name : List ℕ) (same : name ≡ p.nam
 
   pub not_needed : list_any (λ n. same_name n.name.now name) needs ≡ false → Some (unused name) ≡ first_unused (map need_view needs) (p ∷ [])
   not_needed e = ap (λ x. Some (unused x)) same ∙ ap (λ b. cond b None (Some (unused p.name))) (sym (asked false e))
+
+module _ {A : Type 0} (p : A → Bool) where
+  inside_any : (xs : List A) → nat_lt (position_or_len p xs) (length xs) ≡ list_any p xs
+  inside_any [] = refl
+  inside_any (x ∷ xs) = by (p x) (inside_any xs)
+    where
+      by : (b : Bool) → nat_lt (position_or_len p xs) (length xs) ≡ list_any p xs → nat_lt (cond (not b) (1 + position_or_len p xs) 0) (suc (length xs)) ≡ (b || list_any p xs)
+      by true e = grind (arith, nat_tests)
+      by false e = grind (arith, nat_tests, e)
+
+  placed : (b : Bool) (k : ℕ) → is_some (cond b (Some k) None) ≡ b
+  placed true k = refl
+  placed false k = refl
+
+  -- what passes in a list has a place in it
+  pub placed_any : (xs : List A) → is_some (position p xs) ≡ list_any p xs
+  placed_any xs = placed (nat_lt (position_or_len p xs) (length xs)) (position_or_len p xs) ∙ inside_any xs

@@ -1,8 +1,7 @@
 //! A peer of a pool together with its name.
 
-ghost use Rattle.std.specs.Prelude.{◌≡◌, IsTrue, map, string_bytes};
+ghost use Rattle.std.specs.Prelude.{◌≡◌, IsTrue, map};
 ghost use Rattle.g_values.specs.View.{value_view};
-ghost use Rattle.ui_machine.specs.Definition.Names.{same_name};
 ghost use Rattle.peer_shapes.specs.MethodViews.{is_plain_shape, method_view};
 ghost use Rattle.native_peers.specs.Moves.{ArgsFit, Invokes, SameMoves, answer_of, closed};
 
@@ -15,18 +14,12 @@ use peer_shapes::Method;
 #[derive(Drop)]
 pub(crate) struct NamedPeer {
     pub(crate) name: String,
+    // Above those of the peers before it in the pool.
+    pub(crate) serial: u64,
     pub(crate) peer: Box<dyn Peer>,
 }
 
 impl NamedPeer {
-    // Returns whether the peer has this name.
-    #[tactic(auto, using(g_values::proofs::Texts::same_bytes))]
-    pub(crate) fn has_name(&self, name: &str) -> bool
-        ensures { result ≡ same_name (string_bytes self.now.name) name.now }
-    {
-        self.name.as_str() == name
-    }
-
     // Returns whether the peer may be called.
     pub(crate) fn is_open(&self) -> bool
         ensures { result ≡ (state self.now.peer).is_open }
@@ -47,6 +40,7 @@ impl NamedPeer {
         requires open { IsTrue (state self.now.peer).is_open }
         requires args { ArgsFit (state self.now.peer) method (map value_view args.now) }
         ensures name { self.new.name ≡ self.old.name }
+        ensures serial { self.new.serial ≡ self.old.serial }
         ensures invokes { Invokes (moves self.old.peer) (moves self.new.peer)
             (state self.old.peer) method (map value_view args.now) (answer_of result) (state self.new.peer) }
     {
@@ -57,6 +51,7 @@ impl NamedPeer {
     pub(crate) fn close(&mut self)
         requires { IsTrue (state self.now.peer).is_open }
         ensures name { self.new.name ≡ self.old.name }
+        ensures serial { self.new.serial ≡ self.old.serial }
         ensures closed { state self.new.peer ≡ closed (state self.old.peer) }
         ensures same_moves { SameMoves (moves self.old.peer) (moves self.new.peer) }
     {

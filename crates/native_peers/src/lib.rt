@@ -14,10 +14,10 @@ mod lone_peers;
 mod members;
 mod mismatches;
 mod needs;
-mod numbers;
 mod peers;
 mod pooled_peers;
 mod pools;
+mod serials;
 mod shapes;
 mod stand_ins;
 #[cfg(test)]

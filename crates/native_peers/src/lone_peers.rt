@@ -68,7 +68,7 @@ impl StandIn {
         ensures { mismatch_of result ≡ first_unused (map need_view needs.now) (as_peer (seen_of self.now) ∷ []) }
     {
         let name = self.name.as_str();
-        if is_needed(name, needs, 0) {
+        if is_needed(name, needs) {
             Ok(())
         } else {
             Err(MatchFault::PeerUnused(name))

@@ -10,9 +10,9 @@ ghost use Rattle.native_peers.specs.Seen.{Asks, ClosesAt, SameRelations};
 
 use crate::entries::NamedPeer;
 use crate::faults::{AddFault, NotAdded, PeerFault};
-use crate::numbers::make_room;
 use crate::peers::Peer;
 use crate::pools::PeerPool;
+use crate::serials::make_room;
 use g_values::Value;
 use peer_shapes::Method;
 use std::alloc::Global;
@@ -25,7 +25,7 @@ impl PeerPool {
     {
         PeerPool {
             peers: Vec::new(alloc),
-            numbers: Some(BTreeMap::new(alloc)),
+            serials: BTreeMap::new(alloc),
         }
     }
 
@@ -85,35 +85,27 @@ impl PeerPool {
         self.peers[k].close();
     }
 
-    // Returns the number of the first peer with this name. Walks over the peers.
-    fn first_named(&self, name: &str) -> Option<usize>
-        ensures { result ≡ number_of (entries self.now) name.now }
-    {
-        'peers: for (k, peer) in self.peers.iter().enumerate() {
-            if peer.has_name(name) {
-                return Some(k);
-            }
-        }
-        None
-    }
-
-    /// Returns the number of the peer with this name. Looks it up in a map, or walks over the peers from the first one on once a peer was
-    /// taken out of the pool.
+    /// Returns the number of the peer with this name. Its serial number is looked up in a map, and searched for by halves.
     pub fn find(&self, name: &str) -> Option<usize>
         ensures { result ≡ number_of (entries self.now) name.now }
     {
-        match &self.numbers {
-            Some(numbers) => numbers.get(name).copied(),
-            None => self.first_named(name),
-        }
+        let serial = self.serials.get(name)?;
+        self.peers
+            .binary_search_by_key(
+                serial,
+                |peer: &NamedPeer| -> u64
+                    ensures { result ≡ peer.now.serial }
+                { peer.serial },
+            )
+            .ok()
     }
 
     /// Adds a peer at the end.
     ///
     /// # Errors
     ///
-    /// Returns `DuplicatePeer` if and only if the pool has a peer of this name, otherwise `OutOfMemory` if memory is refused. Both hand the
-    /// box back.
+    /// Returns `DuplicatePeer` if and only if the pool has a peer of this name, otherwise `OutOfMemory` if memory is refused, or if no serial
+    /// number is left, which takes 2^64 additions. Both hand the box back.
     pub fn add(&mut self, name: &str, peer: Box<dyn Peer>) -> Result<(), NotAdded>
         ensures ok { OnOk result (AppendsOne (λ p. (string_bytes p.name ≡ name.now) × (p.peer ≡ peer)) (entries self.old) (entries self.new)) }
         ensures fresh { OnOk result (number_of (entries self.old) name.now ≡ None) }
@@ -127,27 +119,27 @@ impl PeerPool {
                 peer,
             });
         }
-        let Ok(name) = make_room(&mut self.peers, &mut self.numbers, name) else {
+        let Ok((name, serial)) = make_room(&mut self.peers, &mut self.serials, name) else {
             return Err(NotAdded {
                 fault: AddFault::OutOfMemory,
                 peer,
             });
         };
         // `make_room` has reserved the room.
-        let Ok(()) = self.peers.push(NamedPeer { name, peer }) else {
+        let Ok(()) = self.peers.push(NamedPeer { name, serial, peer }) else {
             unreachable!()
         };
         Ok(())
     }
 
-    /// Removes the peer with this name from the pool and returns it, or returns `None` if there is none.
+    /// Removes the peer with this name from the pool and returns it, or returns `None` if there is none. The peers behind it move up.
     pub fn take(&mut self, name: &str) -> Option<Box<dyn Peer>>
         ensures taken { result ≡ option_map (λ p. p.peer) (option_and_then (slice_get (entries self.old)) (number_of (entries self.old) name.now)) }
         ensures left { entries self.new ≡ option_map_or (remove (entries self.old)) (number_of (entries self.old) name.now) (entries self.old) }
     {
         let k = self.find(name)?;
-        self.numbers = None;
-        let NamedPeer { name: _, peer } = self.peers.remove(k);
+        let _ = self.serials.remove(name);
+        let NamedPeer { peer, .. } = self.peers.remove(k);
         Some(peer)
     }
 }

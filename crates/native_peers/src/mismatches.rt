@@ -1,11 +1,11 @@
 //! Checks that a pool has exactly the peers that are needed.
 
-ghost use Rattle.std.specs.Prelude.{◌≡◌, ◌∷◌, [], IsTrue, Some, map, option_map, true};
-ghost use Rattle.std.specs.List.{list_any};
+ghost use Rattle.std.specs.Prelude.{◌≡◌, ◌<◌, ◌∷◌, [], IfErr, IfOk, IfSome, IsTrue, None, OnOk, Some, is_some, length, map, option_map, true};
+ghost use Rattle.std.specs.List.{list_any, position};
 ghost use Rattle.ui_machine.specs.Definition.Names.{same_name};
 ghost use Rattle.law_pools.specs.Needs.{first_unused, first_wrong, is_shaped, mismatch_with, peer_named, wrong_with};
 ghost use Rattle.peer_shapes.specs.MethodViews.{method_view};
-ghost use Rattle.native_peers.specs.Matching.{as_peer, as_peers, mismatch_of, need_view};
+ghost use Rattle.native_peers.specs.Matching.{as_peer, as_peers, mismatch_of, mismatch_view, need_view};
 ghost use Rattle.native_peers.specs.Pool.{entries, seen, seen_one};
 
 use crate::entries::NamedPeer;
@@ -41,7 +41,8 @@ fn fits<'a>(peer: &NamedPeer, need: &Need<'a>) -> Result<(), MatchFault<'a>>
 
 // Returns whether the need of this number has this name.
 fn is_of(needs: &[Need<'_>], number: usize, name: &str) -> bool
-    ensures { IsTrue result → list_any (λ n. same_name n.name.now name.now) needs.now ≡ true }
+    ensures known { IsTrue result → list_any (λ n. same_name n.name.now name.now) needs.now ≡ true }
+    ensures bound { IsTrue result → number < length needs.now }
 {
     match needs.get(number) {
         Some(need) => need.has_name(name),
@@ -49,25 +50,45 @@ fn is_of(needs: &[Need<'_>], number: usize, name: &str) -> bool
     }
 }
 
-// Returns whether some need has this name. Looks at the need of number `likely` first.
-pub(crate) fn is_needed(name: &str, needs: &[Need<'_>], likely: usize) -> bool
+// Returns whether some need has this name.
+pub(crate) fn is_needed(name: &str, needs: &[Need<'_>]) -> bool
     ensures { result ≡ list_any (λ n. same_name n.name.now name.now) needs.now }
 {
-    if is_of(needs, likely, name) {
-        return true;
-    }
     needs.iter().any(|need| need.has_name(name))
 }
 
-// Checks that some need has the name of this peer. Looks at the need of number `likely` first.
-fn used<'a>(peer: &'a NamedPeer, needs: &[Need<'_>], likely: usize) -> Result<(), MatchFault<'a>>
-    ensures { mismatch_of result ≡ first_unused (map need_view needs.now) (as_peer (seen_one (state peer.now.peer) peer.now) ∷ []) }
+// Returns the number of the first need with this name.
+fn first_of(needs: &[Need<'_>], name: &str) -> Option<usize>
+    ensures { result ≡ position (λ n. same_name n.name.now name.now) needs.now }
+{
+    needs.iter().position(|need| need.has_name(name))
+}
+
+// Returns the number of a need with this name. Looks at the need of number `likely` first.
+fn need_of(name: &str, needs: &[Need<'_>], likely: usize) -> Option<usize>
+    ensures known { is_some result ≡ list_any (λ n. same_name n.name.now name.now) needs.now }
+    ensures bound { IfSome result (λ number. number < length needs.now) }
+{
+    if is_of(needs, likely, name) {
+        return Some(likely);
+    }
+    first_of(needs, name)
+}
+
+// Returns the number of a need with the name of this peer. Looks at the need of number `likely` first.
+//
+// # Errors
+//
+// Returns `PeerUnused` if no need has the name.
+fn used<'a>(peer: &'a NamedPeer, needs: &[Need<'_>], likely: usize) -> Result<usize, MatchFault<'a>>
+    ensures used { OnOk result (None ≡ first_unused (map need_view needs.now) (as_peer (seen_one (state peer.now.peer) peer.now) ∷ [])) }
+    ensures unused { IfErr result (λ fault. Some (mismatch_view fault) ≡ first_unused (map need_view needs.now) (as_peer (seen_one (state peer.now.peer) peer.now) ∷ [])) }
+    ensures bound { IfOk result (λ number. number < length needs.now) }
 {
     let name = peer.name.as_str();
-    if is_needed(name, needs, likely) {
-        Ok(())
-    } else {
-        Err(MatchFault::PeerUnused(name))
+    match need_of(name, needs, likely) {
+        Some(number) => Ok(number),
+        None => Err(MatchFault::PeerUnused(name)),
     }
 }
 
@@ -93,12 +114,14 @@ impl PeerPool {
         Ok(())
     }
 
-    // Checks that all peers are needed. In a pool that was made from the needs, each peer is found at its own number.
+    // Checks that all peers are needed. Looks for each peer at the need behind that of the peer before it first, so that in a pool that was
+    // made from the needs, each peer is found at once, also after one was taken out.
     fn used_up<'a>(&'a self, needs: &[Need<'_>]) -> Result<(), MatchFault<'a>>
         ensures { mismatch_of result ≡ first_unused (map need_view needs.now) (as_peers (seen (λ p. state p.peer) (entries self.now))) }
     {
-        'peers: for (number, peer) in self.peers.iter().enumerate() {
-            used(peer, needs, number)?;
+        let mut likely = 0;
+        'peers: for peer in &self.peers {
+            likely = used(peer, needs, likely)? + 1;
         }
         Ok(())
     }

@@ -166,6 +166,25 @@ fn a_pool_calls_its_peers(rt: HostRuntime) -> Result<(), Fail> {
     Ok(())
 }
 
+#[test]
+fn a_pool_finds_its_peers_after_one_was_taken(rt: HostRuntime) -> Result<(), Fail> {
+    let mut pool = PeerPool::new(rt.alloc());
+    let first = Box::new(rt.alloc(), Tally::new(rt.alloc())?)?;
+    assert!(rt; pool.add("b", first).is_ok());
+    let second = Box::new(rt.alloc(), Tally::new(rt.alloc())?)?;
+    assert!(rt; pool.add("a", second).is_ok());
+    let third = Box::new(rt.alloc(), Tally::new(rt.alloc())?)?;
+    assert!(rt; pool.add("c", third).is_ok());
+    let taken = pool.take("a").ok_or("no peer")?;
+    assert_eq!(rt; pool.find("b"), Some(0));
+    assert_eq!(rt; pool.find("a"), None);
+    assert_eq!(rt; pool.find("c"), Some(1));
+    assert!(rt; pool.add("a", taken).is_ok());
+    assert_eq!(rt; pool.find("a"), Some(2));
+    assert!(rt; pool.take("d").is_none());
+    Ok(())
+}
+
 // Adds a method whose kinds are `Int64`, unless there is one with its name.
 fn add_method(
     alloc: Global,

@@ -1,6 +1,7 @@
 use Rattle.native_peers.proofs.Apart.{set_apart}
-use Rattle.native_peers.proofs.Numbering.{numbers_set}
+use Rattle.native_peers.proofs.Numbering.{numbers_set, serials_set}
 use Rattle.std.proofs.Common.{ap, string_bytes, sym, ◌∙◌}
+use Rattle.native_peers.specs.Serials.{rises_from}
 use Rattle.native_peers.proofs.Asking.{asked}
 use Rattle.native_peers.proofs.Places.{here, inside}
 use Rattle.native_peers.proofs.Relations.{same_relations}
@@ -25,5 +26,8 @@ invariant_of-self g c =
     let at = here items c.args.k c.index_mut.result.now (inside items c.args.k _ c.requires.open) c.index_mut.ensures.value in
     record {
       apart = set_apart (λ p. string_bytes p.name) items c.args.k c.index_mut.result.now c.invoke.new.self at (ap (λ s. string_bytes s) c.invoke.ensures.name) c.args.self.now.apart;
-      numbered = λ m is n. c.args.self.now.numbered m is n ∙ sym (numbers_set (λ p. string_bytes p.name) items c.args.k c.index_mut.result.now c.invoke.new.self at (ap (λ s. string_bytes s) c.invoke.ensures.name) n);
+      rising = ap (rises_from 0) (numbers_set (λ p. p.serial) items c.args.k c.index_mut.result.now c.invoke.new.self at c.invoke.ensures.serial) ∙ c.args.self.now.rising;
+      numbered = λ n.
+          c.args.self.now.numbered n
+          ∙ sym (serials_set (λ p. string_bytes p.name) (λ p. p.serial) items c.args.k c.index_mut.result.now c.invoke.new.self at (ap (λ s. string_bytes s) c.invoke.ensures.name) c.invoke.ensures.serial n);
     }
