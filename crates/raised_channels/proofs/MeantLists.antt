@@ -65,10 +65,10 @@ meant_of_signal c (x ∷ xs) = by (is_number (signal_of_channel c) x.meaning.sig
         ∙ sym (ap (λ b. map (λ (y : Meant). y.what) (cond b (x ∷ filter (λ (y : Meant). is_meant c y.meaning) xs) (filter (λ (y : Meant). is_meant c y.meaning) xs))) (not_meant c x.meaning e))
 
 -- a list of a signal that gets one more, seen with what each is for
-pub one_more : {T : Type 0} (view : T → Meant) (old new : List T) (signal number : ℕ) (x : T) → new ≡ cond (nat_eq signal number) (old ++ x ∷ []) old
-    → (view x).meaning.signal ≡ Some signal → map view new ≡ map view old ++ of_signal number (view x ∷ [])
-one_more view old new signal number x is for =
-    ap (map view) is ∙ by (nat_eq signal number) ∙ ap (λ b. map view old ++ cond b (view x ∷ []) []) (sym (ap (is_number number) for ∙ same number signal))
+pub one_more : {T : Type 0} (view : T → Meant) (old new : List T) (under number : ℕ) (x : T) → new ≡ cond (nat_eq under number) (old ++ x ∷ []) old
+    → (view x).meaning.signal ≡ Some under → map view new ≡ map view old ++ of_signal number (view x ∷ [])
+one_more view old new under number x is for =
+    ap (map view) is ∙ by (nat_eq under number) ∙ ap (λ b. map view old ++ cond b (view x ∷ []) []) (sym (ap (is_number number) for ∙ same number under))
   where
     same : (n s : ℕ) → is_number n (Some s) ≡ nat_eq s n
     same n s = grind (arith, nat_tests)

@@ -20,7 +20,7 @@ use Rattle.definition_graph.specs.declared.pairs_by_number.PairedNumbers.{Paired
 use Rattle.definition_graph.proofs.Prefixes.{read_past}
 use Rattle.raised_channels.specs.Connected.{AreConnected, connected_at, group_view, groups_for, programs_of}
 use Rattle.raised_channels.specs.ConnectedCode.{connections_if}
-use Rattle.raised_channels.specs.Meanings.{meant}
+use Rattle.raised_channels.specs.Meanings.{meant, signal_of_channel}
 use Rattle.raised_channels.specs.Raised.{AreParts, AreRaised, AreSketched, IsSketchedAt, RunsAt}
 use Rattle.raised_channels.specs.declared.channels.ChannelParts.{ChannelParts}
 use Rattle.raised_channels.specs.SignalLists.{list_of}

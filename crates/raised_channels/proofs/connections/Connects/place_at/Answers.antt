@@ -27,6 +27,6 @@ returns-clause-placed c n number =
     ap (λ (m : Meaning). of_signal number (record { what = c.args.group; meaning = m } ∷ [])) means
     ∙ ap (of_signal number) (sym (meant_class d kind signal detail c.args.group place c.in-Some.class (sym c.if-not-is_covered.ensures) c.in-Some.ensures)) in
     let more : seen c.push.new.self ≡ seen s ++ of_signal number (group_view x ∷ []) =
-    one_more (λ (y : PlacedGroup). group_view y) (list_of s number) (list_of c.push.new.self number) c.in-Some-2.signal number x (c.in_ok-push.ensures number) (sym c.in-Some-2.is) in
+    one_more (λ (y : PlacedGroup). group_view y) (list_of s number) (list_of c.push.new.self number) c.in-Some-signal.signal number x (c.in_ok-push.ensures number) c.in-Some-signal.is in
     set_by seen at place n s c.push.new.self (of_signal number (group_view x ∷ [])) (got at place s (omega arith) c.index_mut-groups.ensures.value) more
     ∙ put_there place n (placed at n number) (of_signal number (group_view x ∷ [])) (λ m. of_signal number (meant_at d kind signal detail c.args.group m)) one
