@@ -1,5 +1,5 @@
 -- What calls with a handle come to.
-use Rattle.std.specs.Prelude.{◌≡◌, ◌⊎◌, ℕ, List, [], ◌++◌, Option, None, Some, drop, length, min, take}
+use Rattle.std.specs.Prelude.{◌≡◌, ◌⊎◌, ◌<◌, ℕ, List, [], ◌++◌, Option, None, Some, drop, length, min, take}
 use Rattle.event_lines.specs.EventFileRun.{Outcome, refused, said, stopped}
 use Rattle.event_lines.specs.Events.{event_replies}
 use Rattle.event_lines.specs.Texts.{lines_text, name_of}
@@ -64,13 +64,14 @@ FailsAs faults.Stopped buffer status written = (status ≡ statuses.Stopped) × 
 
 -- ** lines
 
--- so many bytes are taken of a session's lines, into a buffer that held others
+-- so many bytes are taken of a session's lines, into a buffer that held others; where there is room left, no line is kept
 abbrev pub TakesFrom : List ℕ → ℕ → List ℕ → HostedSession → HostedSession → Type 0
 TakesFrom before count after old new =
     (count ≡ min (length before) (length (unread old)))
     × (after ≡ take count (unread old) ++ drop count before)
     × (unread new ≡ drop count (unread old))
     × (without_lines (held new) ≡ without_lines (held old))
+    × (count < length before → held new ≡ without_lines (held old))
 
 -- bytes are taken of the lines of the session that is kept, if one is
 abbrev pub Takes : List ℕ → Option HostedSession → ℕ → Option HostedSession → List ℕ → Type 0

@@ -1,6 +1,6 @@
 //! The lines of a session, taken as a stream of bytes.
 
-ghost use Rattle.std.specs.Prelude.{◌≡◌, ◌++◌, [], ◌∷◌, IfNone, IfSome, drop, length, min, take};
+ghost use Rattle.std.specs.Prelude.{◌≡◌, ◌++◌, ◌<◌, [], ◌∷◌, IfNone, IfSome, drop, length, min, take};
 ghost use Rattle.ui_engine.specs.SessionView.{without_lines};
 ghost use Rattle.c_sessions.specs.Nobody.{held};
 ghost use Rattle.c_sessions.specs.Unread.{unread};
@@ -9,12 +9,13 @@ use crate::hosted_session::HostedSession;
 
 impl HostedSession {
     /// Takes bytes of the lines that were said, each line with its LF, from where the last call ended. Returns how many: as many as there
-    /// is room for, or all that are left. The rest of the buffer is unchanged. The lines are cleared once a call finds no more bytes.
+    /// is room for, or all that are left. The rest of the buffer is unchanged. A call that leaves room clears the lines.
     pub fn take_lines(&mut self, out: &mut [u8]) -> usize
         ensures count { result ≡ min (length out.old) (length (unread self.old)) }
         ensures bytes { out.new ≡ take result (unread self.old) ++ drop result out.old }
         ensures left { unread self.new ≡ drop result (unread self.old) }
         ensures session { without_lines (held self.new) ≡ without_lines (held self.old) }
+        ensures cleared { result < length out.old → held self.new ≡ without_lines (held self.old) }
     {
         'room: for place in 0..out.len() {
             let Some(byte) = self.next_byte() else {
