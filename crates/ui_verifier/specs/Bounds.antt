@@ -41,8 +41,8 @@ pub record AreBusyNumbers (d : Definition) (n : Numbers) : Type 0 where
   pub ranking : IsRanking (busy_graph d) by_rank
   pub solves_costs : SolvesCapped (busy_graph d) by_cost
   pub solves_depths : SolvesDepths (busy_graph d) by_depth
-  pub capped : AreCappedIn (busy_graph d) (busy_channels d) n by_rank by_cost by_depth
   pub idle : n.idle ≡ capped (1 + d.most_objects)
+  pub capped : AreCappedIn (busy_graph d) (busy_channels d) n by_rank by_cost by_depth
 
 -- ** idle channels
 
