@@ -13,7 +13,7 @@ fn lines_come_in_pieces(rt: HostRuntime) {
     let mut refusal = [1; 12];
     let status = ui.start(alloc, DEFINITION.as_bytes(), &mut refusal);
     assert!(rt; status == Status::Done);
-    assert!(rt; refusal == [0; 12]);
+    assert!(rt; &refusal == b"\0\x01\x01\x01\x01\x01\x01\x01\x01\x01\x01\x01");
     let mut piece = [b'.'; 8];
     let count = ui.take_lines(alloc, &mut piece);
     assert!(rt; count == 8 && &piece == b"build\nco");
@@ -27,10 +27,10 @@ fn lines_come_in_pieces(rt: HostRuntime) {
     );
     assert!(rt; ui.take_lines(alloc, &mut rest) == 0);
     let status = ui.dispatch(alloc, b"{\"set\":[\"b\",\"m\",5]}", &mut refusal);
-    assert!(rt; status == Status::LineRefused && &refusal == b"Unknown\0\0\0\0\0");
+    assert!(rt; status == Status::LineRefused && &refusal == b"Unknown\0\x01\x01\x01\x01");
     ui.finish(alloc);
     let status = ui.dispatch(alloc, b"{\"get\":[\"b\",\"n\"]}", &mut refusal);
-    assert!(rt; status == Status::NoSession && refusal == [0; 12]);
+    assert!(rt; status == Status::NoSession && &refusal == b"\0nknown\0\x01\x01\x01\x01");
     drop(ui.into_session(alloc));
 }
 
@@ -49,7 +49,7 @@ fn a_definition_is_verified(rt: HostRuntime) {
     let alloc = rt.alloc();
     let mut report = [1; 512];
     assert!(rt; verify(alloc, DEFINITION.as_bytes(), &mut report) == Status::Done);
-    assert!(rt; report.starts_with(b"depth 1\n") && report[511] == 0);
+    assert!(rt; report.starts_with(b"depth 1\n") && report[511] == 1);
     assert!(rt; verify(alloc, b"{", &mut report) == Status::DefinitionRefused);
     assert!(rt; report.starts_with(b"refused: NotJson\n\0"));
 }

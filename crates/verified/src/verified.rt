@@ -48,12 +48,7 @@ fn bound_of_source(sources: &[SourceBound], program: ProgramId) -> Option<u64>
 }
 
 // Returns the value of a channel, which is `idle` for an idle one.
-fn value_of<T: Copy + Drop>(
-    busy: &ChannelNumbers,
-    values: &[T],
-    idle: T,
-    channel: &Channel,
-) -> T
+fn value_of<T: Copy + Drop>(busy: &ChannelNumbers, values: &[T], idle: T, channel: &Channel) -> T
     ensures { result ≡ value_among busy.now values.now idle (channel_of channel.now) }
 {
     let Some(number) = busy.number(channel) else {
