@@ -19,24 +19,44 @@
 #include <stddef.h>
 #include <stdint.h>
 
+#ifdef __cplusplus
+extern "C" {
+#endif
+
 /* A session, or none. */
 typedef struct gelvopaun_ui {
   bool is_open;
   void *session;
 } gelvopaun_ui;
 
-/* How a call ended. The numbers are those with which `ui run` ends, and 2. */
+/* How a call ended. The numbers up to 5 are those with which `ui run` ends, and 2. */
 enum {
   GELVOPAUN_DONE = 0,
   /* The definition is refused, and there is no session. */
   GELVOPAUN_DEFINITION_REFUSED = 1,
   /* There is no session. */
   GELVOPAUN_NO_SESSION = 2,
-  /* No memory was found. Where it was not found as a line was read, nothing was done, and the session is as it was. Elsewhere the session, if
-   * there is one, carries nothing out any more; its lines can still be taken. */
+  /* No memory was found, in this call or in one before. The session, if there is one, carries nothing out any more; its lines can still be
+   * taken. */
   GELVOPAUN_STOPPED = 3,
   /* The line is refused, and the session is as it was. */
   GELVOPAUN_LINE_REFUSED = 5,
+  /* The event has more to do: gelvopaun_advance goes on with it. */
+  GELVOPAUN_UNDER_WAY = 6,
+  /* Another event is under way. Nothing was done. */
+  GELVOPAUN_BUSY = 7,
+  /* No memory was found for reading the line. Nothing was done, and the session is as it was. */
+  GELVOPAUN_NO_MEMORY = 8,
+};
+
+/* When a turn has something to run next. */
+enum {
+  /* At no moment, until an event comes. */
+  GELVOPAUN_DUE_NEVER = 0,
+  /* At once. */
+  GELVOPAUN_DUE_NOW = 1,
+  /* At a moment, in the milliseconds of the turns. */
+  GELVOPAUN_DUE_AT = 2,
 };
 
 /* Judges a definition without running anything, and writes what `ui verify` prints to `report`, as much of it as there is room for: the
@@ -54,11 +74,29 @@ uint8_t gelvopaun_start(const uint8_t *definition, size_t length, gelvopaun_ui *
  * not refused, the name is empty. */
 uint8_t gelvopaun_dispatch(gelvopaun_ui *ui, const uint8_t *line, size_t length, uint8_t *refusal, size_t room);
 
+/* Has the session begin the event of one line. Where it answers GELVOPAUN_UNDER_WAY the event has more to do, and gelvopaun_advance goes on
+ * with it. Otherwise it answers what gelvopaun_dispatch does, and writes to `refusal` as that does. */
+uint8_t gelvopaun_begin(gelvopaun_ui *ui, const uint8_t *line, size_t length, uint8_t *refusal, size_t room);
+
+/* Goes on with the event that is under way, for at most so many counted steps. It answers GELVOPAUN_UNDER_WAY where exactly so many were made
+ * and the event has not ended, and GELVOPAUN_DONE where it has. All parts of an event come to what gelvopaun_dispatch comes to, and its lines
+ * can be taken between them. Where no event is under way nothing is done, and it answers GELVOPAUN_DONE, or GELVOPAUN_STOPPED where the session
+ * has stopped. */
+uint8_t gelvopaun_advance(gelvopaun_ui *ui, uint64_t most);
+
+/* Answers when a turn has something to run next, if no event comes before it. Where that is GELVOPAUN_DUE_AT the moment is written to
+ * `moment`, and otherwise `moment` stays as it was. A turn before that moment runs nothing. A session that is not there is never due. */
+uint8_t gelvopaun_next_due(gelvopaun_ui *ui, uint64_t *moment);
+
 /* Takes bytes of the lines that the session has said, each line with its LF, from where the last call ended. It answers how many it has
  * written to `out`: `room`, or fewer where no more are left. */
 size_t gelvopaun_take_lines(gelvopaun_ui *ui, uint8_t *out, size_t room);
 
 /* Ends the session and frees it, if there is one. The gelvopaun_ui can be started again. */
 void gelvopaun_finish(gelvopaun_ui *ui);
+
+#ifdef __cplusplus
+}
+#endif
 
 #endif

@@ -5,3 +5,4 @@ pub mod KeptValues
 pub mod LooseValues
 pub mod Padding
 pub mod Streams
+pub mod Parts

@@ -2,16 +2,17 @@
 
 ghost use Rattle.std.specs.Prelude.{◌≡◌, [], IfSome, None, Some, option_map};
 ghost use Rattle.c_sessions.specs.Held.{is_kept};
-ghost use Rattle.c_sessions.specs.Handles.{Dispatches, FailsAs, KeepsAs, Starts, Takes};
+ghost use Rattle.c_sessions.specs.Handles.{AdvancesAs, BeginsAs, Dispatches, FailsAs, KeepsAs, Starts, Takes, status_of_part};
 
 use crate::buffers::write_text;
+use crate::faults::HostedFault;
 use crate::hosted_session::HostedSession;
 use crate::kept::Kept;
 use crate::starts::{Started, start};
 use crate::status::Status;
-use event_lines::LineFault;
 use std::alloc::Global;
 use std::mem;
+use ui_engine::SessionFault;
 
 /// A handle that holds a session, or none. For C it is a struct of a truth value and an address. C neither reads nor writes them, except
 /// for the zero bytes with which a handle without a session begins.
@@ -68,6 +69,11 @@ impl SessionHandle {
             write_text(refusal, b"");
             return Status::NoSession;
         };
+        if session.is_under_way() {
+            self.put(alloc, session);
+            write_text(refusal, b"");
+            return Status::Busy;
+        }
         let outcome = session.dispatch_line(alloc, line);
         self.put(alloc, session);
         match outcome {
@@ -77,6 +83,49 @@ impl SessionHandle {
             }
             Err(fault) => report(fault, refusal),
         }
+    }
+
+    /// Makes the session begin the event of a line. If the event has more to do than its beginning it is under way then, and `advance` goes
+    /// on with it. The refusal is written as `dispatch` writes it.
+    pub fn begin(&mut self, alloc: Global, line: &[u8], refusal: &mut [u8]) -> Status
+        ensures { BeginsAs line.now refusal.old self.old.kept.session result self.new.kept.session refusal.new }
+    {
+        let Some(mut session) = self.take(alloc) else {
+            write_text(refusal, b"");
+            return Status::NoSession;
+        };
+        if session.is_under_way() {
+            self.put(alloc, session);
+            write_text(refusal, b"");
+            return Status::Busy;
+        }
+        let outcome = session.begin_line(alloc, line);
+        let goes_on = session.is_under_way();
+        self.put(alloc, session);
+        match outcome {
+            Ok(()) => {
+                write_text(refusal, b"");
+                status_of_part(Ok(()), goes_on)
+            }
+            Err(fault) => report(fault, refusal),
+        }
+    }
+
+    /// Goes on with the event that is under way for at most `most` counted steps, as `HostedSession::advance` does.
+    pub fn advance(&mut self, alloc: Global, most: u64) -> Status
+        ensures { AdvancesAs most self.old.kept.session result self.new.kept.session }
+    {
+        let Some(mut session) = self.take(alloc) else {
+            return Status::NoSession;
+        };
+        if !session.is_under_way() {
+            self.put(alloc, session);
+            return Status::AtRest;
+        }
+        let result = session.advance(most);
+        let goes_on = session.is_under_way();
+        self.put(alloc, session);
+        status_of_part(result, goes_on)
     }
 
     /// Takes bytes of the session's lines as `HostedSession::take_lines` does, and returns how many. A handle without a session has none.
@@ -154,16 +203,31 @@ fn boxed<T: Drop>(alloc: Global, value: T) -> Option<Box<T>>
     }
 }
 
+// Returns the status of a part of an event, which goes on or not.
+fn status_of_part(part: Result<(), SessionFault>, goes_on: bool) -> Status
+    ensures { result ≡ status_of_part part goes_on }
+{
+    match part {
+        Ok(()) if goes_on => Status::UnderWay,
+        Ok(()) => Status::Done,
+        Err(_) => Status::Stopped,
+    }
+}
+
 // Returns the status for a fault. The name of the refusal of a line is written, and otherwise an empty text.
-fn report(fault: LineFault, refusal: &mut [u8]) -> Status
+fn report(fault: HostedFault, refusal: &mut [u8]) -> Status
     ensures { FailsAs fault refusal.old result refusal.new }
 {
     match fault {
-        LineFault::Refused(why) => {
+        HostedFault::Refused(why) => {
             write_text(refusal, why.name().as_bytes());
             Status::LineRefused
         }
-        LineFault::Stopped => {
+        HostedFault::NoMemory => {
+            write_text(refusal, b"");
+            Status::NoMemory
+        }
+        HostedFault::Stopped => {
             write_text(refusal, b"");
             Status::Stopped
         }

@@ -5,13 +5,15 @@
 //! number.
 #![tactic(auto)]
 
-ghost use Rattle.std.specs.Prelude.{◌≡◌, None, length};
-ghost use Rattle.c_sessions.specs.Handles.{Dispatches, Starts, Takes};
+ghost use Rattle.std.specs.Prelude.{◌≡◌, None, Option, length};
+ghost use Rattle.ui_engine.specs.declared.next_due.NextDue.{NextDue};
+ghost use Rattle.c_sessions.specs.Handles.{AdvancesAs, BeginsAs, Dispatches, Starts, Takes, TellsNext};
+ghost use Rattle.c_sessions.specs.Moments.{code_of_due, moment_told};
 ghost use Rattle.c_sessions.specs.Statuses.{code_of};
 ghost use Rattle.c_sessions.specs.Verdicts.{Verifies};
 ghost use Rattle.c_sessions.specs.declared.status.Status.{Status};
 
-use c_sessions::{SessionHandle, verify};
+use c_sessions::{SessionHandle, tell_due, verify};
 use std::alloc::Global;
 
 /// Judges a definition and writes its report, as `c_sessions::verify` does.
@@ -46,6 +48,40 @@ pub extern "C" fn gelvopaun_dispatch(
     ensures { (status : Status) × (result ≡ code_of status) × Dispatches line.now refusal.old ui.old.kept.session status ui.new.kept.session refusal.new }
 {
     ui.dispatch(alloc, line, refusal).code()
+}
+
+/// Makes the session begin the event of a line, as `SessionHandle::begin` does.
+#[unsafe(no_mangle)]
+pub extern "C" fn gelvopaun_begin(
+    alloc: Global,
+    ui: &mut SessionHandle,
+    line: &[u8],
+    refusal: &mut [u8],
+) -> u8
+    ensures { (status : Status) × (result ≡ code_of status) × BeginsAs line.now refusal.old ui.old.kept.session status ui.new.kept.session refusal.new }
+{
+    ui.begin(alloc, line, refusal).code()
+}
+
+/// Goes on with the event that is under way, as `SessionHandle::advance` does.
+#[unsafe(no_mangle)]
+pub extern "C" fn gelvopaun_advance(alloc: Global, ui: &mut SessionHandle, most: u64) -> u8
+    ensures { (status : Status) × (result ≡ code_of status) × AdvancesAs most ui.old.kept.session status ui.new.kept.session }
+{
+    ui.advance(alloc, most).code()
+}
+
+/// Tells when a turn has something to run next, as `SessionHandle::next_due` and `tell_due` do.
+#[unsafe(no_mangle)]
+pub extern "C" fn gelvopaun_next_due(
+    alloc: Global,
+    ui: &mut SessionHandle,
+    moment: &mut u64,
+) -> u8
+    ensures { (due : Option NextDue) × TellsNext ui.old.kept.session due ui.new.kept.session × (result ≡ code_of_due due) × (moment.new ≡ moment_told due moment.old) }
+{
+    let due = ui.next_due(alloc);
+    tell_due(due, moment)
 }
 
 /// Takes bytes of the session's lines, as `SessionHandle::take_lines` does, and returns how many.

@@ -1,0 +1,86 @@
+/* Calls the functions of the library in many orders, and says where one answers otherwise than the header says. Status 1 where one does. */
+#include "gelvopaun.h"
+
+#include <stdio.h>
+#include <string.h>
+
+static const char *emits =
+    "{\"format\":1,\"classes\":[{\"name\":\"Box\",\"signals\":[{\"name\":\"s\"},{\"name\":\"t\"},{\"name\":\"wait\"},{\"name\":\"rest\"}],"
+    "\"class-handlers\":[[\"s\",\"c\"],[\"t\",\"e\"],[\"wait\",\"w\"],[\"rest\",\"r\"]]}],\"programs\":["
+    "{\"name\":\"c\",\"params\":[\"some:Box\"],\"registers\":1,\"blocks\":[{\"code\":[[\"emit\",null,0,\"t\",null,[]],[\"return\",null]]}]},"
+    "{\"name\":\"e\",\"params\":[\"some:Box\"],\"registers\":1,\"blocks\":[{\"code\":[[\"return\",null]]}]},"
+    "{\"name\":\"w\",\"params\":[\"some:Box\"],\"registers\":2,\"blocks\":[{\"code\":[[\"timeout\",1,\"tick\",0,10,null],[\"return\",null]]}]},"
+    "{\"name\":\"r\",\"params\":[\"some:Box\"],\"registers\":2,\"blocks\":[{\"code\":[[\"idle\",1,\"tick\",0,null],[\"return\",null]]}]},"
+    "{\"name\":\"tick\",\"registers\":1,\"result\":\"bool\",\"blocks\":[{\"code\":[[\"const\",0,\"bool\",true],[\"return\",0]]}]}],"
+    "\"objects\":[{\"id\":\"b\",\"class\":\"Box\"}]}";
+
+static int failed = 0;
+static gelvopaun_ui ui;
+static char text[256];
+
+static void want(const char *what, unsigned long is, unsigned long wanted) {
+  if (is == wanted) return;
+  printf("%s: %lu, and not %lu\n", what, is, wanted);
+  failed = 1;
+}
+
+static uint8_t dispatch(const char *line) { return gelvopaun_dispatch(&ui, (const uint8_t *)line, strlen(line), (uint8_t *)text, sizeof text); }
+static uint8_t begin(const char *line) { return gelvopaun_begin(&ui, (const uint8_t *)line, strlen(line), (uint8_t *)text, sizeof text); }
+
+static void take(const char *what, const char *wanted) {
+  size_t count = gelvopaun_take_lines(&ui, (uint8_t *)text, sizeof text);
+  if (count == strlen(wanted) && memcmp(text, wanted, count) == 0) return;
+  printf("%s: said %.*s\n", what, (int)count, text);
+  failed = 1;
+}
+
+/* Without a session, with one at rest, and with an event under way. */
+static void call_in_all_orders(void) {
+  want("without a session: begin", begin("{\"turn\":1}"), GELVOPAUN_NO_SESSION);
+  want("without a session: advance", gelvopaun_advance(&ui, 1), GELVOPAUN_NO_SESSION);
+  want("start", gelvopaun_start((const uint8_t *)emits, strlen(emits), &ui, (uint8_t *)text, sizeof text), GELVOPAUN_DONE);
+  take("build", "build\nconstruct #1 Box\nend 0\n");
+  want("at rest: advance", gelvopaun_advance(&ui, 1), GELVOPAUN_DONE);
+  want("begin a refused line", begin("{\"emit\":[\"b\",\"u\",[]]}"), GELVOPAUN_LINE_REFUSED);
+  want("its reason", strcmp(text, "Unknown"), 0);
+  want("begin", begin("{\"emit\":[\"b\",\"s\",[]]}"), GELVOPAUN_UNDER_WAY);
+  want("under way: no reason", strlen(text), 0);
+  want("under way: begin", begin("{\"turn\":1}"), GELVOPAUN_BUSY);
+  want("under way: dispatch", dispatch("{\"turn\":1}"), GELVOPAUN_BUSY);
+  want("no step", gelvopaun_advance(&ui, 0), GELVOPAUN_UNDER_WAY);
+  want("two steps", gelvopaun_advance(&ui, 2), GELVOPAUN_UNDER_WAY);
+  take("two steps", "emit #1.s()\nrun c\n");
+  want("three more", gelvopaun_advance(&ui, UINT64_MAX), GELVOPAUN_DONE);
+  take("three more", "emit #1.t()\nrun e\nend 5\n");
+  want("after it: advance", gelvopaun_advance(&ui, 1), GELVOPAUN_DONE);
+  want("a turn of nothing", begin("{\"turn\":5}"), GELVOPAUN_DONE);
+}
+
+static void wait_for_turns(void) {
+  uint64_t moment = 7;
+  want("nothing waits", gelvopaun_next_due(&ui, &moment), GELVOPAUN_DUE_NEVER);
+  want("nothing waits: the moment stays", moment, 7);
+  want("wait", dispatch("{\"emit\":[\"b\",\"wait\",[]]}"), GELVOPAUN_DONE);
+  want("a timeout", gelvopaun_next_due(&ui, &moment), GELVOPAUN_DUE_AT);
+  want("its moment", moment, 15);
+  want("a turn after it", dispatch("{\"turn\":17}"), GELVOPAUN_DONE);
+  want("again", gelvopaun_next_due(&ui, &moment), GELVOPAUN_DUE_AT);
+  want("its next moment", moment, 27);
+  want("rest", dispatch("{\"emit\":[\"b\",\"rest\",[]]}"), GELVOPAUN_DONE);
+  want("an idle", gelvopaun_next_due(&ui, &moment), GELVOPAUN_DUE_NOW);
+}
+
+/* A session can be ended while an event is under way. */
+static void end_midway(void) {
+  want("begin", begin("{\"emit\":[\"b\",\"s\",[]]}"), GELVOPAUN_UNDER_WAY);
+  gelvopaun_finish(&ui);
+  want("ended: advance", gelvopaun_advance(&ui, 1), GELVOPAUN_NO_SESSION);
+  gelvopaun_finish(&ui);
+}
+
+int main(void) {
+  call_in_all_orders();
+  wait_for_turns();
+  end_midway();
+  return failed;
+}
