@@ -12,7 +12,7 @@ use Rattle.definition_format.specs.Refusals.{Refusal, Fails}
 use Rattle.definition_format.specs.Document.{entries_at, each, at_entry}
 use Rattle.definition_format.specs.Denoted.Entries.{place_with_id}
 use Rattle.definition_format.specs.Denoted.Programs.{code_names, program_at, programs_in}
-use Rattle.definition_parts.proofs.Chains.{fails_as}
+use Rattle.read_parts.proofs.Chains.{fails_as}
 
 with_places : Format → List GType → (List ℕ → Option ℕ) → Names
 with_places format types place = record { format = format; types = types; place = place }

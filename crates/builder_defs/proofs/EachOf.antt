@@ -15,7 +15,7 @@ use Rattle.definition_format.specs.declared.event_faults.EventError.{EventError}
 use Rattle.definition_format.specs.declared.event_faults.EventError.TheVariants as errors
 use Rattle.definition_format.specs.Meaning.{IsKnownKind}
 use Rattle.definition_format.specs.EventMeaning.{EventRefusal, Fails, count, each_of}
-use Rattle.definition_parts.proofs.Each.{one_more}
+use Rattle.read_parts.proofs.Each.{one_more}
 
 pub params_are : (ks : List Kind) → length (map kind_view ks) ≡ length ks
 params_are ks = length-map ks kind_view

@@ -7,7 +7,7 @@ use Rattle.definition_format.specs.declared.events.Event.{Event}
 use Rattle.definition_format.specs.EventMeaning.{Gives, event_denoted}
 use Rattle.definition_format.specs.Meaning.{event_of}
 use Rattle.definition_format.specs.Origin.{IsDenoted}
-use Rattle.law_sessions.specs.Sessions.{EventRead}
+use Rattle.law_steps.specs.Served.Sessions.{EventRead}
 use Rattle.law_reading.proofs.Whole.{events_read}
 
 pub read_if : (d : Definition) → IsDenoted d → (line : List ℕ) (r : Result Event EventError) → Gives event_of r (event_denoted d line) → IfOk r (λ event. EventRead d (event_of event))

@@ -15,7 +15,7 @@ use Rattle.definition_format.specs.Denoted.Objects.{Built, no_objects, object_at
 use Rattle.definition_format.specs.Denoted.Prototypes.{prototype_at, prototypes_in}
 use Rattle.definition_format.specs.Denoted.Shapes.{is_shaped_by}
 use Rattle.definition_format.specs.Denoted.{objects_in, scope_with}
-use Rattle.definition_parts.proofs.Chains.{fails_as}
+use Rattle.read_parts.proofs.Chains.{fails_as}
 
 module _ (types : List GType) (specs : ℕ → List Spec) (has_shape : ℕ → Bool) (programs : List Program) (prototypes : List Place) (most : ℕ) (d : Data) (list : Items)
     (at : entries_at [] d (codes "objects") ≡ Ok list) where

@@ -7,9 +7,9 @@ use Rattle.serde_json.specs.Read.{read}
 use Rattle.ui_machine.specs.Definition as machine
 use Rattle.ui_machine.specs.Limits.{most_line_bytes}
 use Rattle.definition_format.specs.EventMeaning.{event_meant, set_event, get_event, release_event, emit_event, turn_event, line_value}
-use Rattle.definition_parts.proofs.Values.{line_value-text}
-use Rattle.plain_lines.specs.LineData.{line_data, one_member, words_data}
-use Rattle.plain_lines.specs.declared.lines.PlainLine.{PlainLine}
+use Rattle.read_parts.proofs.Values.{line_value-text}
+use Rattle.read_lines.specs.LineData.{line_data, one_member, words_data}
+use Rattle.read_lines.specs.declared.lines.PlainLine.{PlainLine}
 use Rattle.builder_defs.specs.SaidWords.{set_of, get_of, release_of, emit_of}
 
 pub plain_set : (d : machine.Definition) (id name : List ℕ) (v : Data) → event_meant d (one_member (codes "set") (words_data id name (item v no_items))) ≡ set_of d id name v

@@ -27,7 +27,7 @@ use Rattle.definition_format.specs.Denoted.Programs.{programs_in}
 use Rattle.definition_format.specs.Denoted.Prototypes.{prototypes_in}
 use Rattle.definition_format.specs.Denoted.Shapes.{is_shaped_by, shapes_in}
 use Rattle.definition_format.specs.Denoted.{format_number, format_of, enums_in, flags_in, interfaces_in, classes_in, draft_in, objects_in, definition_in, definition_with, keys_of_definition}
-use Rattle.definition_parts.proofs.Chains.{fails_as, fails_first}
+use Rattle.read_parts.proofs.Chains.{fails_as, fails_first}
 
 -- ** its types
 

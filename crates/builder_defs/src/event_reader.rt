@@ -3,14 +3,14 @@
 ghost use Rattle.std.specs.Prelude.{◌≡◌, Ok, IfOk, IfSome};
 ghost use Rattle.definition_format.specs.EventMeaning.{Gives, event_denoted, event_meant, line_value};
 ghost use Rattle.definition_format.specs.Meaning.{event_of};
-ghost use Rattle.law_sessions.specs.Sessions.{EventRead};
-ghost use Rattle.plain_lines.specs.LineData.{line_data};
+ghost use Rattle.law_steps.specs.Served.Sessions.{EventRead};
+ghost use Rattle.read_lines.specs.LineData.{line_data};
 
 use crate::emit_reading::emit_of;
 use crate::event_reading::{MAX_LINE_BYTES, event_of_line, get_of, release_of, set_of, turn_in};
 use definition_format::{Event, EventError};
 use definitions::Definition;
-use plain_lines::{PlainLine, Scratch};
+use read_lines::{PlainLine, Scratch};
 use std::alloc::{AllocError, Global};
 
 /// A reader of events, which keeps its scratch buffer from line to line.

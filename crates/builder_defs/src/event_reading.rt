@@ -9,17 +9,17 @@ ghost use Rattle.ui_machine.specs.Definition.Lookups.{spec_of};
 ghost use Rattle.definition_format.specs.Meaning.{event_of, given_view, class_at};
 ghost use Rattle.definition_format.specs.Denoted.Given.{reference};
 ghost use Rattle.param_specs.specs.View.{spec_view};
-ghost use Rattle.law_sessions.specs.Sessions.{EventRead};
+ghost use Rattle.law_steps.specs.Served.Sessions.{EventRead};
 ghost use Rattle.definition_format.specs.EventMeaning.{Gives, event_denoted, event_meant, line_value, has_one_member, words_of_set, words_of_get, set_event, get_event, release_event, moment_if, turn_event, target, object_of, object_named, is_of_kind, object_given, given_by, readable, writable, or_value_fault};
 ghost use Rattle.builder_defs.specs.SaidWords.{set_of, get_of, release_of};
 
 use crate::emit_reading::emit_in;
 use bitflags::Flags;
 use definition_format::{Event, EventError, EventFault, Given, Request};
-use definition_objects::reference;
 use definitions::Definition;
 use g_values::{JsonError, Kind, from_json};
 use param_specs::{PropertyFlags, Spec};
+use read_objects::reference;
 use serde_json::Value;
 use std::alloc::Global;
 use type_tree::{TypeId, TypeTree};
@@ -79,7 +79,7 @@ fn parsed_line(alloc: Global, bytes: &[u8]) -> Result<Value, EventError>
 }
 
 // Returns whether a value is an object with exactly one member.
-#[tactic(auto, using(definition_parts::proofs::Values::one_member_is))]
+#[tactic(auto, using(read_parts::proofs::Values::one_member_is))]
 fn has_one_member(value: &Value) -> bool
     ensures { result ≡ has_one_member (view value.now) }
 {

@@ -13,9 +13,9 @@ pub use definition_format::{
     Attached, DefinitionFault, DefinitionLimit, Event, EventError, EventFault, Given, GivenValue,
     ReadError, SpecCause, TypeCause,
 };
-pub use definition_parts::document::MAX_BYTES;
 pub use definitions::{Definition, ObjectEntry};
 pub use event_reader::EventReader;
 pub use event_reading::{MAX_LINE_BYTES, read_event};
 pub use named_peers::peers;
+pub use read_parts::document::MAX_BYTES;
 pub use reading::read_definition;

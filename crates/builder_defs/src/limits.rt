@@ -10,8 +10,8 @@ ghost use Rattle.definition_format.specs.Document.{path_of, under};
 ghost use Rattle.definition_format.specs.Denoted.SessionLimits.{limit_within, given_limit, limit_or, given_limits, limits_in};
 
 use definition_format::{DefinitionFault, DefinitionLimit, Path, ReadError};
-use definition_parts::document::{Part, bad_shape};
-use definition_parts::numbers::whole_number;
+use read_parts::document::{Part, bad_shape};
+use read_parts::numbers::whole_number;
 use serde_json::Value;
 use ui_machine::{LEAST_OBJECTS, Limits, MOST_HANDLERS, MOST_OBJECTS};
 

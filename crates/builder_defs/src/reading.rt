@@ -11,7 +11,7 @@ ghost use Rattle.definition_format.specs.Document.{path_of, is_among};
 ghost use Rattle.ui_machine.specs.Seq.{read};
 ghost use Rattle.definition_format.specs.Denoted.Peers.{peers_of};
 ghost use Rattle.definition_format.specs.Denoted.Shapes.{is_shaped_by, shapes_in};
-ghost use Rattle.definition_objects.specs.PeerViews.{is_named_in};
+ghost use Rattle.read_objects.specs.PeerViews.{is_named_in};
 ghost use Rattle.param_specs.specs.Table.{own_of};
 ghost use Rattle.definition_format.specs.Denoted.Properties.{specs_by};
 ghost use Rattle.definition_format.specs.Denoted.Drafts.{class_draft_of, draft_of};
@@ -22,19 +22,19 @@ ghost use Rattle.definition_format.specs.Denoted.{format_number, format_of, enum
 
 use crate::limits::limits_of;
 use definition_format::{DefinitionFault, Path, ReadError};
-use definition_objects::{
-    Classes, ReadObjects, ReadPrototypes, read_objects, read_places, read_programs, read_prototypes,
-};
-use definition_parts::document::{Entries, Part, listed_ahead, parsed};
-use definition_parts::entries::{ProgramNames, TypeNames};
-use definition_types::{
-    ClassDraft, Draft, read_classes, read_enums, read_flags_types, read_interfaces, read_shapes,
-};
 use definitions::programs::Programs;
 use definitions::shapes::Shapes;
 use definitions::{Definition, Parts};
 use handler_code::{Format, Names};
 use param_specs::SpecTable;
+use read_objects::{
+    Classes, ReadObjects, ReadPrototypes, read_objects, read_places, read_programs, read_prototypes,
+};
+use read_parts::document::{Entries, Part, listed_ahead, parsed};
+use read_parts::entries::{ProgramNames, TypeNames};
+use read_types::{
+    ClassDraft, Draft, read_classes, read_enums, read_flags_types, read_interfaces, read_shapes,
+};
 use serde_json::Value;
 use signal_core::SignalTable;
 use std::alloc::Global;

@@ -6,7 +6,7 @@ use Rattle.ui_machine.specs.State.Tasks.{Event}
 use Rattle.builder_defs.specs.EventMeaning.{event_denoted}
 use Rattle.native_peers.specs.Seen.{Seen}
 use Rattle.native_peers.specs.declared.pooled_peers.Peers.{Ghosts}
-use Rattle.engine_pools.specs.declared.dispatches.Reply.{Reply}
+use Rattle.engine_dispatches.specs.declared.dispatches.Reply.{Reply}
 use Rattle.ui_engine.specs.declared.faults.SessionFault.{SessionFault}
 use Rattle.ui_engine.specs.declared.session.Session.{Session}
 use Rattle.ui_engine.specs.SessionView.{AnswersEvent, SessionState, state_at}

@@ -6,11 +6,11 @@ use Rattle.ui_machine.specs.State.Config.{World}
 use Rattle.ui_machine.specs.State.Tasks.{Event}
 use Rattle.native_peers.specs.Seen.{Relations, Seen}
 use Rattle.native_peers.specs.StandIns.{stand_ins}
-use Rattle.engine_pools.specs.declared.courses.Course.{Course}
-use Rattle.engine_pools.specs.declared.courses.Progress.{Progress}
-use Rattle.engine_pools.specs.declared.courses.Progress.TheVariants as progress
-use Rattle.engine_pools.specs.declared.dispatches.Reply.{Reply}
-use Rattle.engine_pools.specs.Courses.{IfGoesOn, IfHasEnded}
+use Rattle.engine_dispatches.specs.declared.courses.Course.{Course}
+use Rattle.engine_dispatches.specs.declared.courses.Progress.{Progress}
+use Rattle.engine_dispatches.specs.declared.courses.Progress.TheVariants as progress
+use Rattle.engine_dispatches.specs.declared.dispatches.Reply.{Reply}
+use Rattle.engine_dispatches.specs.Courses.{IfGoesOn, IfHasEnded}
 use Rattle.ui_engine.specs.declared.faults.SessionFault.{SessionFault}
 use Rattle.ui_engine.specs.SessionView.{AnswersEvent, BeginsEvent, ComesOn, HasCourse, InCourse, SessionState, without_lines}
 use Rattle.ui_engine.proofs.Slices.{comes_forgotten}

@@ -1,7 +1,7 @@
 -- How sessions without peers start.
 use Rattle.std.specs.Prelude.{◌≡◌, ◌⊎◌, ℕ, List, [], None, Some, Ok, string_bytes}
 use Rattle.ui_machine.specs.Definition.{Definition}
-use Rattle.law_pools.specs.Needs.{Mismatch, mismatch}
+use Rattle.law_peers.specs.Needs.{Mismatch, mismatch}
 use Rattle.law_typing.specs.Verdict.Judges.{Judges}
 use Rattle.builder_defs.specs.Denoted.{denoted}
 use Rattle.event_lines.specs.CheckView.{IsRejected, IsUnread}

@@ -1,9 +1,9 @@
 -- Events that are under way in sessions without peers.
 use Rattle.std.specs.Prelude.{⊤, List, Option, None, Some}
 use Rattle.native_peers.specs.Seen.{Seen}
-use Rattle.engine_pools.specs.declared.courses.Course.{Course}
-use Rattle.engine_pools.specs.declared.courses.Progress.{Progress}
-use Rattle.engine_pools.specs.declared.courses.Progress.TheVariants as progress
+use Rattle.engine_dispatches.specs.declared.courses.Course.{Course}
+use Rattle.engine_dispatches.specs.declared.courses.Progress.{Progress}
+use Rattle.engine_dispatches.specs.declared.courses.Progress.TheVariants as progress
 use Rattle.ui_engine.specs.SessionView.{HasCourse, SessionState}
 use Rattle.c_sessions.specs.Nobody.{nobody}
 

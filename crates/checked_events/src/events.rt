@@ -6,7 +6,7 @@ ghost use Rattle.ui_machine.specs.State.Tasks.{get, set};
 ghost use Rattle.law_typing.specs.Good.Requests.{RequestRead};
 ghost use Rattle.law_typing.specs.Graph.Channels.{spec_at};
 ghost use Rattle.law_typing.specs.Laws.WellRead.{IsObject};
-ghost use Rattle.law_sessions.specs.Sessions.{EventRead};
+ghost use Rattle.law_steps.specs.Served.Sessions.{EventRead};
 ghost use Rattle.g_values.specs.View.{kind_view};
 ghost use Rattle.param_specs.specs.View.{spec_view};
 ghost use Rattle.definition_format.specs.Meaning.{IsKnownKind, event_of, given_view, request_of};

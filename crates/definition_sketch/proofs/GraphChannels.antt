@@ -18,12 +18,12 @@ use Rattle.law_typing.specs.Rules.Sites.{sites}
 use Rattle.law_typing.specs.Verdict.Accepted.{Each}
 use Rattle.law_typing.proofs.EdgeProofs.{channel_is_raised, readable_there}
 use Rattle.law_typing.proofs.Lists.{each_append, each_flat}
-use Rattle.graph_sketches.specs.Sketches.{AreNamed, AreOnce, channels_in}
+use Rattle.verify_sketches.specs.Sketches.{AreNamed, AreOnce, channels_in}
 use Rattle.law_idle.specs.Idle.{busy_channels, busy_graph, is_busy}
 use Rattle.law_idle.proofs.Resting.{same_any}
-use Rattle.definition_graph.specs.Numbers.{number_from, number_of, numbers_of}
-use Rattle.definition_graph.proofs.Once.{busy_once}
-use Rattle.definition_graph.proofs.Positions.{found_is}
+use Rattle.verify_graph.specs.Numbers.{number_from, number_of, numbers_of}
+use Rattle.verify_graph.proofs.Once.{busy_once}
+use Rattle.verify_graph.proofs.Positions.{found_is}
 
 each_get : {A : Type 0} (P : A → Type 0) (xs : List A) (n : ℕ) (x : A) → Each P xs → slice_get xs n ≡ Some x → P x
 each_get P [] n x all is = absurd (none-some x is)

@@ -14,10 +14,10 @@ use Rattle.law_typing.specs.Rules.BindingRules.{binding_faults, pair_faults, sha
 use Rattle.law_typing.specs.Verdict.Accepted.{Each}
 use Rattle.law_typing.proofs.Lists.{same_channel_refl, same_channel_true}
 use Rattle.law_typing.proofs.PairProofs.{NoSecond, later_apart, no_second, no_words, pair_read}
-use Rattle.graph_sketches.specs.Sketches.{IsRaisedProperty, channels_in}
+use Rattle.verify_sketches.specs.Sketches.{IsRaisedProperty, channels_in}
 use Rattle.law_idle.specs.Idle.{busy_graph}
-use Rattle.definition_graph.specs.Numbers.{number_of}
-use Rattle.definition_graph.specs.Paired.{HaveNumbers, other_number}
+use Rattle.verify_graph.specs.Numbers.{number_of}
+use Rattle.verify_graph.specs.Paired.{HaveNumbers, other_number}
 use Rattle.definition_sketch.proofs.GraphChannels.{busy_is_raised, has_number}
 
 -- ** pairs that are apart

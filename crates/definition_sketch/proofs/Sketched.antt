@@ -11,19 +11,19 @@ use Rattle.law_typing.specs.Graph.Ranks.{is_raised, node, node_in}
 use Rattle.law_typing.specs.Rules.BindingRules.{binding_faults, pair_faults}
 use Rattle.law_typing.specs.Rules.RegisterKinds.{class_at}
 use Rattle.law_typing.specs.Rules.Sites.{sites}
-use Rattle.graph_sketches.specs.Pointwise.{Pointwise}
-use Rattle.graph_sketches.specs.Sketches.{AreNamed, IsPairedIn, IsQuiet, IsSketch, IsSketchedChannel, Names, NamesIf, Sketch, SketchedChannel, channels_in}
+use Rattle.verify_sketches.specs.Pointwise.{Pointwise}
+use Rattle.verify_sketches.specs.Sketches.{AreNamed, IsPairedIn, IsQuiet, IsSketch, IsSketchedChannel, Names, NamesIf, Sketch, SketchedChannel, channels_in}
 use Rattle.law_idle.specs.Idle.{busy_channels, busy_graph}
 use Rattle.law_idle.proofs.IdleProofs.{others_are_idle}
-use Rattle.definition_graph.specs.Numbers.{number_of}
-use Rattle.definition_graph.specs.Paired.{ArePaired, HaveNumbers, other_number}
-use Rattle.definition_graph.specs.Paired as numbered
-use Rattle.definition_graph.specs.declared.pairs_by_number.PairedNumbers.{PairedNumbers}
+use Rattle.verify_graph.specs.Numbers.{number_of}
+use Rattle.verify_graph.specs.Paired.{ArePaired, HaveNumbers, other_number}
+use Rattle.verify_graph.specs.Paired as numbered
+use Rattle.verify_graph.specs.declared.pairs_by_number.PairedNumbers.{PairedNumbers}
 use Rattle.ui_machine.specs.Seq.{listed}
-use Rattle.definition_graph.proofs.Positions.{found_is, number_is}
-use Rattle.raised_channels.specs.Raised.{AreSketched, IsSketchedAt}
-use Rattle.started_channels.specs.SketchedCode.{ArePrograms}
-use Rattle.started_channels.specs.Tables.{AreOfSome}
+use Rattle.verify_graph.proofs.Positions.{found_is, number_is}
+use Rattle.verify_channels.specs.Raised.{AreSketched, IsSketchedAt}
+use Rattle.verify_starts.specs.SketchedCode.{ArePrograms}
+use Rattle.verify_starts.specs.Tables.{AreOfSome}
 use Rattle.definition_sketch.proofs.GraphChannels.{busy_raised, channel_there, graph_channels, graph_once, named_raised}
 use Rattle.definition_sketch.proofs.PairEnds.{Disjoint, Ends, alone_node, ends_of, ends_raised, other_has, pairs_disjoint, pairs_numbered}
 use Rattle.definition_sketch.proofs.Starts.{places_named, programs_right, starts_named}

@@ -20,22 +20,22 @@ use Rattle.law_typing.specs.Laws.{IsIn}
 use Rattle.law_typing.specs.Rules.RegisterKinds.{Kinds, class_at, covers, kind_in, places}
 use Rattle.law_typing.specs.Rules.Typing.{after}
 use Rattle.law_typing.specs.Verdict.Accepted.{Each}
-use Rattle.graph_sketches.specs.Pointwise.{Pointwise}
-use Rattle.graph_sketches.specs.Sketches.{AreNamed, IsSketchedBlock, IsSketchedStart, IsStartOf, Names, Sketch, SketchedBlock, SketchedStart, channels_in}
-use Rattle.graph_sketches.specs.Sketches as sketched
+use Rattle.verify_sketches.specs.Pointwise.{Pointwise}
+use Rattle.verify_sketches.specs.Sketches.{AreNamed, IsSketchedBlock, IsSketchedStart, IsStartOf, Names, Sketch, SketchedBlock, SketchedStart, channels_in}
+use Rattle.verify_sketches.specs.Sketches as sketched
 use Rattle.law_idle.specs.Idle.{busy_graph, is_busy}
-use Rattle.definition_graph.specs.Numbers.{number_of, numbers_of}
-use Rattle.definition_graph.specs.Paired.{HaveNumbers, if_paired, other_number, slots_at}
-use Rattle.definition_graph.specs.Paired as numbered
-use Rattle.definition_graph.proofs.Positions.{found_is}
-use Rattle.definition_graph.proofs.Prefixes.{listed_read, same_listed}
-use Rattle.started_channels.specs.Covering.{covering}
-use Rattle.started_channels.specs.SketchedCode.{AreNumbersOf, ArePrograms, IsBlock, sketched_code}
-use Rattle.started_channels.specs.Tables.{AreOfSome}
-use Rattle.started_channels.specs.Triggers.{Trigger, start_for, trigger_of}
-use Rattle.started_channels.specs.Triggers as triggers
-use Rattle.raised_channels.proofs.Covered.{covering_places}
-use Rattle.started_channels.proofs.Pointwise.{pointwise_both}
+use Rattle.verify_graph.specs.Numbers.{number_of, numbers_of}
+use Rattle.verify_graph.specs.Paired.{HaveNumbers, if_paired, other_number, slots_at}
+use Rattle.verify_graph.specs.Paired as numbered
+use Rattle.verify_graph.proofs.Positions.{found_is}
+use Rattle.verify_graph.proofs.Prefixes.{listed_read, same_listed}
+use Rattle.verify_starts.specs.Covering.{covering}
+use Rattle.verify_starts.specs.SketchedCode.{AreNumbersOf, ArePrograms, IsBlock, sketched_code}
+use Rattle.verify_starts.specs.Tables.{AreOfSome}
+use Rattle.verify_starts.specs.Triggers.{Trigger, start_for, trigger_of}
+use Rattle.verify_starts.specs.Triggers as triggers
+use Rattle.verify_channels.proofs.Covered.{covering_places}
+use Rattle.verify_starts.proofs.Pointwise.{pointwise_both}
 use Rattle.definition_sketch.proofs.GraphChannels.{has_number, making_there, named_present, named_raised, named_there, no_channel}
 use Rattle.definition_sketch.proofs.PairEnds.{paired_is}
 

@@ -4,16 +4,16 @@
 ghost use Rattle.std.specs.Prelude.{◌≡◌, None, IfOk};
 ghost use Rattle.law_judging.specs.FirstFaults.{first_fault};
 ghost use Rattle.law_idle.specs.Idle.{busy_channels, busy_graph};
-ghost use Rattle.graph_sketches.specs.Sizes.{IsSmall};
-ghost use Rattle.graph_sketches.specs.Sketches.{IsSketch};
-ghost use Rattle.graph_sketches.specs.View.{sketch_view};
+ghost use Rattle.verify_sketches.specs.Sizes.{IsSmall};
+ghost use Rattle.verify_sketches.specs.Sketches.{IsSketch};
+ghost use Rattle.verify_sketches.specs.View.{sketch_view};
 
-use definition_graph::{ChannelNumbers, paired_numbers, paired_places};
-use graph_sketches::Sketch;
-use operand_types::Lookups;
-use raised_channels::raised_channels;
-use started_channels::sketched_programs;
 use std::alloc::{AllocError, Global};
+use verify_channels::raised_channels;
+use verify_graph::{ChannelNumbers, paired_numbers, paired_places};
+use verify_operands::Lookups;
+use verify_sketches::Sketch;
+use verify_starts::sketched_programs;
 
 /// Returns the graph of a definition without its idle channels, by the numbers of the busy ones. It is right if the definition breaks no rule of instructions,
 /// handlers, bindings and pairs, of which only the rule of pairs is needed. It is always small enough for its nodes to be numbered.

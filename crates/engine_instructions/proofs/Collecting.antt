@@ -23,27 +23,27 @@ use Rattle.instance_tables.specs.Store.{Store, count_of}
 use Rattle.signal_core.specs.Emission.{Due, Walk, is_over, stopped}
 use Rattle.engine_world.specs.Able.{Able}
 use Rattle.engine_world.specs.FirstEmissions.{IsEmission, first_emitted}
-use Rattle.frame_stacks.specs.FirstEmissions.{EmitsKnown, Emitted, IsReemitted, emission_view, emitting, entries_left}
-use Rattle.frame_stacks.specs.KnownHandlers.{AllTakeKnownHandlers, EndsWithoutTransfers}
+use Rattle.engine_stack.specs.FirstEmissions.{EmitsKnown, Emitted, IsReemitted, emission_view, emitting, entries_left}
+use Rattle.engine_stack.specs.KnownHandlers.{AllTakeKnownHandlers, EndsWithoutTransfers}
 use Rattle.engine_instructions.specs.CollectView.{collected_by, collects, stops_at}
 use Rattle.engine_world.specs.Counting.{Counts, KeepsCounts, MayHold, OnlyTasks}
 use Rattle.engine_world.specs.TaskView.{agenda_of}
-use Rattle.frame_stacks.specs.TaskView.{emission_of, entries_to_come, task_of, tasks_of}
+use Rattle.engine_stack.specs.TaskView.{emission_of, entries_to_come, task_of, tasks_of}
 use Rattle.engine_world.specs.declared.engine.Engine.{Engine}
-use Rattle.frame_stacks.specs.declared.stacks.Frames.{Frames}
-use Rattle.frame_stacks.specs.declared.task.Task as code
-use Rattle.frame_stacks.specs.declared.task.Task.TheVariants as tasks
+use Rattle.engine_stack.specs.declared.stacks.Frames.{Frames}
+use Rattle.engine_stack.specs.declared.task.Task as code
+use Rattle.engine_stack.specs.declared.task.Task.TheVariants as tasks
 use Rattle.engine_world.proofs.Ableness.{able_as, first}
 use Rattle.engine_world.proofs.Counts.{restacked}
 use Rattle.engine_world.proofs.FirstEmissions.{begins}
-use Rattle.frame_stacks.proofs.FirstEmissions.{first_begun}
+use Rattle.engine_stack.proofs.FirstEmissions.{first_begun}
 use Rattle.engine_world.specs.View.{world_of}
 use Rattle.g_values.specs.View.{value_view}
 use Rattle.engine_instructions.proofs.Tested.{passes}
 use Rattle.engine_instructions.proofs.StoppedEmissions.{over_leaves, stop_leaves, stop_same, turns_alike}
-use Rattle.frame_stacks.specs.TransferView.{due_later, due_now, entries_due_of}
-use Rattle.frame_stacks.specs.declared.task.Transfers.{Transfers}
-use Rattle.frame_stacks.specs.declared.task.Transfers.TheVariants as at
+use Rattle.engine_stack.specs.TransferView.{due_later, due_now, entries_due_of}
+use Rattle.engine_stack.specs.declared.task.Transfers.{Transfers}
+use Rattle.engine_stack.specs.declared.task.Transfers.TheVariants as at
 use Rattle.engine_world.proofs.SameTurns.{entries}
 
 -- ** what an emission takes

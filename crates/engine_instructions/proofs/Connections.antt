@@ -21,7 +21,7 @@ use Rattle.engine_world.specs.Counting.{KeepsCounts}
 use Rattle.engine_instructions.specs.HandlersView.{Matched, matched_in}
 use Rattle.engine_world.specs.Standing.{gone_handlers, without_gone}
 use Rattle.engine_world.specs.TaskView.{agenda_of}
-use Rattle.frame_stacks.specs.TaskView.{tasks_of}
+use Rattle.engine_stack.specs.TaskView.{tasks_of}
 use Rattle.engine_world.specs.View.{world_of}
 use Rattle.engine_world.specs.declared.engine.Engine.{Engine}
 use Rattle.engine_world.specs.Able.{Able}

@@ -26,13 +26,13 @@ use Rattle.engine_instructions.specs.CreateView.{Prototype, created, created_if,
 use Rattle.engine_world.specs.EngineView.{config_of}
 use Rattle.engine_world.specs.FirstPrograms.{rest_of}
 use Rattle.engine_world.specs.TaskView.{agenda_of}
-use Rattle.frame_stacks.specs.TaskView.{build_end, build_from, connects_from, item_of, signals_of, binds_from}
+use Rattle.engine_stack.specs.TaskView.{build_end, build_from, connects_from, item_of, signals_of, binds_from}
 use Rattle.engine_world.specs.View.{world_of}
 use Rattle.engine_world.specs.declared.engine.Engine.{Engine}
-use Rattle.frame_stacks.specs.declared.task.ForwardReference.{ForwardReference}
+use Rattle.engine_stack.specs.declared.task.ForwardReference.{ForwardReference}
 use Rattle.engine_world.specs.Able.{Able}
 use Rattle.engine_world.proofs.Ableness.{able_as, first}
-use Rattle.frame_stacks.proofs.Lists.{total-append}
+use Rattle.engine_stack.proofs.Lists.{total-append}
 use Rattle.engine_world.proofs.Signals.{bind_same}
 
 -- ** what it comes to

@@ -30,7 +30,7 @@ use Rattle.engine_world.specs.EngineView.{config_of}
 use Rattle.engine_world.specs.Standing.{gone_handlers}
 use Rattle.engine_world.specs.FirstPrograms.{rest_of}
 use Rattle.engine_world.specs.TaskView.{agenda_of}
-use Rattle.frame_stacks.specs.TaskView.{tasks_of}
+use Rattle.engine_stack.specs.TaskView.{tasks_of}
 use Rattle.engine_world.specs.View.{held_of, world_of}
 use Rattle.engine_world.specs.declared.engine.Engine.{Engine}
 use Rattle.engine_world.specs.declared.world.World as code

@@ -7,7 +7,7 @@ use Rattle.ui_machine.specs.Definition.Lookups.{slot_of}
 use Rattle.ui_machine.specs.Definition.Names.{canonical}
 use Rattle.ui_machine.specs.Definition.Programs.{Instruction}
 use Rattle.ui_machine.specs.Outcome.{only_if}
-use Rattle.linked_programs.specs.Linked.{AreLinked, IsDetail, IsLink, Linked, instruction_at, link_at}
+use Rattle.engine_links.specs.Linked.{AreLinked, IsDetail, IsLink, Linked, instruction_at, link_at}
 use Rattle.engine_world.specs.Able.{Able}
 use Rattle.engine_world.specs.GivenView.{detail_named}
 use Rattle.engine_world.proofs.Ableness.{no_arm}

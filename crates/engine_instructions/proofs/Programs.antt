@@ -13,7 +13,7 @@ use Rattle.ui_machine.specs.Outcome.{Answer, Stops, known, only_if, ◌>>=◌}
 use Rattle.ui_machine.specs.State.Config.{Left, World}
 use Rattle.ui_machine.specs.State.Tasks.{Frame, Task}
 use Rattle.ui_machine.specs.Steps.{counted_left, left, most_steps}
-use Rattle.linked_programs.specs.Linked.{instruction_at}
+use Rattle.engine_links.specs.Linked.{instruction_at}
 use Rattle.frames.specs.FrameView.{Taken, taken_in, taken_of}
 use Rattle.frames.proofs.FrameSteps.{running_taken}
 pub use Rattle.engine_world.proofs.FirstPrograms.{taken_keeps}

@@ -26,7 +26,7 @@ use Rattle.instance_tables.proofs.Exact.{leave_exact}
 use Rattle.frames.specs.FrameView.{frame_view}
 use Rattle.frames.specs.declared.frame.Frame as code
 use Rattle.engine_world.specs.Counting.{Counts, KeepsCounts, nothing}
-use Rattle.frame_stacks.specs.HeldByTasks.{in_frame}
+use Rattle.engine_stack.specs.HeldByTasks.{in_frame}
 use Rattle.engine_world.specs.Able.{Able, Leads}
 use Rattle.ui_machine.specs.declared.arm.Halt.TheVariants as halts
 use Rattle.engine_world.proofs.Ableness.{first, no_arm, none_stops}
@@ -34,8 +34,8 @@ use Rattle.std.specs.declared.alloc.AllocError.{AllocError}
 use Rattle.engine_world.specs.EngineView.{config_of}
 use Rattle.engine_world.specs.KinView.{joined}
 use Rattle.engine_world.specs.FirstPrograms.{IsProgram, first_frame, rest_of}
-use Rattle.frame_stacks.specs.FirstPrograms.{first_program, stack_frame}
-use Rattle.frame_stacks.specs.declared.stacks.Frames.{Frames}
+use Rattle.engine_stack.specs.FirstPrograms.{first_program, stack_frame}
+use Rattle.engine_stack.specs.declared.stacks.Frames.{Frames}
 use Rattle.engine_world.specs.TaskView.{agenda_of}
 use Rattle.engine_world.specs.View.{held_of, world_of}
 use Rattle.engine_world.specs.declared.engine.Engine.{Engine}

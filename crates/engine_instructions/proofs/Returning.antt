@@ -16,9 +16,9 @@ use Rattle.ui_machine.specs.State.Objects.{class_in}
 use Rattle.ui_machine.specs.State.References.{in_register}
 use Rattle.ui_machine.specs.State.Tasks.{Frame, Task}
 use Rattle.engine_world.specs.Able.{Able}
-use Rattle.frame_stacks.specs.HeldByTasks.{in_frame}
+use Rattle.engine_stack.specs.HeldByTasks.{in_frame}
 use Rattle.engine_world.proofs.Ableness.{able_as, first, past}
-use Rattle.frame_stacks.proofs.Lists.{read-within}
+use Rattle.engine_stack.proofs.Lists.{read-within}
 use Rattle.engine_instructions.proofs.Tested.{passes}
 
 -- ** what it gives

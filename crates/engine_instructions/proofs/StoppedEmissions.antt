@@ -1,13 +1,13 @@
 -- What a stop leaves of an emission, and of the tasks.
-use Rattle.frame_stacks.specs.KnownHandlers.{AllTakeKnownHandlers, EndsWithoutTransfers, TakesKnownHandlers}
-use Rattle.frame_stacks.specs.FirstEmissions.{StopsBelow, stop_in, with_last}
-use Rattle.frame_stacks.specs.FirstPrograms.{first_program, stack_frame}
-use Rattle.frame_stacks.specs.declared.stacks.Frames.{Frames}
-use Rattle.frame_stacks.proofs.FirstPrograms.{first_of_last, starts}
+use Rattle.engine_stack.specs.KnownHandlers.{AllTakeKnownHandlers, EndsWithoutTransfers, TakesKnownHandlers}
+use Rattle.engine_stack.specs.FirstEmissions.{StopsBelow, stop_in, with_last}
+use Rattle.engine_stack.specs.FirstPrograms.{first_program, stack_frame}
+use Rattle.engine_stack.specs.declared.stacks.Frames.{Frames}
+use Rattle.engine_stack.proofs.FirstPrograms.{first_of_last, starts}
 use Rattle.engine_world.proofs.OtherFirst.{head_same}
 use Rattle.engine_world.proofs.Registers.{stack_same_held}
-use Rattle.frame_stacks.proofs.StopsBelow.{Lasts, below_known, has_last, last_changed, lasts, no_last}
-use Rattle.frame_stacks.proofs.Vectors.{front_known, last_known}
+use Rattle.engine_stack.proofs.StopsBelow.{Lasts, below_known, has_last, last_changed, lasts, no_last}
+use Rattle.engine_stack.proofs.Vectors.{front_known, last_known}
 use Rattle.std.specs.Prelude.{All}
 use Rattle.std.proofs.Common.{IsSome, drop, ◌≡◌, ◌∙◌, refl, sym, ap, subst, ℕ, ◌++◌, Bool, true, false, cond, map, nat_eq, reverse, List, [], ◌∷◌, Option, None, Some, arith}
 use Rattle.std.specs.List.{filter}
@@ -30,13 +30,13 @@ use Rattle.signal_core.specs.declared.turn.Turn.TheVariants as turns
 use Rattle.bindings.specs.declared.due.DueTransfer.{DueTransfer}
 use Rattle.engine_world.specs.Counting.{Counts, nothing}
 use Rattle.engine_world.specs.TaskView.{agenda_of}
-use Rattle.frame_stacks.specs.TaskView.{emission_of, entries_to_come, task_of, tasks_of}
+use Rattle.engine_stack.specs.TaskView.{emission_of, entries_to_come, task_of, tasks_of}
 use Rattle.engine_world.specs.declared.engine.Engine.{Engine}
-use Rattle.frame_stacks.specs.declared.task.Task as code
-use Rattle.frame_stacks.specs.declared.task.Task.TheVariants as tasks
-use Rattle.frame_stacks.specs.TransferView.{due_later, due_now, entries_due_of}
-use Rattle.frame_stacks.specs.declared.task.Transfers.{Transfers}
-use Rattle.frame_stacks.specs.declared.task.Transfers.TheVariants as at
+use Rattle.engine_stack.specs.declared.task.Task as code
+use Rattle.engine_stack.specs.declared.task.Task.TheVariants as tasks
+use Rattle.engine_stack.specs.TransferView.{due_later, due_now, entries_due_of}
+use Rattle.engine_stack.specs.declared.task.Transfers.{Transfers}
+use Rattle.engine_stack.specs.declared.task.Transfers.TheVariants as at
 use Rattle.engine_world.proofs.SameTurns.{both_entries, entries}
 
 -- ** stops

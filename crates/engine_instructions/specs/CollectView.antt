@@ -4,8 +4,8 @@ use Rattle.ui_machine.specs.Definition.Signals.{Accumulator}
 use Rattle.ui_machine.specs.Definition.Values.{Value}
 use Rattle.ui_machine.specs.Rules.Accumulation.{is_last}
 use Rattle.signal_core.specs.Emission.{Walk, collected}
-use Rattle.frame_stacks.specs.FirstEmissions.{Emitted}
-use Rattle.frame_stacks.specs.declared.task.Transfers.TheVariants as at
+use Rattle.engine_stack.specs.FirstEmissions.{Emitted}
+use Rattle.engine_stack.specs.declared.task.Transfers.TheVariants as at
 
 -- an emission after one of its programs gave a value, or none
 abbrev pub collects : Option Accumulator → Option Value → Walk → Walk

@@ -2,16 +2,16 @@
 
 ghost use Rattle.std.specs.Prelude.{◌≡◌, ◌==◌, None, Ok, Some, IfOk, if◌then◌else◌, option_map, string_bytes};
 ghost use Rattle.ui_machine.specs.Rules.Connections.{detail_in};
-ghost use Rattle.linked_programs.specs.Linked.{IsDetail};
-ghost use Rattle.linked_programs.specs.Linked as linked;
+ghost use Rattle.engine_links.specs.Linked.{IsDetail};
+ghost use Rattle.engine_links.specs.Linked as linked;
 ghost use Rattle.engine_world.specs.Able.{Able};
 ghost use Rattle.engine_world.specs.GivenView.{detail_named, detail_of, shared_detail_of};
 ghost use Rattle.engine_world.specs.View.{world_of};
 
 use definitions::Definition;
+use engine_links::Link;
 use engine_world::arguments;
 use engine_world::engine::Engine;
-use linked_programs::Link;
 use std::alloc::AllocError;
 use std::rc::RcStr;
 use type_tree::TypeId;

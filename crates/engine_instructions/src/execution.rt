@@ -12,7 +12,7 @@ ghost use Rattle.engine_world.specs.View.{world_of};
 ghost use Rattle.engine_world.specs.Counting.{Counts, nothing};
 ghost use Rattle.engine_world.specs.Able.{Able, LeadsToLiving};
 ghost use Rattle.engine_instructions.specs.ClosedPeers.{LeavesClosed};
-ghost use Rattle.linked_programs.specs.Linked.{AreLinked, IsLink, instruction_at};
+ghost use Rattle.engine_links.specs.Linked.{AreLinked, IsLink, instruction_at};
 ghost use Rattle.engine_world.specs.Executions.{Executes, ExecutesWithoutGone};
 ghost use Rattle.engine_instructions.specs.InProgram.{executed};
 
@@ -36,9 +36,9 @@ use bytecode::{
     SignalInstruction, SourceInstruction,
 };
 use definitions::Definition;
+use engine_links::Link;
 use engine_world::engine::Engine;
 use engine_world::program_frames::first_frame;
-use linked_programs::Link;
 use std::alloc::AllocError;
 
 // Returns the link of an instruction that the program which is the first task has taken.

@@ -9,7 +9,7 @@ ghost use Rattle.machine_laws.specs.GoneLaws.{pruned};
 ghost use Rattle.engine_world.specs.Counting.{Counts, KeepsCounts, nothing};
 ghost use Rattle.engine_instructions.specs.HandlersView.{matched_in, matched_of};
 ghost use Rattle.engine_world.specs.Able.{Able};
-ghost use Rattle.linked_programs.specs.Linked.{LinksProgram};
+ghost use Rattle.engine_links.specs.Linked.{LinksProgram};
 ghost use Rattle.engine_world.specs.Standing.{gone_handlers};
 ghost use Rattle.engine_world.specs.TaskView.{agenda_of};
 ghost use Rattle.engine_world.specs.View.{world_of};
@@ -19,8 +19,8 @@ ghost use Rattle.engine_instructions.specs.InProgram.{in_program};
 use crate::operands::{object_in, program_named};
 use bytecode::Register;
 use definitions::Definition;
+use engine_links::Link;
 use engine_world::engine::Engine;
-use linked_programs::Link;
 use std::alloc::AllocError;
 use ui_machine::{ObjectId, ProgramId};
 

@@ -10,14 +10,14 @@ ghost use Rattle.bytecode.specs.View.{number_of};
 ghost use Rattle.instance_tables.specs.Store.{id_of};
 ghost use Rattle.engine_world.specs.View.{world_of};
 ghost use Rattle.engine_world.specs.Able.{Able};
-ghost use Rattle.linked_programs.specs.Linked.{LinksProgram};
+ghost use Rattle.engine_links.specs.Linked.{LinksProgram};
 
 use bytecode::Register;
 use definitions::Definition;
+use engine_links::Link;
 use engine_world::engine::Engine;
 use engine_world::program_frames::first_registers;
 use frames::identity_at;
-use linked_programs::Link;
 use ui_machine::{ObjectId, ProgramId};
 
 /// Returns the living object that a register names.

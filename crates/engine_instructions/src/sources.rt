@@ -5,7 +5,7 @@ ghost use Rattle.ui_machine.specs.Instructions.Sources.{attaching, removing, wit
 ghost use Rattle.ui_machine.specs.State.Config.{World};
 ghost use Rattle.instance_tables.specs.Store.{id_of};
 ghost use Rattle.engine_world.specs.Able.{Able};
-ghost use Rattle.linked_programs.specs.Linked.{LinksProgram};
+ghost use Rattle.engine_links.specs.Linked.{LinksProgram};
 ghost use Rattle.engine_world.specs.SourceView.{with_new_source};
 ghost use Rattle.engine_world.specs.FirstPrograms.{IsProgram};
 ghost use Rattle.engine_world.specs.Counting.{Counts, nothing};
@@ -17,11 +17,11 @@ use crate::operands::{data_in, program_named};
 use crate::registers::{write_null_and_say_limit, write_register};
 use bytecode::Register;
 use definitions::Definition;
+use engine_links::Link;
 use engine_world::engine::Engine;
 use engine_world::references::never_full;
 use engine_world::sources::{NewSource, attach_source, remove_sources};
 use g_values::Value;
-use linked_programs::Link;
 use std::alloc::AllocError;
 use ui_machine::{ObjectId, ProgramId};
 

@@ -10,14 +10,14 @@ ghost use Rattle.engine_world.specs.Able.{Able};
 ghost use Rattle.engine_world.specs.View.{world_of};
 ghost use Rattle.engine_instructions.specs.UnbindView.{without_numbers};
 ghost use Rattle.law_typing.specs.Good.Meanings.{KeepsMeanings};
-ghost use Rattle.linked_programs.specs.Linked.{LinksBindings};
+ghost use Rattle.engine_links.specs.Linked.{LinksBindings};
 ghost use Rattle.engine_world.specs.Executions.{Executes};
 ghost use Rattle.engine_instructions.specs.InProgram.{in_program};
 
 use bindings::Bindings;
 use definitions::Definition;
+use engine_links::Link;
 use engine_world::engine::Engine;
-use linked_programs::Link;
 
 // Ends the bindings with these numbers.
 fn unbind_numbered(bindings: &mut Bindings, numbers: &[u64])

@@ -10,7 +10,7 @@ use Rattle.ui_machine.specs.Rules.Sets.{is_disposed}
 use Rattle.ui_machine.specs.State.Config.{Started, World, starts}
 use Rattle.ui_machine.specs.State.Objects.{living}
 use Rattle.ui_machine.specs.State.Tasks.{Building, Item, Transferring, binds}
-use Rattle.frame_stacks.specs.TaskView.{binds_from}
+use Rattle.engine_stack.specs.TaskView.{binds_from}
 use Rattle.engine_tasks.specs.BindView.{Ends, ends_at}
 
 pub first_on : (number : ℕ) (b : Bind) → has_flags 2 b.flags ≡ true → first_transfer number b ≡ Transferring number false ∷ []

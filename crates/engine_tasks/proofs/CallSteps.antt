@@ -17,10 +17,10 @@ use Rattle.ui_machine.specs.State.Tasks.{Call, Task}
 use Rattle.ui_machine.specs.State.Handlers.{Handler}
 use Rattle.ui_machine.specs.Steps.{asked_first, left}
 use Rattle.g_values.specs.View.{value_view}
-use Rattle.frame_stacks.specs.TaskView.{task_of}
-use Rattle.frame_stacks.specs.declared.task.DueCall.{DueCall}
-use Rattle.frame_stacks.specs.declared.task.Task as code
-use Rattle.frame_stacks.specs.declared.task.Task.TheVariants as tasks
+use Rattle.engine_stack.specs.TaskView.{task_of}
+use Rattle.engine_stack.specs.declared.task.DueCall.{DueCall}
+use Rattle.engine_stack.specs.declared.task.Task as code
+use Rattle.engine_stack.specs.declared.task.Task.TheVariants as tasks
 use Rattle.engine_world.specs.View.{with_line}
 use Rattle.engine_world.proofs.MakingSteps.{read_there}
 use Rattle.engine_world.proofs.Ableness.{able_as, first, in_left, no_arm}

@@ -12,11 +12,11 @@ use Rattle.ui_machine.specs.Steps.{uncounted}
 use Rattle.instance_tables.specs.Store.{count_of}
 use Rattle.engine_world.specs.Counting.{Counts, nothing}
 use Rattle.engine_world.specs.FirstConstructions.{IsConstruction, first_constructed}
-use Rattle.frame_stacks.specs.FirstConstructions.{Constructed, IsReconstructed, constructing_task, stack_construction}
+use Rattle.engine_stack.specs.FirstConstructions.{Constructed, IsReconstructed, constructing_task, stack_construction}
 use Rattle.engine_world.specs.FirstPrograms.{rest_of}
 use Rattle.engine_world.specs.View.{world_of}
 use Rattle.engine_world.specs.declared.engine.Engine.{Engine}
-use Rattle.frame_stacks.specs.declared.stacks.Frames.{Frames}
+use Rattle.engine_stack.specs.declared.stacks.Frames.{Frames}
 use Rattle.engine_world.proofs.FirstConstructions.{begins}
 use Rattle.engine_world.proofs.Floats.{same_self}
 use Rattle.engine_world.proofs.Held.{counted_lives}

@@ -19,18 +19,18 @@ use Rattle.signal_core.specs.declared.stage.Stage.TheVariants as stages
 use Rattle.signal_core.specs.declared.turn.Turn.{Turn}
 use Rattle.engine_world.specs.Counting.{Counts, nothing}
 use Rattle.engine_world.specs.FirstEmissions.{IsEmission, first_emitted, first_emitting}
-use Rattle.frame_stacks.specs.FirstEmissions.{EmitsKnown, Emitted, IsReemitted, emission_view, emitting, entries_left, stack_emission}
+use Rattle.engine_stack.specs.FirstEmissions.{EmitsKnown, Emitted, IsReemitted, emission_view, emitting, entries_left, stack_emission}
 use Rattle.engine_world.specs.FirstPrograms.{rest_of}
-use Rattle.frame_stacks.specs.KnownHandlers.{EndsWithoutTransfers}
+use Rattle.engine_stack.specs.KnownHandlers.{EndsWithoutTransfers}
 use Rattle.engine_world.specs.Standing.{past_turns}
 use Rattle.engine_world.specs.TaskView.{agenda_of}
-use Rattle.frame_stacks.specs.TransferView.{due_later, due_now}
+use Rattle.engine_stack.specs.TransferView.{due_later, due_now}
 use Rattle.engine_world.specs.View.{world_of}
 use Rattle.engine_world.specs.declared.engine.Engine.{Engine}
-use Rattle.frame_stacks.specs.declared.stacks.Frames.{Frames}
-use Rattle.frame_stacks.specs.declared.task.Transfers.TheVariants as at
+use Rattle.engine_stack.specs.declared.stacks.Frames.{Frames}
+use Rattle.engine_stack.specs.declared.task.Transfers.TheVariants as at
 use Rattle.engine_world.proofs.FirstEmissions.{begins}
-use Rattle.frame_stacks.proofs.FirstEmissions.{first_begun}
+use Rattle.engine_stack.proofs.FirstEmissions.{first_begun}
 use Rattle.engine_world.proofs.Registers.{stack_same_held}
 use Rattle.engine_tasks.specs.TurnView.{given_by, program_of_turn}
 use Rattle.engine_tasks.proofs.EmissionTurns.{IsNext, free_first}

@@ -17,10 +17,10 @@ use Rattle.signal_core.specs.declared.stage.Stage.TheVariants as stages
 use Rattle.signal_core.specs.declared.turn.Turn.{Turn}
 use Rattle.signal_core.specs.declared.turn.Turn.TheVariants as turns
 use Rattle.engine_world.specs.Standing.{entries_due}
-use Rattle.frame_stacks.specs.TaskView.{emission_of, entries_to_come}
-use Rattle.frame_stacks.specs.TransferView.{due_later, due_now, entries_due_of}
-use Rattle.frame_stacks.specs.declared.task.Transfers.{Transfers}
-use Rattle.frame_stacks.specs.declared.task.Transfers.TheVariants as at
+use Rattle.engine_stack.specs.TaskView.{emission_of, entries_to_come}
+use Rattle.engine_stack.specs.TransferView.{due_later, due_now, entries_due_of}
+use Rattle.engine_stack.specs.declared.task.Transfers.{Transfers}
+use Rattle.engine_stack.specs.declared.task.Transfers.TheVariants as at
 use Rattle.engine_world.proofs.SameTurns.{entries}
 use Rattle.engine_tasks.specs.TurnView.{RunsProgram, given_by, program_of_turn}
 use Rattle.engine_tasks.proofs.Emitted.{ends_on}

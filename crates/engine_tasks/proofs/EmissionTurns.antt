@@ -21,7 +21,7 @@ use Rattle.signal_core.proofs.GoingOn.{turns_go_on}
 use Rattle.signal_core.proofs.PlanProofs.{plan_is_walked}
 use Rattle.signal_core.proofs.Telling.{all_stand}
 use Rattle.engine_world.specs.Standing.{entries_due, makes_no_transfer}
-use Rattle.frame_stacks.specs.TransferView.{entries_due_of}
+use Rattle.engine_stack.specs.TransferView.{entries_due_of}
 use Rattle.engine_world.proofs.SameTurns.{both_entries, entries}
 
 -- ** as an emission begins

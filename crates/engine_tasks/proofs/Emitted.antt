@@ -23,11 +23,11 @@ use Rattle.signal_core.specs.Connected.{Numbered}
 use Rattle.signal_core.specs.Emission.{Walk, is_over, to_come}
 use Rattle.signal_core.specs.declared.stage.Stage.{Stage}
 use Rattle.signal_core.specs.Laws.{walk_for}
-use Rattle.frame_stacks.specs.TaskView.{emission_of, entries_to_come, new_of}
-use Rattle.frame_stacks.specs.TransferView.{entries_due_of}
-use Rattle.frame_stacks.specs.declared.task.Transfers.TheVariants as at
+use Rattle.engine_stack.specs.TaskView.{emission_of, entries_to_come, new_of}
+use Rattle.engine_stack.specs.TransferView.{entries_due_of}
+use Rattle.engine_stack.specs.declared.task.Transfers.TheVariants as at
 use Rattle.engine_world.proofs.SameTurns.{entries}
-use Rattle.frame_stacks.specs.declared.task.NewEmission.{NewEmission}
+use Rattle.engine_stack.specs.declared.task.NewEmission.{NewEmission}
 use Rattle.engine_world.proofs.Notified.{begun}
 use Rattle.engine_tasks.proofs.EmissionTurns.{entries_planned}
 use Rattle.g_values.specs.declared.value.Value as code

@@ -26,7 +26,7 @@ use Rattle.signal_core.specs.declared.stage.Stage.TheVariants as stages
 use Rattle.signal_core.specs.declared.turn.Turn.{Turn}
 use Rattle.signal_core.specs.declared.turn.Turn.TheVariants as turns
 use Rattle.engine_world.specs.Standing.{entries_due}
-use Rattle.frame_stacks.specs.TaskView.{emission_of}
+use Rattle.engine_stack.specs.TaskView.{emission_of}
 use Rattle.engine_world.proofs.SameTurns.{entries}
 use Rattle.engine_tasks.specs.TurnView.{RunsProgram, given_by, program_of_turn}
 use Rattle.engine_tasks.proofs.ProgramStarts.{begins_before}

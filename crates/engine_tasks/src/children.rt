@@ -6,17 +6,17 @@ ghost use Rattle.engine_world.specs.Able.{Able};
 ghost use Rattle.engine_world.specs.Room.{HasRoom};
 ghost use Rattle.engine_world.specs.View.{world_of};
 ghost use Rattle.engine_world.specs.KinView.{kin_of, kin_at};
-ghost use Rattle.frame_stacks.specs.TaskView.{build_from};
+ghost use Rattle.engine_stack.specs.TaskView.{build_from};
 ghost use Rattle.engine_world.specs.Counting.{IsCounted};
 ghost use Rattle.engine_world.specs.Executions.{Acts, uncounted_step};
 
 use definitions::Definition;
+use engine_stack::{ForwardReferences, Task};
 use engine_world::children::{Kin, join};
 use engine_world::engine::Engine;
 use engine_world::given::held_object;
 use engine_world::places::{entry_at, next_place};
 use engine_world::references::push_task;
-use frame_stacks::{ForwardReferences, Task};
 use std::alloc::AllocError;
 use ui_machine::Place;
 

@@ -11,6 +11,7 @@ ghost use Rattle.engine_world.specs.Executions.{Acts, uncounted_step};
 
 use definition_format::{Given, Request};
 use definitions::Definition;
+use engine_stack::{NewEmission, Task};
 use engine_world::arguments::{add_operands, shared_detail_in};
 use engine_world::builder::{BuilderEntry, set_builder_entry};
 use engine_world::engine::Engine;
@@ -19,7 +20,6 @@ use engine_world::lines::Line;
 use engine_world::places::entry_at;
 use engine_world::properties::spec_of;
 use engine_world::references::{let_go_any, push_task};
-use frame_stacks::{NewEmission, Task};
 use std::alloc::AllocError;
 use std::rc::RcStr;
 use ui_machine::{Place, SignalId, Slot};

@@ -9,18 +9,18 @@ ghost use Rattle.definition_format.specs.Meaning.{given_property, object_count};
 ghost use Rattle.engine_world.specs.Able.{Able, LeadsToLiving};
 ghost use Rattle.engine_world.specs.Room.{HasRoom};
 ghost use Rattle.engine_world.specs.View.{world_of};
-ghost use Rattle.frame_stacks.specs.TaskView.{connects_from, item_of, items_of, forwards_at, build_end};
+ghost use Rattle.engine_stack.specs.TaskView.{connects_from, item_of, items_of, forwards_at, build_end};
 ghost use Rattle.engine_world.specs.Counting.{Connects, IsCounted};
 ghost use Rattle.engine_world.specs.Executions.{Acts, uncounted_step};
 
 use crate::binds::bind_from_build;
 use definition_format::{Given, GivenValue};
 use definitions::Definition;
+use engine_stack::{ForwardReference, ForwardReferences, Task};
 use engine_world::engine::Engine;
 use engine_world::given::{held_object, held_value};
 use engine_world::places::{entry_at, place_numbered};
 use engine_world::references::push_task;
-use frame_stacks::{ForwardReference, ForwardReferences, Task};
 use std::alloc::{AllocError, Global};
 use ui_machine::Place;
 

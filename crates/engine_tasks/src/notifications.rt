@@ -15,11 +15,11 @@ ghost use Rattle.engine_world.specs.Executions.{Acts, counted_step, uncounted_st
 use crate::emission::start_emission;
 use bindings::DueTransfers;
 use definitions::Definition;
+use engine_stack::{Slots, Task, Transfers};
 use engine_world::counted_steps::count;
 use engine_world::engine::Engine;
 use engine_world::lines::Line;
 use engine_world::references::push_task;
-use frame_stacks::{Slots, Task, Transfers};
 use std::alloc::AllocError;
 use ui_machine::{ObjectId, SignalId, Slot};
 

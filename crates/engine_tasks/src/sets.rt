@@ -16,11 +16,11 @@ ghost use Rattle.engine_world.specs.Counting.{IsCounted, KeepsCounts};
 ghost use Rattle.engine_world.specs.Executions.{Acts, uncounted_step};
 
 use definitions::Definition;
+use engine_stack::Task;
 use engine_world::engine::Engine;
 use engine_world::lines::Line;
 use engine_world::properties::spec_of;
 use engine_world::references::{named, never_full, push_task};
-use frame_stacks::Task;
 use g_values::{Value, is_same};
 use instance_tables::Table;
 use param_specs::{Spec, validate};

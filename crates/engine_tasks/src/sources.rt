@@ -11,10 +11,10 @@ ghost use Rattle.engine_world.specs.Executions.{Acts, uncounted_step};
 
 use crate::programs::begin_program;
 use definitions::Definition;
+use engine_stack::Task;
 use engine_world::engine::Engine;
 use engine_world::given::object_value;
 use engine_world::references::push_task;
-use frame_stacks::Task;
 use g_values::Value;
 use std::alloc::AllocError;
 use ui_machine::ObjectId;

@@ -14,12 +14,12 @@ ghost use Rattle.engine_world.specs.Executions.{Acts, counted_step, uncounted_st
 
 use bindings::Transfer;
 use definitions::Definition;
+use engine_stack::Task;
 use engine_world::counted_steps::count;
 use engine_world::engine::Engine;
 use engine_world::properties::spec_of;
 use engine_world::references::push_task;
 use engine_world::transformations::{inverted, transformed};
-use frame_stacks::Task;
 use g_values::Value;
 use std::alloc::AllocError;
 

@@ -7,7 +7,7 @@ use Rattle.ui_machine.specs.Seq.{total}
 use Rattle.ui_machine.specs.State.References.{in_register, in_value}
 use Rattle.ui_machine.specs.State.Tasks.{Registers}
 use Rattle.frames.specs.FrameView.{AreSet, set_values}
-use Rattle.frame_stacks.proofs.Lists.{total-append}
+use Rattle.engine_stack.proofs.Lists.{total-append}
 
 -- registers that are set hold what their values name
 total_set : (o : ℕ) (args : List Value) → total (in_register o) (map (λ v. Some v) args) ≡ total (in_value o) args

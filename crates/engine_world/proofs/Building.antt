@@ -23,13 +23,13 @@ use Rattle.ui_machine.specs.Steps.{uncounted}
 use Rattle.g_values.specs.declared.value.Value.{Value}
 use Rattle.g_values.specs.View.{value_view}
 use Rattle.definition_format.specs.Meaning.{IsPlain, IsBasic, is_object, object_count}
-use Rattle.frame_stacks.specs.declared.task.ForwardReference.{ForwardReference}
+use Rattle.engine_stack.specs.declared.task.ForwardReference.{ForwardReference}
 use Rattle.engine_world.specs.Able.{Able}
 use Rattle.engine_world.specs.PeerPlaces.{own_peer}
-use Rattle.frame_stacks.specs.TaskView.{forwards_of_place, forwards_at, adopts_of, build_from, build_end, build_behind}
-use Rattle.frame_stacks.specs.declared.task.ConstructStep as code
+use Rattle.engine_stack.specs.TaskView.{forwards_of_place, forwards_at, adopts_of, build_from, build_end, build_behind}
+use Rattle.engine_stack.specs.declared.task.ConstructStep as code
 use Rattle.engine_world.specs.MakingView.{later_steps, making_of_object}
-use Rattle.frame_stacks.specs.MakingView.{making_of_code, making_steps}
+use Rattle.engine_stack.specs.MakingView.{making_of_code, making_steps}
 use Rattle.engine_world.proofs.Prototypes.{made_past, object_there}
 
 -- ** lists

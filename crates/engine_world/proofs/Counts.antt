@@ -28,23 +28,23 @@ use Rattle.instance_tables.proofs.Held.{total_put}
 use Rattle.instance_tables.proofs.Moves.{less_at}
 use Rattle.instance_tables.proofs.WriteExact.{write_exact}
 use Rattle.engine_world.specs.declared.engine.Engine.{Engine}
-use Rattle.frame_stacks.specs.declared.stacks.Frames.{Frames}
+use Rattle.engine_stack.specs.declared.stacks.Frames.{Frames}
 use Rattle.engine_world.specs.declared.world.World.{World}
 use Rattle.bindings.specs.Made.{Made}
 use Rattle.engine_world.specs.EngineView.{config_of}
 use Rattle.engine_world.specs.View.{held_of, world_of}
-use Rattle.frame_stacks.specs.declared.task.Task as code
+use Rattle.engine_stack.specs.declared.task.Task as code
 use Rattle.engine_world.specs.TaskView.{task_in, agenda_of}
-use Rattle.frame_stacks.specs.TaskView.{tasks_of}
+use Rattle.engine_stack.specs.TaskView.{tasks_of}
 use Rattle.machine_laws.specs.GoneLaws.{Gone, pruned}
 use Rattle.machine_laws.proofs.GoneProofs.{hold_as}
 use Rattle.engine_world.proofs.Left.{same_agenda}
 use Rattle.signal_core.specs.Connected.{Connected}
 use Rattle.ui_machine.specs.State.Handlers.{Handler}
-use Rattle.frame_stacks.specs.KnownHandlers.{AllTakeKnownHandlers}
-use Rattle.linked_programs.specs.Linked.{AreLinked, Linked}
+use Rattle.engine_stack.specs.KnownHandlers.{AllTakeKnownHandlers}
+use Rattle.engine_links.specs.Linked.{AreLinked, Linked}
 use Rattle.engine_world.specs.Counting.{OnlyCounts, Connects, Counts, IsCounted, KeepsCounts, PassesGot, PassesIn, nothing}
-use Rattle.frame_stacks.specs.HeldByTasks.{in_emitted, in_subject}
+use Rattle.engine_stack.specs.HeldByTasks.{in_emitted, in_subject}
 use Rattle.engine_world.specs.PeerPlaces.{AreAlike, AreGot, AreNumbered}
 use Rattle.engine_world.proofs.Floats.{if_ok_at, bind_ok}
 use Rattle.engine_world.proofs.GotPeers.{alike_got, alike_numbered, lent_got, names_lent}

@@ -24,7 +24,7 @@ use Rattle.machine_laws.specs.GoneLaws.{pruned}
 use Rattle.engine_world.specs.Standing.{gone_handlers}
 use Rattle.ui_machine.specs.State.Handlers.{Handler}
 use Rattle.engine_world.specs.TaskView.{agenda_of}
-use Rattle.frame_stacks.specs.TaskView.{tasks_of}
+use Rattle.engine_stack.specs.TaskView.{tasks_of}
 use Rattle.engine_world.specs.declared.engine.Engine.{Engine}
 use Rattle.engine_world.proofs.Gone.{kept_left, tasks_alike}
 use Rattle.engine_world.specs.declared.world.World as code

@@ -1,8 +1,8 @@
 -- The construction that is an engine's first task.
 use Rattle.std.proofs.Common.{◌≡◌, ◌∷◌}
 use Rattle.ui_machine.specs.Definition as machine
-use Rattle.frame_stacks.specs.FirstConstructions.{constructing_task}
-use Rattle.frame_stacks.proofs.FirstConstructions.{starts}
+use Rattle.engine_stack.specs.FirstConstructions.{constructing_task}
+use Rattle.engine_stack.proofs.FirstConstructions.{starts}
 use Rattle.engine_world.specs.FirstConstructions.{IsConstruction, first_constructed}
 use Rattle.engine_world.specs.FirstPrograms.{rest_of}
 use Rattle.engine_world.specs.TaskView.{agenda_of}

@@ -1,8 +1,8 @@
 -- The emission that is an engine's first task.
 use Rattle.std.proofs.Common.{◌≡◌, ◌∷◌}
 use Rattle.ui_machine.specs.Definition as machine
-use Rattle.frame_stacks.specs.FirstEmissions.{emitting}
-use Rattle.frame_stacks.proofs.FirstEmissions.{starts}
+use Rattle.engine_stack.specs.FirstEmissions.{emitting}
+use Rattle.engine_stack.proofs.FirstEmissions.{starts}
 use Rattle.engine_world.specs.FirstEmissions.{IsEmission, first_emitted}
 use Rattle.engine_world.specs.FirstPrograms.{rest_of}
 use Rattle.engine_world.specs.TaskView.{agenda_of}

@@ -8,11 +8,11 @@ use Rattle.ui_machine.specs.State.References.{in_object, in_task, same}
 use Rattle.ui_machine.specs.State.Tasks as config
 use Rattle.instance_tables.specs.Store.{Store, count_of}
 use Rattle.frames.specs.FrameView.{Taken, taken_in, taken_of}
-use Rattle.frame_stacks.specs.HeldByTasks.{in_frame}
-use Rattle.frame_stacks.specs.KnownHandlers.{AllTakeKnownHandlers}
-use Rattle.frame_stacks.specs.TaskView.{tasks_of}
-use Rattle.frame_stacks.specs.declared.stacks.Frames.{Frames}
-use Rattle.frame_stacks.proofs.FirstPrograms.{starts}
+use Rattle.engine_stack.specs.HeldByTasks.{in_frame}
+use Rattle.engine_stack.specs.KnownHandlers.{AllTakeKnownHandlers}
+use Rattle.engine_stack.specs.TaskView.{tasks_of}
+use Rattle.engine_stack.specs.declared.stacks.Frames.{Frames}
+use Rattle.engine_stack.proofs.FirstPrograms.{starts}
 use Rattle.engine_world.specs.Counting.{Counts, OnlyCounts}
 use Rattle.engine_world.specs.FirstPrograms.{IsProgram, first_frame, rest_of}
 use Rattle.engine_world.specs.TaskView.{agenda_of}

@@ -11,8 +11,8 @@ use Rattle.ui_machine.specs.Rules.Sets.{if_settable}
 use Rattle.ui_machine.specs.Rules.Build.{forward_of}
 use Rattle.definition_format.specs.declared.objects.GivenValue.{GivenValue}
 use Rattle.definition_format.specs.Meaning.{given_property}
-use Rattle.frame_stacks.specs.declared.task.ForwardReference.{ForwardReference}
-use Rattle.frame_stacks.specs.TaskView.{item_of, items_of}
+use Rattle.engine_stack.specs.declared.task.ForwardReference.{ForwardReference}
+use Rattle.engine_stack.specs.TaskView.{item_of, items_of}
 use Rattle.engine_world.proofs.Building.{drop_at}
 
 pub one_forward_more : (fs : List ForwardReference) (f : ForwardReference) → items_of (fs ++ f ∷ []) ≡ item_of f ∷ items_of fs

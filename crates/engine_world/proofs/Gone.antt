@@ -21,13 +21,13 @@ use Rattle.signal_core.specs.declared.stage.Stage.{Stage}
 use Rattle.signal_core.specs.declared.stage.Stage.TheVariants as stages
 use Rattle.signal_core.specs.declared.turn.Turn.TheVariants as turns
 use Rattle.signal_core.proofs.Numbers.{numbered_lower, numbered_within}
-use Rattle.frame_stacks.specs.declared.stacks.Frames.{Frames}
-use Rattle.frame_stacks.specs.declared.task.Task as code
-use Rattle.frame_stacks.specs.declared.task.Task.TheVariants as tasks
+use Rattle.engine_stack.specs.declared.stacks.Frames.{Frames}
+use Rattle.engine_stack.specs.declared.task.Task as code
+use Rattle.engine_stack.specs.declared.task.Task.TheVariants as tasks
 use Rattle.engine_world.specs.Standing.{entries_due, gone_handlers, makes_no_transfer, past_turns, with_first}
-use Rattle.frame_stacks.specs.TaskView.{emission_of, entries_to_come, task_of, tasks_of}
-use Rattle.frame_stacks.specs.TransferView.{due_later, due_now, entries_due_of}
-use Rattle.frame_stacks.specs.declared.task.Transfers.{Transfers}
+use Rattle.engine_stack.specs.TaskView.{emission_of, entries_to_come, task_of, tasks_of}
+use Rattle.engine_stack.specs.TransferView.{due_later, due_now, entries_due_of}
+use Rattle.engine_stack.specs.declared.task.Transfers.{Transfers}
 use Rattle.engine_world.proofs.Notified.{reverse-map}
 
 -- ** who is gone

@@ -10,11 +10,11 @@ use Rattle.ui_machine.specs.State.Config.{World}
 use Rattle.ui_machine.specs.State.References.{in_task}
 use Rattle.ui_machine.specs.State.Tasks.{Task}
 use Rattle.signal_core.specs.Connected.{Connected, has_room, with_connection}
-use Rattle.frame_stacks.specs.KnownHandlers.{AllTakeKnownHandlers}
+use Rattle.engine_stack.specs.KnownHandlers.{AllTakeKnownHandlers}
 use Rattle.engine_world.specs.ConnectView.{told_by}
 use Rattle.engine_world.specs.Counting.{Connects, KeepsCounts}
 use Rattle.engine_world.specs.TaskView.{agenda_of}
-use Rattle.frame_stacks.specs.TaskView.{tasks_of}
+use Rattle.engine_stack.specs.TaskView.{tasks_of}
 use Rattle.engine_world.specs.View.{world_of}
 use Rattle.engine_world.specs.declared.connections.Outcome.TheVariants as outcomes
 use Rattle.engine_world.specs.declared.engine.Engine.{Engine}

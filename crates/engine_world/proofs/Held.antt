@@ -20,7 +20,7 @@ use Rattle.engine_world.specs.EngineView.{config_of}
 use Rattle.engine_world.specs.TaskView.{task_in}
 use Rattle.engine_world.specs.View.{world_of}
 use Rattle.engine_world.specs.declared.engine.Engine.{Engine}
-use Rattle.frame_stacks.specs.declared.task.Task as code
+use Rattle.engine_stack.specs.declared.task.Task as code
 use Rattle.engine_world.proofs.Counts.{still_counted}
 
 -- some definition, where any will do

@@ -9,10 +9,10 @@ use Rattle.ui_machine.specs.Steps.{left, uncounted}
 use Rattle.signal_core.specs.Connected.{Connected}
 use Rattle.engine_world.specs.View.{world_of}
 use Rattle.engine_world.specs.TaskView.{agenda_of}
-use Rattle.frame_stacks.specs.TaskView.{tasks_of}
+use Rattle.engine_stack.specs.TaskView.{tasks_of}
 use Rattle.engine_world.specs.EngineView.{config_of}
 use Rattle.engine_world.specs.declared.engine.Engine.{Engine}
-use Rattle.frame_stacks.specs.declared.stacks.Frames.{Frames}
+use Rattle.engine_stack.specs.declared.stacks.Frames.{Frames}
 
 -- the same tasks, where the same handlers are connected
 pub same_agenda : (d : Definition) (e new : Engine) → new.stack ≡ e.stack → new.world.handlers ≡ e.world.handlers → agenda_of d new ≡ agenda_of d e

@@ -1,14 +1,14 @@
 -- Tasks of which the first is neither a program nor an emission that goes on.
 use Rattle.std.proofs.Common.{◌≡◌, ◌∙◌, IsSome, List, [], ◌∷◌, ◌++◌, Option, None, is_some, refl, ap}
 use Rattle.ui_machine.specs.State.Tasks as config
-use Rattle.frame_stacks.specs.FirstConstructions.{construction_in, first_construction}
-use Rattle.frame_stacks.specs.FirstEmissions.{first_emission}
-use Rattle.frame_stacks.specs.FirstPrograms.{first_program}
-use Rattle.frame_stacks.specs.TaskFrames.{IsFrameless, emission_in, program_in}
-use Rattle.frame_stacks.specs.declared.construction_frames.ConstructionFrame.{ConstructionFrame}
-use Rattle.frame_stacks.specs.declared.task.Task.{Task}
-use Rattle.frame_stacks.specs.declared.task.Task.TheVariants as tasks
-use Rattle.frame_stacks.proofs.FirstPrograms.{found, last_gives, last_has}
+use Rattle.engine_stack.specs.FirstConstructions.{construction_in, first_construction}
+use Rattle.engine_stack.specs.FirstEmissions.{first_emission}
+use Rattle.engine_stack.specs.FirstPrograms.{first_program}
+use Rattle.engine_stack.specs.TaskFrames.{IsFrameless, emission_in, program_in}
+use Rattle.engine_stack.specs.declared.construction_frames.ConstructionFrame.{ConstructionFrame}
+use Rattle.engine_stack.specs.declared.task.Task.{Task}
+use Rattle.engine_stack.specs.declared.task.Task.TheVariants as tasks
+use Rattle.engine_stack.proofs.FirstPrograms.{found, last_gives, last_has}
 
 -- the first of some tasks, of which it is the last of the list, is none
 pub record IsOther (items : List Task) : Type 0 where

@@ -3,10 +3,10 @@ use Rattle.std.proofs.Common.{◌≡◌, ℕ, ◌+◌, List, refl, arith}
 use Rattle.ui_machine.specs.Definition.{Definition}
 use Rattle.ui_machine.specs.State.Handlers.{Handler}
 use Rattle.ui_machine.specs.State.References.{in_task}
-use Rattle.frame_stacks.specs.declared.task.Task.{Task}
-use Rattle.frame_stacks.specs.declared.task.Task.TheVariants as tasks
-use Rattle.frame_stacks.specs.HeldByTasks.{in_given, in_subject}
-use Rattle.frame_stacks.specs.TaskView.{task_of}
+use Rattle.engine_stack.specs.declared.task.Task.{Task}
+use Rattle.engine_stack.specs.declared.task.Task.TheVariants as tasks
+use Rattle.engine_stack.specs.HeldByTasks.{in_given, in_subject}
+use Rattle.engine_stack.specs.TaskView.{task_of}
 
 pub parts : (d : Definition) (hs : List Handler) (t : Task) (o : ℕ) → in_task o (task_of d hs t) ≡ in_subject o (task_of d hs t) + in_given o (task_of d hs t)
 parts d hs (tasks.Setting id slot x) o = omega arith

@@ -8,7 +8,7 @@ use Rattle.ui_machine.specs.Definition.Places.{Attached, Place}
 use Rattle.ui_machine.specs.Rules.Build.{adopts_if, connected_items, forward_items, forward_of, made_items, numbered}
 use Rattle.ui_machine.specs.State.Tasks.{connects, makes}
 use Rattle.definition_format.specs.Meaning.{IsBasic, object_count}
-use Rattle.frame_stacks.specs.TaskView.{signals_of}
+use Rattle.engine_stack.specs.TaskView.{signals_of}
 
 -- what comes after a place is at a place of its own
 behind : {A : Type 0} (xs : List A) (k i : ℕ) (x : A) → slice_get (drop k xs) i ≡ Some x → (n : ℕ) × (k ≤ n) × (slice_get xs n ≡ Some x)

@@ -1,5 +1,5 @@
 -- What the registers of a program hold as one is written, and the results that programs take.
-use Rattle.frame_stacks.specs.KnownHandlers.{AllTakeKnownHandlers}
+use Rattle.engine_stack.specs.KnownHandlers.{AllTakeKnownHandlers}
 use Rattle.engine_world.proofs.Counts.{stays, restacked}
 use Rattle.std.proofs.Common.{◌≡◌, ◌∙◌, refl, ap, sym, map, option_map, reverse, IsSome, is_some, Bool, true, false, not, ℕ, ◌+◌, ◌<◌, length, List, [], ◌∷◌, Option, None, Some, Result, Ok, Err, zero, suc, arith}
 use Rattle.std.specs.Prelude.{OnOk}
@@ -20,21 +20,21 @@ use Rattle.ui_machine.specs.State.Tasks.{Frame, Registers, Running, Task}
 use Rattle.ui_machine.specs.State.Objects.{Objects}
 use Rattle.instance_tables.specs.Store.{Store, count_of}
 use Rattle.engine_world.specs.Counting.{Counts, KeepsCounts, OnlyCounts, OnlyTasks}
-use Rattle.frame_stacks.specs.HeldByTasks.{in_frame}
+use Rattle.engine_stack.specs.HeldByTasks.{in_frame}
 use Rattle.engine_world.specs.Able.{Able}
 use Rattle.std.proofs.lemmas.Bool.Decides.{nat_tests}
-use Rattle.frame_stacks.specs.FirstPrograms.{first_program}
+use Rattle.engine_stack.specs.FirstPrograms.{first_program}
 use Rattle.engine_world.proofs.Ableness.{first, no_arm, tested}
-use Rattle.frame_stacks.proofs.FirstPrograms.{starts_else}
+use Rattle.engine_stack.proofs.FirstPrograms.{starts_else}
 use Rattle.engine_world.proofs.Emits.{stops_on}
 use Rattle.ui_machine.specs.declared.arm.Halt.{Halt}
 use Rattle.engine_world.specs.View.{world_of}
 use Rattle.engine_world.specs.TaskView.{agenda_of}
-use Rattle.frame_stacks.specs.TaskView.{task_of, tasks_of}
+use Rattle.engine_stack.specs.TaskView.{task_of, tasks_of}
 use Rattle.engine_world.specs.declared.engine.Engine.{Engine}
-use Rattle.frame_stacks.specs.declared.stacks.Frames.{Frames}
-use Rattle.frame_stacks.specs.declared.task.Task as code
-use Rattle.frame_stacks.specs.declared.task.Task.TheVariants as tasks
+use Rattle.engine_stack.specs.declared.stacks.Frames.{Frames}
+use Rattle.engine_stack.specs.declared.task.Task as code
+use Rattle.engine_stack.specs.declared.task.Task.TheVariants as tasks
 use Rattle.frames.specs.declared.frame.Frame as frames
 
 -- ** registers

@@ -2,9 +2,9 @@
 use Rattle.std.proofs.Common.{◌≡◌, ℕ, Vec, vec_capacity, vec_len, arith}
 use Rattle.std.specs.Global.{Global}
 use Rattle.engine_world.specs.Room.{HasRoom, TakesRoom}
-use Rattle.frame_stacks.specs.TaskFrames.{HasPlaces, framed}
+use Rattle.engine_stack.specs.TaskFrames.{HasPlaces, framed}
 use Rattle.engine_world.specs.declared.engine.Engine.{Engine}
-use Rattle.frame_stacks.specs.declared.task.Task.{Task}
+use Rattle.engine_stack.specs.declared.task.Task.{Task}
 
 -- there is as much room where as many tasks and frames are in the same room
 pub places_kept : (more : ℕ) (old new : Vec Task Global) → (vec_len new ≡ vec_len old) × (vec_capacity new ≡ vec_capacity old) → framed new ≡ framed old → HasPlaces more old → HasPlaces more new

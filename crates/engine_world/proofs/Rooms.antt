@@ -17,19 +17,19 @@ use Rattle.bytecode.specs.Computing.{registers_of}
 use Rattle.law_typing.specs.Good.Agenda.{frames, is_frame}
 use Rattle.instance_tables.proofs.Few.{same_most, value_most}
 use Rattle.instance_tables.specs.Store.{Store, count_of, may_hold}
-use Rattle.frame_stacks.proofs.Lists.{total-append}
+use Rattle.engine_stack.proofs.Lists.{total-append}
 use Rattle.frames.specs.FrameView.{frame_view}
 use Rattle.frames.specs.declared.frame.Frame.{Frame}
 use Rattle.engine_world.specs.Counting.{Counts, IsCounted}
-use Rattle.frame_stacks.specs.HeldByTasks.{in_frame}
-use Rattle.frame_stacks.specs.TaskFrames.{framed, is_framed}
+use Rattle.engine_stack.specs.HeldByTasks.{in_frame}
+use Rattle.engine_stack.specs.TaskFrames.{framed, is_framed}
 use Rattle.engine_world.specs.TaskView.{agenda_of, task_in}
-use Rattle.frame_stacks.specs.TaskView.{task_of, tasks_of}
+use Rattle.engine_stack.specs.TaskView.{task_of, tasks_of}
 use Rattle.engine_world.specs.View.{held_of}
 use Rattle.engine_world.specs.declared.engine.Engine.{Engine}
-use Rattle.frame_stacks.specs.declared.stacks.Frames.{Frames}
-use Rattle.frame_stacks.specs.declared.task.Task.{Task}
-use Rattle.frame_stacks.specs.declared.task.Task.TheVariants as tasks
+use Rattle.engine_stack.specs.declared.stacks.Frames.{Frames}
+use Rattle.engine_stack.specs.declared.task.Task.{Task}
+use Rattle.engine_stack.specs.declared.task.Task.TheVariants as tasks
 
 -- ** sums
 

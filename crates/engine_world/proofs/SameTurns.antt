@@ -4,7 +4,7 @@ use Rattle.std.proofs.lemmas.Bool.Decides.{nat_tests}
 use Rattle.std.proofs.lemmas.List.Elements.{All-cons, All-head, All-nil, All-tail}
 use Rattle.std.specs.Prelude.{All}
 use Rattle.ui_machine.specs.Rules.EmissionPlan.{runs_for}
-use Rattle.frame_stacks.specs.KnownHandlers.{AllTakeKnownHandlers, TakesKnownHandlers}
+use Rattle.engine_stack.specs.KnownHandlers.{AllTakeKnownHandlers, TakesKnownHandlers}
 use Rattle.std.specs.List.{flat_map, filter}
 use Rattle.ui_machine.specs.Definition.{Definition}
 use Rattle.ui_machine.specs.Definition.Properties.{has_flags}
@@ -15,12 +15,12 @@ use Rattle.signal_core.specs.Emission.{Due, Walk, from_after, from_before, from_
 use Rattle.signal_core.specs.Laws.{entries_of, number_at}
 use Rattle.signal_core.specs.declared.stage.Stage.{Stage}
 use Rattle.signal_core.specs.declared.stage.Stage.TheVariants as stages
-use Rattle.frame_stacks.specs.TaskView.{emission_of, entries_to_come, task_of, tasks_of}
-use Rattle.frame_stacks.specs.TransferView.{due_later, due_now, entries_due_of}
-use Rattle.frame_stacks.specs.declared.task.Transfers.{Transfers}
-use Rattle.frame_stacks.specs.declared.stacks.Frames.{Frames}
-use Rattle.frame_stacks.specs.declared.task.Task as code
-use Rattle.frame_stacks.specs.declared.task.Task.TheVariants as tasks
+use Rattle.engine_stack.specs.TaskView.{emission_of, entries_to_come, task_of, tasks_of}
+use Rattle.engine_stack.specs.TransferView.{due_later, due_now, entries_due_of}
+use Rattle.engine_stack.specs.declared.task.Transfers.{Transfers}
+use Rattle.engine_stack.specs.declared.stacks.Frames.{Frames}
+use Rattle.engine_stack.specs.declared.task.Task as code
+use Rattle.engine_stack.specs.declared.task.Task.TheVariants as tasks
 
 -- the entries of these turns, where the bindings have these transfers
 abbrev pub entries : List PlanEntry → List Due → List PlanEntry

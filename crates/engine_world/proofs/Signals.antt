@@ -5,7 +5,7 @@ use Rattle.std.proofs.lemmas.List.{length-drop}
 use Rattle.std.proofs.Math.Seq.{drop-cons}
 use Rattle.ui_machine.specs.Rules.Connections.{detail_at, greatest_handler, signal_number}
 use Rattle.engine_world.specs.ConnectView.{Takes, attached_at}
-use Rattle.frame_stacks.proofs.Lists.{total-append}
+use Rattle.engine_stack.proofs.Lists.{total-append}
 use Rattle.ui_machine.specs.Definition.{Definition}
 use Rattle.ui_machine.specs.Definition.Lookups.{place_at}
 use Rattle.ui_machine.specs.Definition.Places.{Attached, Bind, Place}
@@ -16,8 +16,8 @@ use Rattle.ui_machine.specs.Outcome.{Answer, known, ◌>>=◌}
 use Rattle.ui_machine.specs.State.Config.{World, starts}
 use Rattle.ui_machine.specs.State.Tasks.{Building, Item, Task, connects}
 use Rattle.ui_machine.specs.State.Tasks as tasks
-use Rattle.frame_stacks.specs.TaskView.{binds_from, build_end, build_from, connects_from, item_of, signals_of}
-use Rattle.frame_stacks.specs.declared.task.ForwardReference.{ForwardReference}
+use Rattle.engine_stack.specs.TaskView.{binds_from, build_end, build_from, connects_from, item_of, signals_of}
+use Rattle.engine_stack.specs.declared.task.ForwardReference.{ForwardReference}
 use Rattle.definition_format.specs.Meaning.{IsBasic, object_count}
 use Rattle.engine_world.proofs.Prototypes.{connected_past, signals_past}
 

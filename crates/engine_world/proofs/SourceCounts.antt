@@ -14,7 +14,7 @@ use Rattle.main_context.proofs.First.{total_without_first, without_none}
 use Rattle.engine_world.specs.Counting.{KeepsCounts, OnlyCounts}
 use Rattle.engine_world.specs.declared.engine.Engine.{Engine}
 use Rattle.engine_world.proofs.Counts.{stays}
-use Rattle.frame_stacks.proofs.Lists.{total-append}
+use Rattle.engine_stack.proofs.Lists.{total-append}
 
 -- the engine with another table and another context
 abbrev pub with_context : Engine → Store → Attached → Engine

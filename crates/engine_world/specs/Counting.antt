@@ -9,14 +9,14 @@ use Rattle.instance_tables.specs.Store.{Store, count_of}
 use Rattle.engine_world.specs.declared.engine.Engine.{Engine}
 use Rattle.engine_world.specs.declared.world.World.{World}
 use Rattle.instance_tables.specs.Weak.{Knows}
-use Rattle.linked_programs.specs.Linked.{AreLinked}
+use Rattle.engine_links.specs.Linked.{AreLinked}
 use Rattle.ui_machine.specs.Seq.{total}
 use Rattle.engine_world.specs.View.{world_of}
-use Rattle.frame_stacks.specs.KnownHandlers.{AllTakeKnownHandlers}
+use Rattle.engine_stack.specs.KnownHandlers.{AllTakeKnownHandlers}
 use Rattle.engine_world.specs.PeerPlaces.{AreGot, AreNumbered}
 use Rattle.engine_world.specs.EngineView.{config_of}
 use Rattle.engine_world.specs.TaskView.{agenda_of, task_in}
-use Rattle.frame_stacks.specs.declared.task.Task as code
+use Rattle.engine_stack.specs.declared.task.Task as code
 
 -- nothing but the counts of a table differs
 pub record OnlyCounts (old new : Store) : Type 0 where

@@ -1,6 +1,6 @@
 -- The construction that is an engine's first task.
 use Rattle.std.specs.Prelude.{IsSome}
-use Rattle.frame_stacks.specs.FirstConstructions.{Constructed, first_construction, stack_construction}
+use Rattle.engine_stack.specs.FirstConstructions.{Constructed, first_construction, stack_construction}
 use Rattle.engine_world.specs.declared.engine.Engine.{Engine}
 
 -- its first task is a construction

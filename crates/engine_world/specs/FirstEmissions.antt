@@ -1,7 +1,7 @@
 -- The emission that is an engine's first task.
 use Rattle.std.specs.Prelude.{IsSome}
 use Rattle.ui_machine.specs.State.Tasks as config
-use Rattle.frame_stacks.specs.FirstEmissions.{Emitted, emitting, first_emission, stack_emission}
+use Rattle.engine_stack.specs.FirstEmissions.{Emitted, emitting, first_emission, stack_emission}
 use Rattle.engine_world.specs.declared.engine.Engine.{Engine}
 
 -- its first task is an emission

@@ -2,7 +2,7 @@
 use Rattle.std.specs.Prelude.{List, drop, IsSome}
 use Rattle.ui_machine.specs.Definition as machine
 use Rattle.ui_machine.specs.State.Tasks as config
-use Rattle.frame_stacks.specs.FirstPrograms.{first_program, stack_frame}
+use Rattle.engine_stack.specs.FirstPrograms.{first_program, stack_frame}
 use Rattle.engine_world.specs.TaskView.{agenda_of}
 use Rattle.engine_world.specs.declared.engine.Engine.{Engine}
 

@@ -1,6 +1,6 @@
 -- Room for tasks, and vectors for those that are programs or emissions.
 use Rattle.std.specs.Prelude.{◌≡◌, ℕ, ◌+◌, vec_capacity, vec_len}
-use Rattle.frame_stacks.specs.TaskFrames.{HasPlaces, framed}
+use Rattle.engine_stack.specs.TaskFrames.{HasPlaces, framed}
 use Rattle.engine_world.specs.declared.engine.Engine.{Engine}
 
 -- so many tasks more have room, and there is a vector for one of them

@@ -2,8 +2,8 @@
 use Rattle.std.specs.Prelude.{List}
 use Rattle.ui_machine.specs.Definition as machine
 use Rattle.ui_machine.specs.State.Tasks as config
-use Rattle.frame_stacks.specs.TaskView.{task_of, tasks_of}
-use Rattle.frame_stacks.specs.declared.task.Task.{Task}
+use Rattle.engine_stack.specs.TaskView.{task_of, tasks_of}
+use Rattle.engine_stack.specs.declared.task.Task.{Task}
 use Rattle.engine_world.specs.declared.engine.Engine.{Engine}
 
 -- a task of the engine

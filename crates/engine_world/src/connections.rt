@@ -9,7 +9,7 @@ ghost use Rattle.engine_world.specs.ConnectView.{is_connected, is_full, left_by,
 ghost use Rattle.engine_world.specs.Counting.{Connects, KeepsCounts};
 ghost use Rattle.engine_world.specs.Quiet.{IsQuiet};
 ghost use Rattle.engine_world.specs.TaskView.{agenda_of};
-ghost use Rattle.frame_stacks.specs.TaskView.{connects_from, signals_of, task_of};
+ghost use Rattle.engine_stack.specs.TaskView.{connects_from, signals_of, task_of};
 ghost use Rattle.engine_world.specs.View.{world_of};
 ghost use Rattle.ui_machine.specs.Definition.Lookups.{place_at};
 ghost use Rattle.ui_machine.specs.Seq.{total};
@@ -19,7 +19,7 @@ ghost use Rattle.ui_machine.specs.State.Tasks.{connects};
 use crate::engine::Engine;
 use crate::places::FIRST_PLACE;
 use definitions::Definition;
-use frame_stacks::Task;
+use engine_stack::Task;
 use instance_tables::Table;
 use signal_core::{ConnectError, Connection};
 use std::alloc::AllocError;

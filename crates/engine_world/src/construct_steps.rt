@@ -11,13 +11,13 @@ ghost use Rattle.g_values.specs.View.{value_view};
 ghost use Rattle.param_specs.specs.View.{spec_view};
 ghost use Rattle.definition_format.specs.Meaning.{given_view, given_property};
 ghost use Rattle.engine_world.specs.MakingView.{early, construct_set, later_set, early_set, making_of_object};
-ghost use Rattle.frame_stacks.specs.MakingView.{making_steps};
+ghost use Rattle.engine_stack.specs.MakingView.{making_steps};
 ghost use Rattle.engine_world.specs.View.{world_of};
 
 use crate::world::World;
 use definition_format::{Given, GivenValue};
 use definitions::Definition;
-use frame_stacks::{ConstructStep, ConstructSteps};
+use engine_stack::{ConstructStep, ConstructSteps};
 use g_values::Value;
 use param_specs::Spec;
 use std::alloc::AllocError;

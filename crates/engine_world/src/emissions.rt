@@ -7,19 +7,19 @@ ghost use Rattle.ui_machine.specs.State.References.{in_register, in_value, same}
 ghost use Rattle.g_values.specs.View.{value_view};
 ghost use Rattle.instance_tables.specs.Store.{count_of};
 ghost use Rattle.engine_world.specs.Counting.{Counts, MayBeHeld, OnlyTasks};
-ghost use Rattle.frame_stacks.specs.HeldByTasks.{in_emitted};
+ghost use Rattle.engine_stack.specs.HeldByTasks.{in_emitted};
 ghost use Rattle.engine_world.specs.FirstEmissions.{IsEmission, first_emitted};
-ghost use Rattle.frame_stacks.specs.FirstEmissions.{emitted_of, emitting};
+ghost use Rattle.engine_stack.specs.FirstEmissions.{emitted_of, emitting};
 ghost use Rattle.engine_world.specs.FirstPrograms.{rest_of};
-ghost use Rattle.frame_stacks.specs.KnownHandlers.{EndsWithoutTransfers};
+ghost use Rattle.engine_stack.specs.KnownHandlers.{EndsWithoutTransfers};
 ghost use Rattle.engine_world.specs.Room.{HasRoom, SameRoom, TakesFrame};
 ghost use Rattle.engine_world.specs.TaskView.{agenda_of};
-ghost use Rattle.frame_stacks.specs.TaskView.{emission_of};
+ghost use Rattle.engine_stack.specs.TaskView.{emission_of};
 ghost use Rattle.engine_world.specs.View.{world_of};
 
 use crate::engine::Engine;
 use crate::references::{hold_any, let_go_values, never_full};
-use frame_stacks::{EmissionFrame, Transfers};
+use engine_stack::{EmissionFrame, Transfers};
 use g_values::Value;
 use signal_core::Cursor;
 

@@ -27,7 +27,7 @@ use crate::places::entry_at;
 use crate::references::push_task;
 use crate::seats::Seats;
 use definitions::Definition;
-use frame_stacks::{ConstructSteps, ConstructionFrame, Task};
+use engine_stack::{ConstructSteps, ConstructionFrame, Task};
 use g_values::Value;
 use instance_tables::{Object, Table};
 use std::alloc::{AllocError, Global};

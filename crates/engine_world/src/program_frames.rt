@@ -19,7 +19,7 @@ ghost use Rattle.engine_world.specs.Room.{HasRoom, SameRoom, TakesFrame, TakesRo
 ghost use Rattle.engine_world.specs.TaskView.{agenda_of};
 ghost use Rattle.engine_world.specs.View.{world_of};
 ghost use Rattle.engine_world.specs.Counting.{HoldsTasks, KeepsCounts, MayBeHeld, MayHold, OnlyTasks};
-ghost use Rattle.frame_stacks.specs.HeldByTasks.{in_frame};
+ghost use Rattle.engine_stack.specs.HeldByTasks.{in_frame};
 
 use crate::engine::Engine;
 use crate::references::{

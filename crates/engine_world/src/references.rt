@@ -13,17 +13,17 @@ ghost use Rattle.ui_machine.specs.State.References.{in_option, in_register, in_v
 ghost use Rattle.g_values.specs.View.{value_view};
 ghost use Rattle.bytecode.specs.Computing.{registers_of};
 ghost use Rattle.instance_tables.specs.Store.{id_of, count_of, may_hold, named_by};
-ghost use Rattle.frame_stacks.specs.KnownHandlers.{TakesKnownHandlers};
+ghost use Rattle.engine_stack.specs.KnownHandlers.{TakesKnownHandlers};
 ghost use Rattle.engine_world.specs.Room.{TakesRoom};
 ghost use Rattle.engine_world.specs.View.{world_of};
-ghost use Rattle.frame_stacks.specs.TaskFrames.{IsFrameless};
+ghost use Rattle.engine_stack.specs.TaskFrames.{IsFrameless};
 ghost use Rattle.engine_world.specs.TaskView.{task_in, agenda_of};
-ghost use Rattle.frame_stacks.specs.TaskView.{task_of};
+ghost use Rattle.engine_stack.specs.TaskView.{task_of};
 ghost use Rattle.engine_world.specs.Counting.{Connects, IsCounted, MayHold, MayPush, OnlyCounts, KeepsCounts};
-ghost use Rattle.frame_stacks.specs.HeldByTasks.{in_given, in_subject};
+ghost use Rattle.engine_stack.specs.HeldByTasks.{in_given, in_subject};
 
 use crate::engine::Engine;
-use frame_stacks::Task;
+use engine_stack::Task;
 use g_values::Value;
 use instance_tables::Table;
 use signal_core::Cursor;

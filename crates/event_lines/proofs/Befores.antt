@@ -1,8 +1,8 @@
 -- What a session's peers may do stays as it is from line to line.
 use Rattle.std.proofs.Common.{ℕ, ◌+◌, Bool, List, [], ◌∷◌, Option, inl, inr}
 use Rattle.native_peers.specs.Seen.{Relations, SameRelations}
-use Rattle.engine_pools.proofs.Points.{replied_before}
-use Rattle.engine_pools.proofs.UnderWay.{cut_before}
+use Rattle.engine_dispatches.proofs.Points.{replied_before}
+use Rattle.engine_dispatches.proofs.UnderWay.{cut_before}
 use Rattle.ui_engine.specs.SessionView.{SessionState, without_lines}
 use Rattle.event_lines.specs.EventFileRun as file_run
 use Rattle.event_lines.specs.EventFileRun.{EventFileRun, LineComesTo, LinesComeTo, LineSort, Meets, Outcome, said, refused, cut_off, stopped, too_many, too_long, skipped, sort_of_line}

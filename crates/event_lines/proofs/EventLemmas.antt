@@ -8,9 +8,9 @@ use Rattle.definition_format.specs.declared.event_faults.EventError.{EventError}
 use Rattle.definition_format.specs.declared.event_faults.EventError.TheVariants as errors
 use Rattle.ui_machine.specs.Prefix.{IsPrefix}
 use Rattle.native_peers.specs.Seen.{Relations, Seen}
-use Rattle.engine_pools.specs.declared.courses.Progress.{Progress}
-use Rattle.engine_pools.specs.declared.dispatches.Reply.{Reply}
-use Rattle.engine_pools.specs.Ways.{tally_of}
+use Rattle.engine_dispatches.specs.declared.courses.Progress.{Progress}
+use Rattle.engine_dispatches.specs.declared.dispatches.Reply.{Reply}
+use Rattle.engine_dispatches.specs.Ways.{tally_of}
 use Rattle.ui_engine.specs.declared.faults.SessionFault.{SessionFault}
 use Rattle.ui_engine.specs.declared.faults.SessionFault.TheVariants as ends
 use Rattle.ui_engine.specs.SessionView.{SessionState, AnswersBy, AnswersEvent, BeginsBy, BeginsEvent, state_at}

@@ -15,8 +15,8 @@ use Rattle.machine_laws.specs.FrontLaws.{fronted, fronted_at}
 use Rattle.machine_laws.proofs.FrontProofs.{question_stays}
 use Rattle.machine_laws.proofs.FrontRuns.{dispatch_appends, steps_append}
 use Rattle.native_peers.specs.Seen.{Relations}
-use Rattle.engine_pools.specs.PoolView.{IsLeft, as_shown, one_more}
-use Rattle.engine_pools.specs.Ways.{CutOff, EventLeaves}
+use Rattle.engine_dispatches.specs.PoolView.{IsLeft, as_shown, one_more}
+use Rattle.engine_dispatches.specs.Ways.{CutOff, EventLeaves}
 
 module _ (front : List (List ℕ)) (d : Definition) where
   -- ** what runs

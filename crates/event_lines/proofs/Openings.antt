@@ -9,13 +9,13 @@ use Rattle.builder_defs.specs.Denoted.{denoted}
 use Rattle.native_peers.specs.Matching.{as_peers}
 use Rattle.native_peers.specs.Seen.{Relations, SameRelations, Seen}
 use Rattle.native_peers.specs.declared.pooled_peers.Peers.{Ghosts}
-use Rattle.law_pools.specs.MatchedPools.{AllFree}
-use Rattle.engine_pools.specs.declared.dispatches.Reply.{Reply}
+use Rattle.law_peers.specs.MatchedPools.{AllFree}
+use Rattle.engine_dispatches.specs.declared.dispatches.Reply.{Reply}
 use Rattle.ui_engine.specs.Endings.{closed_if, taken_closed}
-use Rattle.engine_pools.specs.Following.{Halting}
-use Rattle.engine_pools.specs.PoolView.{Replied, seen_of, with_seen}
-use Rattle.engine_pools.specs.Ways.{tally_of}
-use Rattle.engine_pools.proofs.Points.{with_seen_is}
+use Rattle.engine_dispatches.specs.Following.{Halting}
+use Rattle.engine_dispatches.specs.PoolView.{Replied, seen_of, with_seen}
+use Rattle.engine_dispatches.specs.Ways.{tally_of}
+use Rattle.engine_dispatches.proofs.Points.{with_seen_is}
 use Rattle.ui_engine.specs.declared.faults.SessionFault.{SessionFault}
 use Rattle.ui_engine.specs.declared.faults.SessionFault.TheVariants as faults
 use Rattle.ui_engine.specs.declared.session.Session.{Session}
@@ -23,7 +23,7 @@ use Rattle.ui_engine.specs.SessionView.{SessionState, without_lines, building, s
 use Rattle.event_lines.specs.declared.session_start.Opening.TheVariants as code
 use Rattle.event_lines.specs.OpeningView.{IsOpening, Opened}
 use Rattle.event_lines.specs.CheckView.{IsUnread, IsRejected}
-use Rattle.law_pools.specs.Needs.{Mismatch, mismatch}
+use Rattle.law_peers.specs.Needs.{Mismatch, mismatch}
 use Rattle.law_typing.specs.Verdict.Judges.{Judges}
 use Rattle.event_lines.specs.Texts.{lines_text, mismatch_text, nothing_begun, build_stopped}
 use Rattle.event_lines.specs.EventFileRun.{EventFileRun, InStep, Replies, text_from}

@@ -12,12 +12,12 @@ use Rattle.builder_defs.specs.Denoted.{denoted}
 use Rattle.builder_defs.specs.EventMeaning.{EventRefusal, event_denoted}
 use Rattle.law_typing.specs.Verdict.Accepted.{Each}
 use Rattle.law_typing.proofs.Lists.{each_append}
-use Rattle.law_sessions.specs.Sessions.{EventRead}
-use Rattle.law_sessions.proofs.SessionProofs.{never_stuck}
+use Rattle.law_steps.specs.Served.Sessions.{EventRead}
+use Rattle.law_steps.proofs.Served.SessionProofs.{never_stuck}
 use Rattle.law_reading.proofs.Whole.{events_read, well_read}
 use Rattle.native_peers.specs.Seen.{Relations}
-use Rattle.engine_pools.specs.PoolView.{GivenBy, Replied}
-use Rattle.engine_pools.specs.Ways.{CutOff}
+use Rattle.engine_dispatches.specs.PoolView.{GivenBy, Replied}
+use Rattle.engine_dispatches.specs.Ways.{CutOff}
 use Rattle.ui_engine.specs.SessionView.{SessionState, without_lines}
 use Rattle.event_lines.specs.EventFileRun as file_run
 use Rattle.event_lines.specs.EventFileRun.{Outcome, said, refused, cut_off, stopped, LineSort, too_many, too_long, skipped, sort_of_line, ends, Meets, LineComesTo, LinesComeTo}

@@ -8,15 +8,15 @@ use Rattle.ui_machine.specs.Prefix.{IsPrefix}
 use Rattle.ui_machine.specs.State.Config.{World}
 use Rattle.ui_machine.specs.State.Tasks.{Event}
 use Rattle.native_peers.specs.Seen.{Relations, SameRelations, Seen}
-use Rattle.engine_pools.specs.declared.courses.Course.{Course}
-use Rattle.engine_pools.specs.declared.courses.Progress.{Progress}
-use Rattle.engine_pools.specs.declared.courses.Progress.TheVariants as progress
-use Rattle.engine_pools.specs.declared.dispatches.Reply.{Reply}
-use Rattle.engine_pools.specs.Courses.{IfUnderWay}
-use Rattle.engine_pools.specs.PoolView.{with_seen, world_at}
-use Rattle.engine_pools.specs.Ways.{serving, tally_of}
-use Rattle.engine_pools.proofs.Points.{cut_off}
-use Rattle.engine_pools.proofs.UnderWay.{same_back, under_way_breaks}
+use Rattle.engine_dispatches.specs.declared.courses.Course.{Course}
+use Rattle.engine_dispatches.specs.declared.courses.Progress.{Progress}
+use Rattle.engine_dispatches.specs.declared.courses.Progress.TheVariants as progress
+use Rattle.engine_dispatches.specs.declared.dispatches.Reply.{Reply}
+use Rattle.engine_dispatches.specs.Courses.{IfUnderWay}
+use Rattle.engine_dispatches.specs.PoolView.{with_seen, world_at}
+use Rattle.engine_dispatches.specs.Ways.{serving, tally_of}
+use Rattle.engine_dispatches.proofs.Points.{cut_off}
+use Rattle.engine_dispatches.proofs.UnderWay.{same_back, under_way_breaks}
 use Rattle.ui_engine.specs.declared.faults.SessionFault.{SessionFault}
 use Rattle.ui_engine.specs.declared.faults.SessionFault.TheVariants as faults
 use Rattle.ui_engine.specs.SessionView.{Comes, ComesOn, HasCourse, InCourse, SessionState, point_in, state_at, with_front, without_lines}

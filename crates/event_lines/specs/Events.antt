@@ -5,8 +5,8 @@ use Rattle.ui_machine.specs.Rules.Events.{Refusal, refusal}
 use Rattle.ui_machine.specs.Runs.{Tally, Serves}
 use Rattle.builder_defs.specs.EventMeaning.{EventRefusal, event_denoted}
 use Rattle.native_peers.specs.Seen.{Relations}
-use Rattle.engine_pools.specs.PoolView.{Replied}
-use Rattle.engine_pools.specs.Ways.{CutOff}
+use Rattle.engine_dispatches.specs.PoolView.{Replied}
+use Rattle.engine_dispatches.specs.Ways.{CutOff}
 use Rattle.ui_engine.specs.SessionView.{SessionState}
 use Rattle.event_lines.specs.Texts.{line_refusal, refusal_of_event}
 use Rattle.event_lines.specs.declared.refusal.LineRefusal.{LineRefusal}

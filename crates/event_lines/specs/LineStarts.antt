@@ -4,8 +4,8 @@ use Rattle.ui_machine.specs.Limits.{most_lines}
 use Rattle.ui_machine.specs.State.Tasks.{Event}
 use Rattle.builder_defs.specs.EventMeaning.{event_denoted}
 use Rattle.native_peers.specs.Seen.{Relations, Seen}
-use Rattle.engine_pools.specs.declared.courses.Progress.{Progress}
-use Rattle.engine_pools.specs.PoolView.{world_at}
+use Rattle.engine_dispatches.specs.declared.courses.Progress.{Progress}
+use Rattle.engine_dispatches.specs.PoolView.{world_at}
 use Rattle.ui_engine.specs.SessionView.{ComesOn, SessionState, state_at}
 use Rattle.event_lines.specs.EventFileRun as file_run
 use Rattle.event_lines.specs.EventFileRun.{LineComesTo, ends, sort_of_line}

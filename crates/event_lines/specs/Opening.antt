@@ -5,7 +5,7 @@ use Rattle.ui_machine.specs.Prefix.{IsPrefix}
 use Rattle.ui_machine.specs.Runs.{Tally, Carries, of_build}
 use Rattle.ui_machine.specs.State.Config.{World}
 use Rattle.ui_machine.specs.State.Peers.{Peer}
-use Rattle.law_pools.specs.Needs.{Mismatch, mismatch}
+use Rattle.law_peers.specs.Needs.{Mismatch, mismatch}
 use Rattle.law_typing.specs.Rules.Faults.{Fault}
 use Rattle.law_typing.specs.Laws.StepsKeepGood.{PoolReady}
 use Rattle.law_typing.specs.Verdict.Accepted.{Accepted}
@@ -15,8 +15,8 @@ use Rattle.builder_defs.specs.Refusals.{Refusal}
 use Rattle.builder_defs.specs.Denoted.{denoted}
 use Rattle.native_peers.specs.Seen.{Relations, Seen}
 use Rattle.ui_engine.specs.Endings.{taken_closed}
-use Rattle.engine_pools.specs.Following.{Halting}
-use Rattle.engine_pools.specs.PoolView.{Replied, seen_of}
+use Rattle.engine_dispatches.specs.Following.{Halting}
+use Rattle.engine_dispatches.specs.PoolView.{Replied, seen_of}
 use Rattle.ui_engine.specs.SessionView.{SessionState, without_lines}
 use Rattle.event_lines.specs.Texts.{lines_text, definition_mismatched, definition_refused, nothing_begun, build_stopped}
 use Rattle.event_lines.specs.EventFileRun.{EventFileRun}

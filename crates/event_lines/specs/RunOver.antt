@@ -7,12 +7,12 @@ use Rattle.ui_machine.specs.State.Peers.{Peer, Reply}
 use Rattle.ui_machine.specs.Runs.{Tally, IsRun}
 use Rattle.machine_laws.specs.FrontLaws.{fronted}
 use Rattle.law_typing.specs.Verdict.Accepted.{Accepted, Each}
-use Rattle.law_sessions.specs.Dispatches.{Keeps}
-use Rattle.law_sessions.specs.Sessions.{Dispatch, beginning_of, entry_to}
+use Rattle.law_steps.specs.Served.Dispatches.{Keeps}
+use Rattle.law_steps.specs.Served.Sessions.{Dispatch, beginning_of, entry_to}
 use Rattle.builder_defs.specs.EventMeaning.{EventRefusal, event_denoted}
 use Rattle.native_peers.specs.Seen.{Relations}
-use Rattle.engine_pools.specs.PoolView.{GivenBy, Replied}
-use Rattle.engine_pools.specs.Ways.{CutOff}
+use Rattle.engine_dispatches.specs.PoolView.{GivenBy, Replied}
+use Rattle.engine_dispatches.specs.Ways.{CutOff}
 use Rattle.ui_engine.specs.SessionView.{SessionState}
 use Rattle.event_lines.specs.EventFileRun as file_run
 use Rattle.event_lines.specs.EventFileRun.{Outcome, said, refused, cut_off, stopped, LineSort, too_many, too_long, skipped, sort_of_line}

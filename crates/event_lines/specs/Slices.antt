@@ -5,10 +5,10 @@ use Rattle.ui_machine.specs.State.Config.{World}
 use Rattle.ui_machine.specs.State.Tasks.{Event}
 use Rattle.ui_machine.specs.Steps.{most_steps}
 use Rattle.native_peers.specs.Seen.{Relations, Seen}
-use Rattle.engine_pools.specs.declared.courses.Progress.{Progress}
-use Rattle.engine_pools.specs.declared.courses.Progress.TheVariants as progress
-use Rattle.engine_pools.specs.declared.dispatches.Reply.{Reply}
-use Rattle.engine_pools.specs.Ways.{serving}
+use Rattle.engine_dispatches.specs.declared.courses.Progress.{Progress}
+use Rattle.engine_dispatches.specs.declared.courses.Progress.TheVariants as progress
+use Rattle.engine_dispatches.specs.declared.dispatches.Reply.{Reply}
+use Rattle.engine_dispatches.specs.Ways.{serving}
 use Rattle.ui_engine.specs.declared.faults.SessionFault.{SessionFault}
 use Rattle.ui_engine.specs.SessionView.{Comes, ComesOn, SessionState, state_at, without_lines}
 use Rattle.event_lines.specs.EventFileRun.{Outcome, said, stopped, text_at}

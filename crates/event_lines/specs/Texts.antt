@@ -1,7 +1,7 @@
 -- What is written of a line.
 use Rattle.std.specs.Prelude.{ℕ, List, [], ◌∷◌, ◌++◌, flat_map, codes, decimal}
 use Rattle.ui_machine.specs.Rules.Events as machine
-use Rattle.law_pools.specs.Needs.{Mismatch, missing, closed, misshapen, unused}
+use Rattle.law_peers.specs.Needs.{Mismatch, missing, closed, misshapen, unused}
 use Rattle.builder_defs.specs.Refusals.{Refusal}
 use Rattle.builder_defs.specs.FaultText.{printed, refusal_text}
 use Rattle.builder_defs.specs.EventMeaning.{EventRefusal, too_long, not_json, shape, unknown, not_readable, not_writable, construct_only, value_fault}

@@ -2,7 +2,7 @@
 
 ghost use Rattle.std.specs.Prelude.{◌≡◌, ◌++◌, codes, ℕ, List, None, Ok, Option, Some, string_bytes, IfSome};
 ghost use Rattle.ui_machine.specs.Definition.{Definition};
-ghost use Rattle.law_pools.specs.Needs.{Mismatch, mismatch};
+ghost use Rattle.law_peers.specs.Needs.{Mismatch, mismatch};
 ghost use Rattle.law_typing.specs.Verdict.Judges.{Judges};
 ghost use Rattle.builder_defs.specs.Denoted.{denoted};
 ghost use Rattle.builder_defs.specs.FaultText.{printed};

@@ -8,7 +8,7 @@ use Rattle.ui_machine.specs.Definition.Signals.{Shape}
 use Rattle.ui_machine.specs.Rules.Construction.{nearest_shape}
 use Rattle.ui_machine.specs.Rules.Transform.{same_bool}
 use Rattle.ui_machine.specs.State.Peers.{PeerState}
-use Rattle.law_pools.specs.Needs.{objects, prototypes}
+use Rattle.law_peers.specs.Needs.{objects, prototypes}
 use Rattle.native_peers.specs.Seen.{Seen}
 use Rattle.host_peers.specs.Screens.{new_screen}
 use Rattle.host_peers.specs.Tallies.{new_tally}

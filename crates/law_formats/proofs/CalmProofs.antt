@@ -17,9 +17,9 @@ use Rattle.law_typing.specs.Rules.Brackets.{written, opened, is_among, less_one,
 use Rattle.law_typing.specs.Rules.Typing as typing
 use Rattle.law_typing.specs.Rules.Typing.{typed, after, or_before}
 use Rattle.law_typing.specs.Laws.WellRead.{ends}
-use Rattle.law_kept.proofs.WriteProofs.{read_here, read_apart}
-use Rattle.law_instructions.proofs.Written.{not_among}
-use Rattle.law_tasks.proofs.Registers.{Allowed, kind_apart}
+use Rattle.law_steps.proofs.Kept.WriteProofs.{read_here, read_apart}
+use Rattle.law_steps.proofs.Instructed.Written.{not_among}
+use Rattle.law_steps.proofs.Tasked.Registers.{Allowed, kind_apart}
 use Rattle.law_formats.specs.FirstRules.{freezes_pair}
 
 -- no place of a kind has a paired property

@@ -40,7 +40,7 @@ use Rattle.ui_machine.specs.Definition.Properties.{has_flags, is_construct_only,
 use Rattle.ui_machine.specs.State.Objects.{asked, value_at}
 use Rattle.ui_machine.specs.State.Sources as sources
 use Rattle.ui_machine.specs.State.Tasks.{Answering, Beginning, Building, Due, Handling, Item, Request, adopts, binds, connects, forwards, makes}
-use Rattle.law_kept.proofs.NewProofs.{new_stands}
+use Rattle.law_steps.proofs.Kept.NewProofs.{new_stands}
 use Rattle.law_frames.specs.Frames.{FallsAt, TaskFalls}
 use Rattle.law_frames.proofs.Leading.{framed, plain}
 use Rattle.law_frames.proofs.Emissions.{first_free, known_is}

@@ -39,8 +39,8 @@ use Rattle.law_typing.proofs.Lists.{any_true, both_parts, map_in}
 use Rattle.law_static.proofs.SubclassProofs.{get_in}
 use Rattle.law_static.specs.Raises.{raised_there}
 use Rattle.law_static.proofs.RaisesProofs.{channels_known}
-use Rattle.law_tasks.proofs.BeginningProofs.{signal_is_channel}
-use Rattle.law_tasks.proofs.Planned.{Emitted}
+use Rattle.law_steps.proofs.Tasked.BeginningProofs.{signal_is_channel}
+use Rattle.law_steps.proofs.Tasked.Planned.{Emitted}
 use Rattle.law_frames.proofs.Emissions.{known_is}
 use Rattle.law_frames.proofs.Leading.{plain}
 use Rattle.law_frames.proofs.Plans.{plan_falls, transfers_fall}

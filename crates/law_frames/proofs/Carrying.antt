@@ -26,7 +26,7 @@ use Rattle.law_typing.specs.Laws.WellRead.{WellRead}
 use Rattle.law_typing.specs.Verdict.Accepted.{Accepted}
 use Rattle.law_typing.proofs.Lists.{each_in}
 use Rattle.law_typing.proofs.OneSolutionProofs.{find_in}
-use Rattle.law_tasks.proofs.Pairs as pairs
+use Rattle.law_steps.proofs.Tasked.Pairs as pairs
 use Rattle.law_frames.specs.Frames.{FallsAt, IsApart, Under, height, to_end, transfer_height}
 use Rattle.law_frames.proofs.Leading.{plain}
 use Rattle.law_frames.proofs.Staying.{apart_stays, end_stays, same_place, under_stays}

@@ -13,10 +13,10 @@ use Rattle.law_typing.specs.Good.ComingDown.{Down}
 use Rattle.law_typing.specs.Good.ComingDown as coming
 use Rattle.law_typing.specs.Good.Standing.{view}
 use Rattle.law_typing.specs.Graph.Tables.{Tables}
-use Rattle.law_sessions.proofs.ThroughoutProofs.{throughout_build, throughout_request, throughout_source}
-use Rattle.law_stacks.specs.Stacks.{IsStacked, is_program, programs}
-use Rattle.law_stacks.proofs.FewProofs.{constructions_are_few}
-use Rattle.law_stacks.proofs.StepProofs.{stacks_last}
+use Rattle.law_steps.proofs.Served.ThroughoutProofs.{throughout_build, throughout_request, throughout_source}
+use Rattle.law_runs.specs.Stacks.{IsStacked, is_program, programs}
+use Rattle.law_runs.proofs.FewProofs.{constructions_are_few}
+use Rattle.law_runs.proofs.StepProofs.{stacks_last}
 use Rattle.law_frames.specs.Counts.{BuildsRunFew, FewRun, RequestsRunFew, SourcesRunFew}
 use Rattle.law_frames.specs.Frames.{EachOnce, runs_it}
 use Rattle.law_frames.proofs.Steps.{builds_are_once, requests_are_once, sources_are_once}

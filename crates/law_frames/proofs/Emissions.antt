@@ -37,8 +37,8 @@ use Rattle.law_static.specs.Raises.{raised_there}
 use Rattle.law_static.proofs.RaisesProofs.{channels_known}
 use Rattle.law_static.proofs.SiteProofs.{blocks_keep}
 use Rattle.law_static.proofs.SubclassProofs.{get_in}
-use Rattle.law_tasks.proofs.Over.{other_end_is}
-use Rattle.law_tasks.proofs.Pairs as pairs
+use Rattle.law_steps.proofs.Tasked.Over.{other_end_is}
+use Rattle.law_steps.proofs.Tasked.Pairs as pairs
 use Rattle.law_frames.specs.Frames.{Falls, FallsAt, TaskFalls, TurnFalls, Under, channel_at, channel_of, from_end, height, height_if, is_over, to_end, within}
 use Rattle.law_frames.proofs.Going.{GoesOn}
 use Rattle.law_frames.proofs.Leading.{framed}

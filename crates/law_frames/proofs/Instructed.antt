@@ -14,8 +14,8 @@ use Rattle.ui_machine.specs.State.Bindings.{is_binding}
 use Rattle.ui_machine.specs.State.Config.{Left, Started, World}
 use Rattle.ui_machine.specs.State.Tasks.{Running, Frame, Task}
 use Rattle.machine_laws.proofs.KeptProofs.{only_keeps}
-use Rattle.law_instructions.specs.Running.{at_top}
-use Rattle.law_instructions.proofs.Around.{Due}
+use Rattle.law_steps.specs.Instructed.Running.{at_top}
+use Rattle.law_steps.proofs.Instructed.Around.{Due}
 use Rattle.law_frames.specs.Frames.{FallsAt}
 use Rattle.law_frames.proofs.Programs.{Led, goes}
 use Rattle.law_frames.proofs.Tasks.{Nothing}
@@ -27,9 +27,9 @@ use Rattle.law_typing.specs.Good.ComingDown.{none}
 use Rattle.law_typing.specs.Good.Programs.{RunningGood, code_of, code_of_block}
 use Rattle.law_typing.specs.Good.Standing.{standing}
 use Rattle.law_typing.specs.Graph.Tables.{of_program}
-use Rattle.law_instructions.specs.Running.{block_if, in_pass_if, instruction_at, taking}
-use Rattle.law_instructions.proofs.Around.{running_is}
-use Rattle.law_instructions.proofs.Passes.{Turned, turned}
+use Rattle.law_steps.specs.Instructed.Running.{block_if, in_pass_if, instruction_at, taking}
+use Rattle.law_steps.proofs.Instructed.Around.{running_is}
+use Rattle.law_steps.proofs.Instructed.Passes.{Turned, turned}
 use Rattle.law_frames.specs.Frames.{Under}
 use Rattle.law_frames.proofs.Going.{GoesOn, same_kept}
 use Rattle.law_frames.proofs.GoingInstructions.{May, instructed_kept}

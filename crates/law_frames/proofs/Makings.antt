@@ -33,9 +33,9 @@ use Rattle.law_typing.specs.Graph.{making_of, raised_by_making}
 use Rattle.law_typing.specs.Graph.Depths.{deepest, making_depth}
 use Rattle.law_static.proofs.BuildCostProofs.{read_making}
 use Rattle.law_static.proofs.ConstructionProofs.{constructions_shallow}
-use Rattle.law_kept.proofs.NewProofs.{new_stands}
-use Rattle.law_instructions.specs.Running.{at_top}
-use Rattle.law_instructions.proofs.Around as due
+use Rattle.law_steps.proofs.Kept.NewProofs.{new_stands}
+use Rattle.law_steps.specs.Instructed.Running.{at_top}
+use Rattle.law_steps.proofs.Instructed.Around as due
 use Rattle.law_frames.proofs.Going.{queues_more}
 use Rattle.law_frames.specs.Frames.{StepFalls, making_height, FallsAt}
 use Rattle.law_frames.proofs.Emissions.{known_is}

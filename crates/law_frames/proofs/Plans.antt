@@ -25,7 +25,7 @@ use Rattle.law_typing.proofs.Lists.{both_parts, each_append, each_in, filter_in,
 use Rattle.law_static.specs.Raises.{raised_there}
 use Rattle.law_static.proofs.RaisesProofs.{channels_known}
 use Rattle.law_static.proofs.RisingProofs.{rising_are_found}
-use Rattle.law_tasks.proofs.Planned.{Emitted, each_passing}
+use Rattle.law_steps.proofs.Tasked.Planned.{Emitted, each_passing}
 use Rattle.law_frames.specs.Frames.{TurnFalls, from_end, within}
 
 -- ** the plan

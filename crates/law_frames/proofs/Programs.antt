@@ -18,8 +18,8 @@ use Rattle.law_typing.specs.Laws.StepsKeepGood.{IsGood}
 use Rattle.law_typing.proofs.CostProofs.{depths_solved}
 use Rattle.law_static.proofs.BeginProofs.{get_map}
 use Rattle.law_static.proofs.CodeProofs.{instructions_taken}
-use Rattle.law_instructions.specs.Running.{at_top}
-use Rattle.law_instructions.proofs.Around.{Due, here, r}
+use Rattle.law_steps.specs.Instructed.Running.{at_top}
+use Rattle.law_steps.proofs.Instructed.Around.{Due, here, r}
 use Rattle.law_frames.specs.Frames.{Falls, FallsAt, TaskFalls, Under}
 use Rattle.law_frames.proofs.Going.{GoesOn}
 use Rattle.law_frames.proofs.Leading.{RaisedHeld, framed}

@@ -31,11 +31,11 @@ use Rattle.law_typing.specs.Graph.Tables.{Tables, entry, of_program}
 use Rattle.law_typing.specs.Rules.RegisterKinds.{class_at, kind_in, places}
 use Rattle.law_typing.specs.Rules.Typing as typing
 use Rattle.law_static.proofs.StartProofs.{starts_reach}
-use Rattle.law_instructions.specs.Running.{at_top}
-use Rattle.law_instructions.proofs.Around.{Due, r, taken}
-use Rattle.law_instructions.proofs.Inverse.{bound}
-use Rattle.law_instructions.proofs.Operand.{Named, named}
-use Rattle.law_instructions.proofs.Typed.{property_is}
+use Rattle.law_steps.specs.Instructed.Running.{at_top}
+use Rattle.law_steps.proofs.Instructed.Around.{Due, r, taken}
+use Rattle.law_steps.proofs.Instructed.Inverse.{bound}
+use Rattle.law_steps.proofs.Instructed.Operand.{Named, named}
+use Rattle.law_steps.proofs.Instructed.Typed.{property_is}
 use Rattle.law_frames.specs.Frames.{DueFalls, FallsAt, channel_at, channel_of, emission_height, height_if, named_at}
 use Rattle.law_frames.proofs.Emissions.{known_is}
 use Rattle.law_frames.proofs.Programs.{Led, started_low, starts_one}

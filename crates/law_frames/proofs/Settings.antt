@@ -24,7 +24,7 @@ use Rattle.law_typing.specs.Graph.Tables.{Tables, entry}
 use Rattle.law_typing.specs.Laws.{IsIn}
 use Rattle.law_typing.specs.Laws.StepsKeepGood.{IsGood}
 use Rattle.law_typing.specs.Verdict.Accepted.{Accepted}
-use Rattle.law_kept.proofs.NewProofs.{at_place}
+use Rattle.law_steps.proofs.Kept.NewProofs.{at_place}
 use Rattle.law_frames.specs.Frames.{DueFalls, Falls, FallsAt, IsHeld, height}
 use Rattle.law_frames.proofs.Going.{GoesOn}
 use Rattle.law_frames.proofs.Leading.{Leads, frozen_somewhere, held_where_due, plain}

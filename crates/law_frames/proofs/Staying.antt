@@ -18,7 +18,7 @@ use Rattle.law_typing.specs.Graph.Channels.{Channel, property}
 use Rattle.law_typing.specs.Graph.Tables.{Tables, of_program}
 use Rattle.law_typing.specs.Laws.{IsIn}
 use Rattle.law_typing.specs.Verdict.Accepted.{Each}
-use Rattle.law_kept.proofs.NewProofs.{at_place}
+use Rattle.law_steps.proofs.Kept.NewProofs.{at_place}
 use Rattle.law_frames.specs.Frames.{DueFalls, EmittingFalls, Falls, IsApart, IsHeld, IsOnEnd, LiesOnEnd, TurnFalls, Under, channel_at, emission_height, height, height_if, making_height, waited_height, within}
 use Rattle.law_frames.proofs.Going.{FromThose, PlacesStay}
 use Rattle.law_frames.proofs.OnceProofs.{under_below}

@@ -24,7 +24,7 @@ use Rattle.law_typing.specs.Graph.Depths.{depth}
 use Rattle.law_typing.specs.Laws.StepsKeepGood.{IsGood}
 use Rattle.law_typing.specs.Laws.WellRead.{WellRead}
 use Rattle.law_typing.specs.Verdict.Accepted.{Accepted, Each}
-use Rattle.law_tasks.proofs.StepsProofs.{steps_keep_good}
+use Rattle.law_steps.proofs.Tasked.StepsProofs.{steps_keep_good}
 use Rattle.law_typing.specs.Good.Bindings.{SourceGood}
 use Rattle.law_typing.specs.Graph.Channels as entries
 use Rattle.law_typing.specs.Laws.StepsKeepGood.{bound_of}
@@ -33,9 +33,9 @@ use Rattle.law_typing.proofs.OneSolutionProofs.{find_in}
 use Rattle.law_static.proofs.BuildCostProofs.{build_begins}
 use Rattle.law_static.proofs.RequestProofs.{requests_begin}
 use Rattle.law_static.proofs.SourceProofs.{sources_begin}
-use Rattle.law_sessions.specs.Dispatches.{Throughout}
-use Rattle.law_sessions.proofs.DispatchProofs.{one_step}
-use Rattle.law_sessions.proofs.EntryProofs.{build_printed, printed_few, request_printed, source_printed}
+use Rattle.law_steps.specs.Served.Dispatches.{Throughout}
+use Rattle.law_steps.proofs.Served.DispatchProofs.{one_step}
+use Rattle.law_steps.proofs.Served.EntryProofs.{build_printed, printed_few, request_printed, source_printed}
 use Rattle.law_frames.proofs.OnceProofs.{falling_are_once}
 use Rattle.law_frames.specs.Frames as frames
 use Rattle.law_frames.specs.Frames.{EachOnce, FallsAt, IsHeld, Under}

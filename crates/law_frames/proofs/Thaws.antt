@@ -28,13 +28,13 @@ use Rattle.law_typing.specs.Graph.Tables.{Tables, entry, of_program}
 use Rattle.law_typing.specs.Laws.{IsIn}
 use Rattle.law_typing.specs.Laws.StepsKeepGood.{IsGood}
 use Rattle.law_typing.proofs.Lists.{each_in}
-use Rattle.law_kept.proofs.WriteProofs.{find_here}
+use Rattle.law_steps.proofs.Kept.WriteProofs.{find_here}
 use Rattle.law_typing.specs.Rules.Typing as typing
-use Rattle.law_instructions.specs.Running.{at_top}
-use Rattle.law_instructions.proofs.Around.{Due, r, taken}
-use Rattle.law_instructions.proofs.Operand.{Named, named}
-use Rattle.law_instructions.proofs.Typed.{changing_none_is, property_is}
-use Rattle.law_instructions.proofs.ThawProofs.{thaw_leaves}
+use Rattle.law_steps.specs.Instructed.Running.{at_top}
+use Rattle.law_steps.proofs.Instructed.Around.{Due, r, taken}
+use Rattle.law_steps.proofs.Instructed.Operand.{Named, named}
+use Rattle.law_steps.proofs.Instructed.Typed.{changing_none_is, property_is}
+use Rattle.law_steps.proofs.Instructed.ThawProofs.{thaw_leaves}
 use Rattle.law_frames.specs.Frames.{waited_height, Falls, FallsAt, IsHeld}
 use Rattle.law_frames.proofs.Going.{GoesOn}
 use Rattle.law_frames.proofs.Emissions.{known_is}

@@ -23,7 +23,7 @@ use Rattle.law_typing.specs.Laws.WellRead.{WellRead}
 use Rattle.law_typing.specs.Verdict.Accepted.{Accepted}
 use Rattle.law_typing.proofs.Lists.{both_parts, each_in}
 use Rattle.law_typing.proofs.OneSolutionProofs.{find_in}
-use Rattle.law_tasks.proofs.Pairs as pairs
+use Rattle.law_steps.proofs.Tasked.Pairs as pairs
 use Rattle.law_frames.specs.Frames.{emission_height, from_end, height, height_if, is_over, is_pair_of, to_end, transfer_height, within}
 use Rattle.law_frames.proofs.Going.{GoesOn}
 use Rattle.law_frames.proofs.Leading.{framed}

@@ -31,8 +31,8 @@ use Rattle.ui_machine.specs.State.Sources as sources
 use Rattle.ui_machine.specs.Rules.Build.{to_connect}
 use Rattle.ui_machine.specs.State.Tasks.{Running, Frame, Task}
 use Rattle.machine_laws.proofs.KeptProofs.{bind_keeps, only_keeps}
-use Rattle.law_instructions.specs.Running.{at_top}
-use Rattle.law_instructions.proofs.Around.{Due}
+use Rattle.law_steps.specs.Instructed.Running.{at_top}
+use Rattle.law_steps.proofs.Instructed.Around.{Due}
 use Rattle.law_frames.specs.Frames.{FallsAt}
 use Rattle.law_frames.proofs.Programs.{Led, goes, starts_one}
 use Rattle.law_frames.proofs.Tasks.{Nothing}

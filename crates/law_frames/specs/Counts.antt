@@ -11,8 +11,8 @@ use Rattle.law_typing.specs.Good.Requests.{RequestRead}
 use Rattle.law_typing.specs.Laws.StepsKeepGood.{IsResting, PoolReady}
 use Rattle.law_typing.specs.Laws.WellRead.{WellRead}
 use Rattle.law_typing.specs.Verdict.Accepted.{Accepted}
-use Rattle.law_sessions.specs.Dispatches.{Throughout}
-use Rattle.law_stacks.specs.Stacks.{constructions, programs}
+use Rattle.law_steps.specs.Served.Dispatches.{Throughout}
+use Rattle.law_runs.specs.Stacks.{constructions, programs}
 
 -- no more programs run than the definition has, and no more constructions go on than that, and one
 pub record FewRun (d : Definition) (c : Config) : Type 0 where

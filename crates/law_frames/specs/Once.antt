@@ -11,7 +11,7 @@ use Rattle.law_typing.specs.Good.Requests.{RequestRead}
 use Rattle.law_typing.specs.Laws.StepsKeepGood.{IsResting, PoolReady}
 use Rattle.law_typing.specs.Laws.WellRead.{WellRead}
 use Rattle.law_typing.specs.Verdict.Accepted.{Accepted}
-use Rattle.law_sessions.specs.Dispatches.{Throughout}
+use Rattle.law_steps.specs.Served.Dispatches.{Throughout}
 use Rattle.law_frames.specs.Frames.{EachOnce}
 
 -- throughout the build

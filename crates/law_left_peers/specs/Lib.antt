@@ -1,1 +1,3 @@
-pub mod LeftPeers
+pub mod Sessions
+pub mod Names
+pub mod Runs

@@ -14,9 +14,9 @@ use Rattle.law_typing.specs.Graph.Ranks.{is_raised}
 use Rattle.law_typing.specs.Graph.Costs.{other_end, with_other, node_cost, start_cost, starts_cost, before_last, only_last, passes_cost, stretch_cost, path_costs, program_cost, programs_cost, targets_cost, emission_cost, cost_at, channel_cost}
 use Rattle.law_typing.specs.Verdict.{most_bound}
 use Rattle.node_numbers.specs.Numbers.{Solves, greatest, number_by, of_node, total}
-use Rattle.graph_sketches.specs.Pointwise.{Pointwise, inside}
-use Rattle.graph_sketches.specs.Sketches.{AreNamed, IsQuiet, IsRaisedProperty, IsSketch, IsSketchedBlock, IsSketchedStart, IsStartOf, Names, NamesIf, SamePrograms, Sketch, SketchedBlock, SketchedChannel, SketchedStart, emits_at, nothing, raises, makes, thaws}
-use Rattle.graph_sketches.specs.Numbered.{IsNumbered, IsPart, Node, Part, block, block_node, blocks, blocks_node, connected, connected_node, costs_in, edges_in, first_block, first_of, group, group_node, next, next_node, nodes_of, of_block, of_blocks, of_connected, of_group, of_next, of_own, of_passes, of_place, of_program as of_program_part, of_stages, of_start, one_if, own, own_node, passes, passes_node, place, place_node, program, program_node, programs_of, stages, stages_node, start, start_node, starts_of, whole}
+use Rattle.verify_sketches.specs.Pointwise.{Pointwise, inside}
+use Rattle.verify_sketches.specs.Sketches.{AreNamed, IsQuiet, IsRaisedProperty, IsSketch, IsSketchedBlock, IsSketchedStart, IsStartOf, Names, NamesIf, SamePrograms, Sketch, SketchedBlock, SketchedChannel, SketchedStart, emits_at, nothing, raises, makes, thaws}
+use Rattle.verify_sketches.specs.Numbered.{IsNumbered, IsPart, Node, Part, block, block_node, blocks, blocks_node, connected, connected_node, costs_in, edges_in, first_block, first_of, group, group_node, next, next_node, nodes_of, of_block, of_blocks, of_connected, of_group, of_next, of_own, of_passes, of_place, of_program as of_program_part, of_stages, of_start, one_if, own, own_node, passes, passes_node, place, place_node, program, program_node, programs_of, stages, stages_node, start, start_node, starts_of, whole}
 use Rattle.law_numbering.specs.Tables.{CostsAreSolved, cost_tables}
 use Rattle.law_numbering.proofs.SketchLists.{Like, at_second, found, greatest_like, inside_greatest, inside_total, itself, listed_map, pointwise_map, read_found, read_past, same_length, table_map, total_append, total_like, times_like}
 use Rattle.law_numbering.proofs.SketchParts.{IsChannelAt, first_node, greatest_flat, greatest_of_all, mapped, most_of_programs, named, node_alone, node_both, pointwise_before, pointwise_last, raised_at, sum_of_programs, table_entry, table_none, value_is}

@@ -3,9 +3,9 @@ use Rattle.std.proofs.Common.{◌≡◌, inl, inr, ◌⊎◌, refl, sym, ap, sub
 use Rattle.law_typing.specs.Graph.{Graph}
 use Rattle.law_typing.specs.Graph.Tables.{greatest}
 use Rattle.law_typing.proofs.Lists.{greatest_in}
-use Rattle.dependency_order.specs.Graphs.{Edge, LeadRound, LeadsRound}
-use Rattle.graph_sketches.specs.Sketches.{IsSketch, Sketch, SketchedBlock}
-use Rattle.graph_sketches.specs.Numbered.{IsNumbered, IsPart, Node, Part, block, blocks, connected, edges_in, group, next, of_block, of_whole, own, passes, place, program, stages, start, whole}
+use Rattle.verify_order.specs.Graphs.{Edge, LeadRound, LeadsRound}
+use Rattle.verify_sketches.specs.Sketches.{IsSketch, Sketch, SketchedBlock}
+use Rattle.verify_sketches.specs.Numbered.{IsNumbered, IsPart, Node, Part, block, blocks, connected, edges_in, group, next, of_block, of_whole, own, passes, place, program, stages, start, whole}
 use Rattle.law_numbering.specs.Cycles.{CyclesHaveChannels}
 use Rattle.law_numbering.proofs.SketchLists.{below}
 use Rattle.law_numbering.proofs.Members.{get_in}

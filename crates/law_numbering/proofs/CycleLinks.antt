@@ -12,9 +12,9 @@ use Rattle.law_typing.specs.Laws.{IsIn}
 use Rattle.law_typing.specs.Laws.WellRead.{no_two}
 use Rattle.law_typing.proofs.Lists.{any_in, any_true, map_in, same_channel_refl, same_channel_true}
 use Rattle.law_typing.proofs.EdgeProofs.{append_left, append_right, flat_in}
-use Rattle.dependency_order.specs.Graphs.{Edge, IsOnce, LeadRound}
-use Rattle.graph_sketches.specs.Sketches.{IsSketch, IsStartOf, Names, Sketch, channels_in}
-use Rattle.graph_sketches.specs.Numbered.{IsNumbered, IsPart, Node, Part, block, blocks, connected, edges_in, group, next, of_whole, own, passes, place, program, stages, start, whole}
+use Rattle.verify_order.specs.Graphs.{Edge, IsOnce, LeadRound}
+use Rattle.verify_sketches.specs.Sketches.{IsSketch, IsStartOf, Names, Sketch, channels_in}
+use Rattle.verify_sketches.specs.Numbered.{IsNumbered, IsPart, Node, Part, block, blocks, connected, edges_in, group, next, of_whole, own, passes, place, program, stages, start, whole}
 use Rattle.law_numbering.specs.Cycles.{CyclesAreTold, HaveNodes, by, channel_numbered, channel_or, links_after, links_of}
 use Rattle.law_numbering.proofs.SketchLists.{get_map, one_found}
 use Rattle.law_numbering.proofs.SketchParts.{sketched_at}

@@ -13,12 +13,12 @@ use Rattle.law_typing.specs.Graph.Ranks.{is_raised, running_at}
 use Rattle.law_typing.specs.Graph.Costs.{other_end, before_last, only_last}
 use Rattle.law_typing.specs.Graph.Depths.{channel_depth, deepest, depth_at, depth_within, depth_within_if, program_depth, property_depth, raised_of, start_depth}
 use Rattle.law_typing.proofs.Lists.{same_channel_true, same_channel_refl}
-use Rattle.dependency_order.specs.Graphs.{IsOrder}
+use Rattle.verify_order.specs.Graphs.{IsOrder}
 use Rattle.node_numbers.specs.declared.rules.Rule.{Rule}
 use Rattle.node_numbers.specs.Numbers.{Solves, greatest, number_by, of_node}
-use Rattle.graph_sketches.specs.Pointwise.{Pointwise, inside}
-use Rattle.graph_sketches.specs.Sketches.{AreNamed, IsSketch, IsSketchedBlock, IsSketchedStart, IsStartOf, Names, NamesIf, SamePrograms, Sketch, SketchedBlock, SketchedChannel, SketchedStart, emits_at, nothing, raises, makes, thaws}
-use Rattle.graph_sketches.specs.Numbered.{IsNumbered, IsPart, Node, Part, block, block_node, blocks, blocks_node, connected, connected_node, depths_in, edges_in, first_block, first_of, frames_of, group, group_node, next, next_node, nodes_of, of_block, of_blocks, of_connected, of_group, of_next, of_own, of_passes, of_place, of_program as of_program_part, of_stages, of_start, of_whole, one_if, own, own_node, passes, passes_node, place, place_node, program, program_node, programs_of, stages, stages_node, start, start_depth as start_depth_rule, start_node, starts_of, whole}
+use Rattle.verify_sketches.specs.Pointwise.{Pointwise, inside}
+use Rattle.verify_sketches.specs.Sketches.{AreNamed, IsSketch, IsSketchedBlock, IsSketchedStart, IsStartOf, Names, NamesIf, SamePrograms, Sketch, SketchedBlock, SketchedChannel, SketchedStart, emits_at, nothing, raises, makes, thaws}
+use Rattle.verify_sketches.specs.Numbered.{IsNumbered, IsPart, Node, Part, block, block_node, blocks, blocks_node, connected, connected_node, depths_in, edges_in, first_block, first_of, frames_of, group, group_node, next, next_node, nodes_of, of_block, of_blocks, of_connected, of_group, of_next, of_own, of_passes, of_place, of_program as of_program_part, of_stages, of_start, of_whole, one_if, own, own_node, passes, passes_node, place, place_node, program, program_node, programs_of, stages, stages_node, start, start_depth as start_depth_rule, start_node, starts_of, whole}
 use Rattle.law_numbering.specs.Tables.{DepthsAreSolved, depth_tables, value_of}
 use Rattle.law_numbering.proofs.SketchLists.{Like, at_second, below, found, get_map, greatest_append, greatest_like, inside_greatest, itself, listed_map, map_get, max_like, pointwise_map, read_found, read_past, table_map}
 use Rattle.law_numbering.proofs.SketchParts.{IsChannelAt, Once, first_node, greatest_flat, greatest_of_all, most_append, most_of_programs, named, node_alone, node_both, pointwise_before, pointwise_last, raised_at, table_entry, table_none, value_is}

@@ -9,7 +9,7 @@ use Rattle.law_typing.specs.Graph.Tables.{greatest}
 use Rattle.law_typing.specs.Laws.{IsIn}
 use Rattle.law_typing.proofs.Lists.{filter_in}
 use Rattle.law_typing.proofs.OneSolutionProofs.{filtered_kept}
-use Rattle.graph_sketches.specs.Pointwise.{Pointwise, inside}
+use Rattle.verify_sketches.specs.Pointwise.{Pointwise, inside}
 
 pub get_in : {A : Type 0} (xs : List A) (k : ℕ) (x : A) → slice_get xs k ≡ Some x → IsIn x xs
 get_in [] k x e = absurd (cc)

@@ -4,7 +4,7 @@ use Rattle.std.specs.List.{AllByRecursion, IsDistinct, list_any}
 use Rattle.std.proofs.Math.Dec.{eqb}
 use Rattle.std.proofs.lemmas.Bool.{eqb-true, ne_eqb}
 use Rattle.std.proofs.lemmas.Map.Steps.{length-le_from_distinct_below}
-use Rattle.dependency_order.specs.Graphs.{Edge, Graph, IsOnce, IsOrder, LeadTo}
+use Rattle.verify_order.specs.Graphs.{Edge, Graph, IsOnce, IsOrder, LeadTo}
 use Rattle.node_numbers.specs.declared.rules.Rule.{Rule}
 use Rattle.node_numbers.specs.Numbers.{Solves, counted, greatest, number_by, of_node}
 use Rattle.law_typing.proofs.Lists.{either_part}

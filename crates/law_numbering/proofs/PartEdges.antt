@@ -11,10 +11,10 @@ use Rattle.law_typing.specs.Graph.Ranks.{is_raised, node, running_at, started, s
 use Rattle.law_typing.specs.Graph.Costs.{before_last, only_last}
 use Rattle.law_typing.specs.Laws.{IsIn}
 use Rattle.law_typing.proofs.EdgeProofs.{append_left, append_right, flat_in}
-use Rattle.dependency_order.specs.Graphs.{Edge, LeadTo}
-use Rattle.graph_sketches.specs.Pointwise.{Pointwise, inside}
-use Rattle.graph_sketches.specs.Sketches.{AreNamed, IsSketch, IsSketchedBlock, IsSketchedChannel, IsSketchedStart, IsStartOf, Names, Sketch, SketchedBlock, SketchedChannel, SketchedStart, channels_in, nothing, raises, makes, thaws}
-use Rattle.graph_sketches.specs.Numbered.{IsNumbered, IsPart, Node, Part, block, block_node, blocks, blocks_node, connected, connected_node, edges_in, end_of, first_block, first_of, group, group_node, next, next_blocks, next_node, nodes_of, of_block, of_blocks, of_connected, of_group, of_next, of_own, of_passes, of_place, of_program, of_stages, of_start, of_whole, own, own_node, passes, passes_node, place, place_node, program, program_node, programs_of, stages, stages_node, start, start_edges, start_node, starts_of, whole, whole_node}
+use Rattle.verify_order.specs.Graphs.{Edge, LeadTo}
+use Rattle.verify_sketches.specs.Pointwise.{Pointwise, inside}
+use Rattle.verify_sketches.specs.Sketches.{AreNamed, IsSketch, IsSketchedBlock, IsSketchedChannel, IsSketchedStart, IsStartOf, Names, Sketch, SketchedBlock, SketchedChannel, SketchedStart, channels_in, nothing, raises, makes, thaws}
+use Rattle.verify_sketches.specs.Numbered.{IsNumbered, IsPart, Node, Part, block, block_node, blocks, blocks_node, connected, connected_node, edges_in, end_of, first_block, first_of, group, group_node, next, next_blocks, next_node, nodes_of, of_block, of_blocks, of_connected, of_group, of_next, of_own, of_passes, of_place, of_program, of_stages, of_start, of_whole, own, own_node, passes, passes_node, place, place_node, program, program_node, programs_of, stages, stages_node, start, start_edges, start_node, starts_of, whole, whole_node}
 use Rattle.law_numbering.proofs.SketchLists.{at_first, found, get_map, map_get, one_found, pointwise_map, read_found}
 use Rattle.law_numbering.proofs.SketchParts.{IsChannelAt, named, sketched_at}
 use Rattle.law_numbering.proofs.Members.{append_cases, before_in, get_in, in_first, in_get, inside_cases, last_in, listed_cases, map_cases}

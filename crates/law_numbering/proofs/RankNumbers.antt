@@ -15,12 +15,12 @@ use Rattle.law_typing.proofs.CostProofs.{listed_in}
 use Rattle.law_typing.proofs.EdgeProofs.{append_left, append_right, flat_in}
 use Rattle.law_typing.proofs.OneSolutionProofs.{filtered_kept}
 use Rattle.law_typing.proofs.RankProofs.{begins}
-use Rattle.dependency_order.specs.Graphs.{Edge}
+use Rattle.verify_order.specs.Graphs.{Edge}
 use Rattle.node_numbers.specs.Numbers.{of_node}
 use Rattle.node_numbers.specs.Chains.{AreRanks, one_if, step}
-use Rattle.graph_sketches.specs.Pointwise.{Pointwise, inside}
-use Rattle.graph_sketches.specs.Sketches.{AreNamed, IsSketch, IsSketchedBlock, IsSketchedStart, IsStartOf, Names, Sketch, SketchedBlock, SketchedChannel, SketchedStart, channels_in, nothing, raises, makes, thaws}
-use Rattle.graph_sketches.specs.Numbered.{IsNumbered, IsPart, Node, Part, block, block_node, blocks, blocks_node, connected, connected_node, counts_in, edges_in, first_block, first_of, group, group_node, next, nodes_of, of_block, of_blocks, of_connected, of_group, of_next, of_own, of_passes, of_place, of_program, of_stages, of_start, of_whole, own, own_node, passes, passes_node, place, place_node, program, program_node, programs_of, stages, stages_node, start, start_node, starts_of, whole}
+use Rattle.verify_sketches.specs.Pointwise.{Pointwise, inside}
+use Rattle.verify_sketches.specs.Sketches.{AreNamed, IsSketch, IsSketchedBlock, IsSketchedStart, IsStartOf, Names, Sketch, SketchedBlock, SketchedChannel, SketchedStart, channels_in, nothing, raises, makes, thaws}
+use Rattle.verify_sketches.specs.Numbered.{IsNumbered, IsPart, Node, Part, block, block_node, blocks, blocks_node, connected, connected_node, counts_in, edges_in, first_block, first_of, group, group_node, next, nodes_of, of_block, of_blocks, of_connected, of_group, of_next, of_own, of_passes, of_place, of_program, of_stages, of_start, of_whole, own, own_node, passes, passes_node, place, place_node, program, program_node, programs_of, stages, stages_node, start, start_node, starts_of, whole}
 use Rattle.law_numbering.specs.Tables.{ChainsAreRanks, node_table_from, rank_table, value_of}
 use Rattle.law_numbering.proofs.SketchLists.{map_get, at_second, below, get_map, one_found, pointwise_map, read_found}
 use Rattle.law_numbering.proofs.SketchParts.{IsChannelAt, first_node, named, node_alone, node_both, raised_at}

@@ -8,7 +8,7 @@ use Rattle.law_typing.specs.Graph.Tables.{Table, entry}
 use Rattle.law_typing.specs.Graph.Tables as tables
 use Rattle.node_numbers.specs.Numbers.{greatest, total}
 use Rattle.node_numbers.proofs.Sums.{capped_before}
-use Rattle.graph_sketches.specs.Pointwise.{Pointwise, inside}
+use Rattle.verify_sketches.specs.Pointwise.{Pointwise, inside}
 use Rattle.law_numbering.specs.Tables.{table_from}
 
 -- ** entries

@@ -14,9 +14,9 @@ use Rattle.law_typing.proofs.Lists.{same_channel_true, same_channel_refl, greate
 use Rattle.node_numbers.specs.declared.rules.Rule.{Rule}
 use Rattle.node_numbers.specs.Numbers.{Solves, number_by, of_node}
 use Rattle.node_numbers.specs.Numbers as numbers
-use Rattle.graph_sketches.specs.Pointwise.{Pointwise}
-use Rattle.graph_sketches.specs.Sketches.{IsSketch, IsSketchedBlock, IsSketchedChannel, Names, Sketch, SketchedChannel}
-use Rattle.graph_sketches.specs.Numbered.{IsNumbered, IsPart, Node, Part, own, program, whole, edges_in, end_of, frames_of, greatest_of, of_whole, programs_of, sum_of, transfer_if}
+use Rattle.verify_sketches.specs.Pointwise.{Pointwise}
+use Rattle.verify_sketches.specs.Sketches.{IsSketch, IsSketchedBlock, IsSketchedChannel, Names, Sketch, SketchedChannel}
+use Rattle.verify_sketches.specs.Numbered.{IsNumbered, IsPart, Node, Part, own, program, whole, edges_in, end_of, frames_of, greatest_of, of_whole, programs_of, sum_of, transfer_if}
 use Rattle.law_numbering.specs.Tables.{program_values, table_from}
 use Rattle.law_numbering.proofs.SketchLists.{Like, at_first, at_second, get_map, inside_greatest, inside_sum, itself, length_listed, map_get, read_listed, read_past, same_length}
 

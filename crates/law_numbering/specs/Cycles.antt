@@ -1,13 +1,13 @@
 -- Cycles of nodes as cycles of the graph.
 use Rattle.std.specs.Prelude.{◌≡◌, ◌<◌, ℕ, true, List, [], ◌∷◌, length, map, Option, None, Some, slice_get}
-use Rattle.dependency_order.specs.Graphs.{IsCycle}
+use Rattle.verify_order.specs.Graphs.{IsCycle}
 use Rattle.law_typing.specs.Graph.{Graph}
 use Rattle.law_typing.specs.Graph.Channels.{Cause, Channel, Link, constructed, same_channel}
 use Rattle.law_typing.specs.Graph.Channels as causes
 use Rattle.law_typing.specs.Graph.Ranks.{is_cycle}
 use Rattle.law_typing.specs.Laws.WellRead.{no_two}
-use Rattle.graph_sketches.specs.Sketches.{IsSketch, Sketch, channels_in}
-use Rattle.graph_sketches.specs.Numbered.{IsNumbered, Node, Part, edges_in, whole, own, stages, connected, group, program, blocks, place, start, block, passes, next}
+use Rattle.verify_sketches.specs.Sketches.{IsSketch, Sketch, channels_in}
+use Rattle.verify_sketches.specs.Numbered.{IsNumbered, Node, Part, edges_in, whole, own, stages, connected, group, program, blocks, place, start, block, passes, next}
 
 -- the channel of a number; each number that is asked for has one
 abbrev pub channel_or : Option Channel → Channel

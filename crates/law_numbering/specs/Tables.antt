@@ -1,7 +1,7 @@
 -- The numbers of nodes as the ranks, costs and depths of the graph.
 use Rattle.std.specs.Prelude.{◌<◌, ℕ, suc, ◌+◌, ◌*◌, List, [], ◌∷◌, length, slice_get}
 use Rattle.ui_machine.specs.Seq.{listed}
-use Rattle.dependency_order.specs.Graphs.{IsOrder}
+use Rattle.verify_order.specs.Graphs.{IsOrder}
 use Rattle.node_numbers.specs.Numbers.{Solves, of_node}
 use Rattle.node_numbers.specs.Chains.{AreRanks}
 use Rattle.law_typing.specs.Graph.{Graph, Raised}
@@ -10,8 +10,8 @@ use Rattle.law_typing.specs.Graph.Ranks.{node, IsRanking}
 use Rattle.law_typing.specs.Graph.Depths.{SolvesDepths}
 use Rattle.law_typing.specs.Verdict.{most_bound}
 use Rattle.law_judging.specs.CappedNumbers.{SolvesCapped}
-use Rattle.graph_sketches.specs.Sketches.{IsSketch, Sketch}
-use Rattle.graph_sketches.specs.Numbered.{IsNumbered, Node, Part, own, program, whole, first_of, counts_in, costs_in, depths_in, edges_in}
+use Rattle.verify_sketches.specs.Sketches.{IsSketch, Sketch}
+use Rattle.verify_sketches.specs.Numbered.{IsNumbered, Node, Part, own, program, whole, first_of, counts_in, costs_in, depths_in, edges_in}
 
 -- a number for each of some channels, where the first one has this number in the report
 abbrev pub table_from : (ℕ → ℕ) → ℕ → List Raised → Table

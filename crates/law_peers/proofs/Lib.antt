@@ -10,3 +10,6 @@ pub mod CloseProofs
 pub mod ForgettingParts
 pub mod ForgettingProofs
 pub mod WorkedForgettingProofs
+pub mod PoolProofs
+pub mod PoolWorkedProofs
+pub mod ApartProofs

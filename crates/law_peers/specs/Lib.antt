@@ -4,3 +4,7 @@ pub mod PeerLaws
 pub mod WorkedPeers
 pub mod Forgetting
 pub mod WorkedForgetting
+pub mod Needs
+pub mod MatchedPools
+pub mod WorkedPools
+pub mod NamesApart

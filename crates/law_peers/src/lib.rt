@@ -8,6 +8,9 @@ ghost use Rattle.law_peers.specs.PeerLaws.{EachLives, LinesOfReplies, LinesByNam
 ghost use Rattle.law_peers.specs.WorkedPeers.{WorkedLife, WorkedBlind};
 ghost use Rattle.law_peers.specs.Forgetting.{QuestionForgets, StepForgets};
 ghost use Rattle.law_peers.specs.WorkedForgetting.{WorkedForgetting};
+ghost use Rattle.law_peers.specs.MatchedPools.{MatchedIsReady, ReadyMatches};
+ghost use Rattle.law_peers.specs.NamesApart.{MatchedIsApart};
+ghost use Rattle.law_peers.specs.WorkedPools.{WorkedPools};
 
 /// Peers live by their replies alone: each is asked while it is open, in the state that its reply before left, and closed once at most, with
 /// a line for each reply and each close, in their order. So it is for each peer; one with no reply and no close is as it was; and as the
@@ -46,4 +49,15 @@ pub fn forgetting()
     ensures step { StepForgets }
     ensures question { QuestionForgets }
     ensures worked { WorkedForgetting }
+{}
+
+/// A pool that has each peer that the definition needs, open and of its shape, is ready, where no object has got any of them. What is
+/// ready, with peers that are needed alone, matches. Where the names have no points, the peers of a pool that matches are kept apart by
+/// them.
+/// There are worked pools, one of which matches, and one for each mismatch.
+pub fn pools()
+    ensures ready { MatchedIsReady }
+    ensures matched { ReadyMatches }
+    ensures apart { MatchedIsApart }
+    ensures worked { WorkedPools }
 {}

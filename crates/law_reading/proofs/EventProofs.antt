@@ -30,8 +30,8 @@ use Rattle.definition_format.specs.EventMeaning.{EventRefusal, unknown, shape, n
 use Rattle.law_typing.specs.Rules.RegisterKinds.{class_at}
 use Rattle.law_typing.specs.Graph.Channels.{spec_at}
 use Rattle.law_typing.specs.Laws.WellRead.{no_class_of, GivenFits, IsObject}
-use Rattle.law_sessions.specs.Sessions.{EventRead}
-use Rattle.law_sessions.proofs.IfOkProofs.{after_each, after_such}
+use Rattle.law_steps.specs.Served.Sessions.{EventRead}
+use Rattle.law_steps.proofs.Served.IfOkProofs.{after_each, after_such}
 use Rattle.law_reading.proofs.ValueProofs.{HaveFewBits, value_fits}
 
 after_read : {A B E : Type 0} (r : Result A E) (f : A → Result B E) (P : B → Type 0) → ((x : A) → r ≡ Ok x → IfOk (f x) P)

@@ -43,3 +43,7 @@ pub mod FormatProofs
 pub mod FirstProofs
 pub mod RunProofs
 pub mod WorkedReadingProofs
+pub mod TextProofs
+pub mod WidthProofs
+pub mod PartProofs
+pub mod LengthProofs

@@ -6,10 +6,10 @@ use Rattle.definition_format.specs.Denoted.{denoted}
 use Rattle.definition_format.specs.EventMeaning.{EventRefusal, event_denoted}
 use Rattle.law_typing.specs.Verdict.Accepted.{Each}
 use Rattle.law_typing.proofs.Lists.{each_flat}
-use Rattle.law_sessions.specs.Sessions.{EventRead}
-use Rattle.law_sessions.proofs.SessionProofs.{never_stuck, report_is_kept, runs_rest}
-use Rattle.law_sessions.proofs.HaltingProofs.{events_halt_for_memory}
-use Rattle.law_sessions.proofs.ThereProofs.{runs_are_there}
+use Rattle.law_steps.specs.Served.Sessions.{EventRead}
+use Rattle.law_steps.proofs.Served.SessionProofs.{never_stuck, report_is_kept, runs_rest}
+use Rattle.law_steps.proofs.Served.HaltingProofs.{events_halt_for_memory}
+use Rattle.law_steps.proofs.Served.ThereProofs.{runs_are_there}
 use Rattle.law_reading.specs.ReadRuns.{event_if, events_in, ReadNeverStuck, ReadReportIsKept, ReadRunsRest, ReadRunsAreThere, ReadHaltsForMemory}
 use Rattle.law_reading.proofs.Whole.{well_read, events_read}
 

@@ -19,7 +19,7 @@ use Rattle.law_typing.specs.Verdict.Accepted.{Each}
 use Rattle.law_reading.specs.Reading.{ReadingIsWell, EventsAreRead}
 use Rattle.law_reading.proofs.EventProofs.{event_read}
 use Rattle.law_reading.proofs.ValueProofs.{HaveFewBits}
-use Rattle.law_sessions.specs.Sessions.{EventRead}
+use Rattle.law_steps.specs.Served.Sessions.{EventRead}
 use Rattle.law_reading.proofs.Parts.{IsRead, parts}
 use Rattle.law_reading.proofs.Ancestors.{transitive}
 use Rattle.law_reading.proofs.LimitProofs.{Small, limits_small, objects_few}

@@ -15,10 +15,10 @@ use Rattle.law_typing.specs.Verdict.{verdict, accepted}
 use Rattle.law_typing.specs.Verdict.Accepted.{Each, Accepted}
 use Rattle.law_typing.specs.Verdict.Report.{report}
 use Rattle.law_typing.specs.Laws.StepsKeepGood.{PoolReady, IsResting}
-use Rattle.law_sessions.specs.Dispatches.{Keeps}
-use Rattle.law_sessions.specs.Halting.{EventLastFits}
-use Rattle.law_sessions.specs.NeverStuck.{HasRun}
-use Rattle.law_sessions.specs.Sessions.{Dispatch, Serves, entry_to, beginning_of}
+use Rattle.law_steps.specs.Served.Dispatches.{Keeps}
+use Rattle.law_steps.specs.Served.Halting.{EventLastFits}
+use Rattle.law_steps.specs.Served.NeverStuck.{HasRun}
+use Rattle.law_steps.specs.Served.Sessions.{Dispatch, Serves, entry_to, beginning_of}
 use Rattle.law_reading.specs.Reading.{OfEachRead}
 
 -- ** events

@@ -6,7 +6,7 @@ use Rattle.definition_format.specs.Denoted.{denoted}
 use Rattle.definition_format.specs.Origin.{IsDenoted}
 use Rattle.definition_format.specs.EventMeaning.{event_denoted}
 use Rattle.law_typing.specs.Laws.WellRead.{WellRead}
-use Rattle.law_sessions.specs.Sessions.{EventRead}
+use Rattle.law_steps.specs.Served.Sessions.{EventRead}
 
 -- what is so of each definition that bytes denote
 abbrev pub OfEachRead : (Definition → Type 0) → Type 0

@@ -5,6 +5,7 @@ ghost use Rattle.law_reading.specs.Reading.{ReadingIsWell, EventsAreRead, HeldIs
 ghost use Rattle.law_reading.specs.Formats.{FirstIsAsBefore, FirstIsSecond, BytesAgree};
 ghost use Rattle.law_reading.specs.ReadRuns.{ReadNeverStuck, ReadReportIsKept, ReadRunsRest, ReadRunsAreThere, ReadHaltsForMemory};
 ghost use Rattle.law_reading.specs.WorkedReading.{PremisesMet};
+ghost use Rattle.law_reading.specs.Lengths.{DenotedAreShort};
 
 /// Each definition that bytes denote is well read, so each that is held is, and each event that a line denotes for it names what is there and
 /// fits.
@@ -36,4 +37,9 @@ pub fn runs()
 /// The bytes of a definition with a signal, a shape, a child, a prototype and peers, and lines that set, emit, read and let go, meet what this asks.
 pub fn premises()
     ensures { PremisesMet }
+{}
+
+/// A definition that bytes denote connects no more signals, and has no more bindings, than 512 lists of the longest text may hold.
+pub fn lengths()
+    ensures { DenotedAreShort }
 {}

@@ -30,8 +30,8 @@ use Rattle.ui_machine.specs.State.Objects.{Object, class_in, living, object_at}
 use Rattle.ui_machine.specs.State.Peers.{method_number, method_of}
 use Rattle.ui_machine.specs.State.Tasks.{Answering, Calling, Emission, Emitting, Frame, PlanEntry, Running, Task}
 use Rattle.machine_laws.proofs.KeptProofs.{bind_keeps, cond_keeps, kept_at, only_keeps}
-use Rattle.law_stacks.specs.Stacks.{LieBelow}
-use Rattle.law_stacks.proofs.StartProofs.{begins_constructing, raises, stopped_lie}
+use Rattle.law_runs.specs.Stacks.{LieBelow}
+use Rattle.law_runs.proofs.StartProofs.{begins_constructing, raises, stopped_lie}
 use Rattle.law_untaken_peers.specs.Untaken.{is_got}
 use Rattle.law_untaken_peers.proofs.Seats.{IsSeated, are_seated}
 

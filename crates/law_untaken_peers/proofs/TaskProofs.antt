@@ -29,8 +29,8 @@ use Rattle.ui_machine.specs.State.Tasks.{Answering, Beginning, Building, Call, C
 use Rattle.ui_machine.specs.State.Tasks as config
 use Rattle.ui_machine.specs.Steps.{act, counted, finalising, left, most_steps, uncounted}
 use Rattle.machine_laws.proofs.KeptProofs.{bind_keeps, cond_keeps, kept_at, only_keeps}
-use Rattle.law_stacks.specs.Stacks.{BeginsFirmly, IsMaker, LieBelow}
-use Rattle.law_stacks.proofs.StartProofs.{begins_constructing, begins_running, raises}
+use Rattle.law_runs.specs.Stacks.{BeginsFirmly, IsMaker, LieBelow}
+use Rattle.law_runs.proofs.StartProofs.{begins_constructing, begins_running, raises}
 use Rattle.law_untaken_peers.proofs.Seats.{IsSeated, are_seated}
 use Rattle.law_untaken_peers.proofs.InstructionProofs.{Own, runs_seated}
 

@@ -5,8 +5,8 @@ use Rattle.std.specs.Prelude.{slice_get}
 use Rattle.ui_machine.specs.Definition.Names.{same_name}
 use Rattle.ui_machine.specs.Definition.Values.{Value}
 use Rattle.ui_machine.specs.State.Peers.{PeerState}
-use Rattle.law_pools.specs.Needs as law
-use Rattle.law_pools.specs.Needs.{is_shaped, peer_named, wrong_with}
+use Rattle.law_peers.specs.Needs as law
+use Rattle.law_peers.specs.Needs.{is_shaped, peer_named, wrong_with}
 use Rattle.peer_shapes.specs.MethodViews.{method_view}
 use Rattle.native_peers.specs.Matching.{as_peer}
 use Rattle.native_peers.specs.Moves.{Keeps}

@@ -3,7 +3,7 @@ use Rattle.std.proofs.Common.{◌≡◌, ℕ, zero, suc, ◌+◌, ◌<◌, ◌�
 use Rattle.std.specs.Prelude.{option_and_then, option_map, slice_get}
 use Rattle.std.proofs.lemmas.Option.{none-some}
 use Rattle.ui_machine.specs.Definition.Names.{place_from, place_named, same_name}
-use Rattle.law_pools.proofs.PoolProofs.{name_true}
+use Rattle.law_peers.proofs.PoolProofs.{name_true}
 use Rattle.native_peers.proofs.Places.{here}
 
 module _ {N : Type 0} (name_of : N → List ℕ) (name : List ℕ) where

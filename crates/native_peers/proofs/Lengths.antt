@@ -4,7 +4,7 @@ use Rattle.std.proofs.lemmas.List.{length-map}
 use Rattle.ui_machine.specs.Definition.Kinds.{Kind}
 use Rattle.ui_machine.specs.Definition.Signals.{Method}
 use Rattle.ui_machine.specs.Rules.Transform.{same_kind}
-use Rattle.law_pools.specs.Needs.{same_kinds, same_method, same_shape}
+use Rattle.law_peers.specs.Needs.{same_kinds, same_method, same_shape}
 
 and_false : (b : Bool) → false ≡ (b && false)
 and_false true = refl

@@ -4,7 +4,7 @@ use Rattle.std.specs.Prelude.{option_map, slice_get}
 use Rattle.std.proofs.lemmas.Option.{slice_get-map}
 use Rattle.ui_machine.specs.Definition.Names.{place_from, place_named, same_name}
 use Rattle.ui_machine.specs.State.Peers.{Peer}
-use Rattle.law_pools.specs.Needs.{peer_named}
+use Rattle.law_peers.specs.Needs.{peer_named}
 use Rattle.native_peers.specs.Matching.{as_peer, as_peers}
 use Rattle.native_peers.specs.Seen.{Seen}
 

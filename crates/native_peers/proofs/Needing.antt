@@ -4,8 +4,8 @@ use Rattle.std.specs.List.{list_any, position, position_or_len}
 use Rattle.std.proofs.lemmas.Bool.Decides.{nat_tests}
 use Rattle.ui_machine.specs.Definition.Names.{same_name}
 use Rattle.ui_machine.specs.State.Peers.{Peer}
-use Rattle.law_pools.specs.Needs as law
-use Rattle.law_pools.specs.Needs.{Mismatch, first_unused, is_needed, unused}
+use Rattle.law_peers.specs.Needs as law
+use Rattle.law_peers.specs.Needs.{Mismatch, first_unused, is_needed, unused}
 use Rattle.native_peers.specs.Matching.{need_view}
 use Rattle.native_peers.specs.declared.needs.Need.{Need}
 

@@ -13,7 +13,7 @@ use Rattle.std.proofs.lemmas.List.Sorted.{IsNonDecreasingBy-from_default}
 use Rattle.std.proofs.lemmas.Option.{get_or_from_slice_get, slice_get_within}
 use Rattle.ui_machine.specs.Definition.Names.{place_from, place_named, same_name}
 use Rattle.law_typing.specs.Laws.WellRead.{no_two}
-use Rattle.law_pools.proofs.PoolProofs.{name_true}
+use Rattle.law_peers.proofs.PoolProofs.{name_true}
 use Rattle.g_values.proofs.Texts.{same_bytes}
 use Rattle.native_peers.specs.Serials.{rises_from, serial_named}
 

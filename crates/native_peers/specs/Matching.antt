@@ -1,8 +1,8 @@
 -- How a pool matches what is needed of it, in the words of the machine's pools.
 use Rattle.std.specs.Prelude.{List, map, Option, None, Some, option_map, Result, Ok, Err}
 use Rattle.ui_machine.specs.State.Peers.{Peer}
-use Rattle.law_pools.specs.Needs as law
-use Rattle.law_pools.specs.Needs.{Mismatch, missing, closed, misshapen, unused}
+use Rattle.law_peers.specs.Needs as law
+use Rattle.law_peers.specs.Needs.{Mismatch, missing, closed, misshapen, unused}
 use Rattle.native_peers.specs.Seen.{Seen}
 use Rattle.native_peers.specs.declared.faults.MatchFault.{MatchFault}
 use Rattle.native_peers.specs.declared.faults.MatchFault.TheVariants as faults

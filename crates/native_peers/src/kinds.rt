@@ -4,7 +4,7 @@ ghost use Rattle.std.specs.Prelude.{◌≡◌, map};
 ghost use Rattle.ui_machine.specs.Definition.Kinds as kinds;
 ghost use Rattle.ui_machine.specs.Rules.Transform.{same_kind};
 ghost use Rattle.g_values.specs.View.{kind_view};
-ghost use Rattle.law_pools.specs.Needs.{same_kinds};
+ghost use Rattle.law_peers.specs.Needs.{same_kinds};
 
 use g_values::Kind;
 use type_tree::TypeId;

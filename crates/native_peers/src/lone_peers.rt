@@ -2,7 +2,7 @@
 
 ghost use Rattle.std.specs.Prelude.{◌≡◌, ◌∷◌, [], IsTrue, map, string_bytes, true};
 ghost use Rattle.ui_machine.specs.Definition.Names.{same_name};
-ghost use Rattle.law_pools.specs.Needs.{first_unused, first_wrong, mismatch_with, peer_named, wrong_with};
+ghost use Rattle.law_peers.specs.Needs.{first_unused, first_wrong, mismatch_with, peer_named, wrong_with};
 ghost use Rattle.peer_shapes.specs.MethodViews.{is_plain_shape, method_view};
 ghost use Rattle.native_peers.specs.Matching.{as_peer, mismatch_of, need_view};
 ghost use Rattle.native_peers.specs.StandIns.{Faults, seen_of, stand_ins};

@@ -3,7 +3,7 @@
 ghost use Rattle.std.specs.Prelude.{◌≡◌, ◌<◌, ◌∷◌, [], IfErr, IfOk, IfSome, IsTrue, None, OnOk, Some, is_some, length, map, option_map, true};
 ghost use Rattle.std.specs.List.{list_any, position};
 ghost use Rattle.ui_machine.specs.Definition.Names.{same_name};
-ghost use Rattle.law_pools.specs.Needs.{first_unused, first_wrong, is_shaped, mismatch_with, peer_named, wrong_with};
+ghost use Rattle.law_peers.specs.Needs.{first_unused, first_wrong, is_shaped, mismatch_with, peer_named, wrong_with};
 ghost use Rattle.peer_shapes.specs.MethodViews.{method_view};
 ghost use Rattle.native_peers.specs.Matching.{as_peer, as_peers, mismatch_of, mismatch_view, need_view};
 ghost use Rattle.native_peers.specs.Pool.{entries, seen, seen_one};

@@ -7,7 +7,7 @@ ghost use Rattle.native_peers.specs.Matching.{as_peers, mismatch_of, need_view};
 ghost use Rattle.native_peers.specs.Moves.{ArgsFit, answer_of};
 ghost use Rattle.native_peers.specs.Pool as pools;
 ghost use Rattle.native_peers.specs.Seen.{Asks, ClosesAt, Relations, SameRelations, Seen};
-ghost use Rattle.law_pools.specs.Needs.{mismatch_with};
+ghost use Rattle.law_peers.specs.Needs.{mismatch_with};
 ghost use Rattle.peer_shapes.specs.MethodViews.{is_plain_shape, method_view};
 ghost use Rattle.ui_machine.specs.Definition.Names.{same_name};
 

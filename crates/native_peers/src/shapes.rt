@@ -1,7 +1,7 @@
 //! Comparisons of shapes.
 
 ghost use Rattle.std.specs.Prelude.{◌≡◌, map};
-ghost use Rattle.law_pools.specs.Needs.{same_method, same_shape};
+ghost use Rattle.law_peers.specs.Needs.{same_method, same_shape};
 ghost use Rattle.g_values.specs.View.{kind_view};
 ghost use Rattle.peer_shapes.specs.MethodViews.{method_view};
 

@@ -3,7 +3,7 @@ use Rattle.std.proofs.Common.{◌≡◌, refl, ap, sym, ◌∙◌, ℕ, zero, su
 use Rattle.std.specs.List.{list_any}
 use Rattle.std.specs.Prelude.{slice_get}
 use Rattle.ui_machine.specs.Definition.Names.{place_from, place_named, same_name}
-use Rattle.law_pools.proofs.PoolProofs.{name_refl}
+use Rattle.law_peers.proofs.PoolProofs.{name_refl}
 use Rattle.law_typing.specs.Laws.WellRead.{no_two}
 
 parts : (a b : Bool) → (not a && b) ≡ true → (a ≡ false) × (b ≡ true)

@@ -4,7 +4,7 @@ use Rattle.std.specs.Prelude.{option_map, bytes_eq, slice_get}
 use Rattle.std.proofs.lemmas.Option.{slice_get-map}
 use Rattle.ui_machine.specs.Definition.Names.{same_name}
 use Rattle.ui_machine.specs.Definition.Signals.{Method}
-use Rattle.law_pools.specs.Needs as law
+use Rattle.law_peers.specs.Needs as law
 use Rattle.g_values.proofs.Texts.{same_bytes}
 use Rattle.native_peers.specs.Matching.{need_view}
 use Rattle.native_peers.specs.declared.needs.Need.{Need}

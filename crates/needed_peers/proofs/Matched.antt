@@ -6,8 +6,8 @@ use Rattle.ui_machine.specs.Definition.Signals.{Method}
 use Rattle.ui_machine.specs.State.Peers.{Peer, peer_number}
 use Rattle.law_static.proofs.Same.{names_same}
 use Rattle.law_typing.specs.Laws.WellRead.{no_two}
-use Rattle.law_pools.specs.Needs.{Mismatch, Need, closed, first_unused, first_wrong, is_needed, is_shaped, mismatch_with, misshapen, peer_named, unused, wrong_with}
-use Rattle.law_pools.proofs.PoolProofs.{neither}
+use Rattle.law_peers.specs.Needs.{Mismatch, Need, closed, first_unused, first_wrong, is_needed, is_shaped, mismatch_with, misshapen, peer_named, unused, wrong_with}
+use Rattle.law_peers.proofs.PoolProofs.{neither}
 use Rattle.needed_peers.specs.Needing.{shape_likely, shape_needed}
 use Rattle.needed_peers.proofs.Alone.{found}
 use Rattle.needed_peers.proofs.SameShapes.{needed_equal}

@@ -9,7 +9,7 @@ use Rattle.std.proofs.lemmas.Grind.{flat_map-append}
 use Rattle.ui_machine.specs.Definition.{Definition}
 use Rattle.ui_machine.specs.Definition.Places.{Place}
 use Rattle.ui_machine.specs.Rules.Transform.{same_bool}
-use Rattle.law_pools.specs.Needs.{Need, needs_at}
+use Rattle.law_peers.specs.Needs.{Need, needs_at}
 use Rattle.needed_peers.specs.Needing.{needs_of_kind}
 use Rattle.needed_peers.proofs.Taken.{one_taken}
 

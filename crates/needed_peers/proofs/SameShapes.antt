@@ -6,7 +6,7 @@ use Rattle.ui_machine.specs.Definition.Signals.{Method}
 use Rattle.ui_machine.specs.Rules.Transform.{same_kind}
 use Rattle.law_typing.proofs.Lists.{both_parts}
 use Rattle.law_static.proofs.Same.{kind_same, names_same}
-use Rattle.law_pools.specs.Needs.{is_shaped, same_kinds, same_method, same_shape}
+use Rattle.law_peers.specs.Needs.{is_shaped, same_kinds, same_method, same_shape}
 
 kinds_equal : (ks ls : List Kind) → same_kinds ks ls ≡ true → ks ≡ ls
 kinds_equal [] [] same = refl

@@ -8,7 +8,7 @@ use Rattle.ui_machine.specs.Definition.Names.{place_from, same_name}
 use Rattle.ui_machine.specs.Definition.Signals.{Method}
 use Rattle.ui_machine.specs.State.Peers.{Peer, peer_number}
 use Rattle.law_peers.specs.Forgetting.{forgotten}
-use Rattle.law_pools.specs.Needs.{Need, mismatch_with}
+use Rattle.law_peers.specs.Needs.{Need, mismatch_with}
 use Rattle.law_typing.specs.Laws.WellRead.{no_two}
 use Rattle.engine_world.specs.SeatView.{new_peer}
 use Rattle.native_peers.specs.Matching.{as_peer, as_peers}

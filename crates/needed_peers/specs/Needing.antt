@@ -6,7 +6,7 @@ use Rattle.ui_machine.specs.Definition.Names.{same_name}
 use Rattle.ui_machine.specs.Definition.Places.{Place}
 use Rattle.ui_machine.specs.Definition.Signals.{Method}
 use Rattle.ui_machine.specs.Rules.Transform.{same_bool}
-use Rattle.law_pools.specs.Needs.{Need, needs_at}
+use Rattle.law_peers.specs.Needs.{Need, needs_at}
 
 -- what those of some places need that are prototypes, or that are objects
 abbrev pub needs_of_kind : Definition → Bool → List Place → List Need

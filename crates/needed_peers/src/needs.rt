@@ -3,7 +3,7 @@
 ghost use Rattle.std.specs.Prelude.{◌≡◌, ◌++◌, IfOk, OnOk, map, option_map};
 ghost use Rattle.ui_machine.specs.Rules.Construction.{nearest_shape};
 ghost use Rattle.definitions.specs.EntryView.{entry_view};
-ghost use Rattle.law_pools.specs.Needs.{methods_in, needs_at, needs_of};
+ghost use Rattle.law_peers.specs.Needs.{methods_in, needs_at, needs_of};
 ghost use Rattle.native_peers.specs.Matching.{need_view};
 ghost use Rattle.needed_peers.specs.Needing.{needs_of_kind};
 

@@ -2,7 +2,7 @@
 
 ghost use Rattle.std.specs.Prelude.{◌≡◌, IfOk, None, map, option_map};
 ghost use Rattle.law_peers.specs.Forgetting.{forgotten};
-ghost use Rattle.law_pools.specs.Needs.{mismatch_with};
+ghost use Rattle.law_peers.specs.Needs.{mismatch_with};
 ghost use Rattle.native_peers.specs.Matching.{as_peers, need_view};
 ghost use Rattle.needed_peers.specs.Needing.{shape_likely, shape_needed};
 

@@ -7,7 +7,7 @@ use Rattle.std.proofs.lemmas.Bool.Decides.{eqb_tells}
 use Rattle.std.proofs.lemmas.Map.Steps.{length-le_from_distinct_below}
 use Rattle.std.proofs.lemmas.List.{get_or-set_same, get_or-set_other}
 use Rattle.std.proofs.lemmas.Option.{none-some, same_Some, slice_get_within}
-use Rattle.dependency_order.specs.Graphs.{Edge, Graph, LeadTo, IsOnce, IsOrder}
+use Rattle.verify_order.specs.Graphs.{Edge, Graph, LeadTo, IsOnce, IsOrder}
 use Rattle.node_numbers.specs.Chains.{AreRanks, handed_on, one_if, step}
 use Rattle.node_numbers.specs.Numbers.{AreWithin, LeadInside, of_node}
 use Rattle.node_numbers.proofs.Sums.{from_item, none_left}

@@ -4,7 +4,7 @@ use Rattle.std.specs.Prelude.{eqb, true, false, ◌≢◌}
 use Rattle.std.proofs.lemmas.Bool.Decides.{eqb_tells}
 use Rattle.std.proofs.lemmas.List.{get_or-set_same, get_or-set_other}
 use Rattle.std.proofs.lemmas.Option.{same_Some, slice_get_within}
-use Rattle.dependency_order.specs.Graphs.{Graph, LeadTo, IsOrder}
+use Rattle.verify_order.specs.Graphs.{Graph, LeadTo, IsOrder}
 use Rattle.node_numbers.specs.declared.rules.Rule.{Rule}
 use Rattle.node_numbers.specs.Numbers.{AreWithin, LeadInside, Solves, number_by, of_node}
 use Rattle.node_numbers.proofs.Sums.{number_same, number_within}

@@ -1,6 +1,6 @@
 -- How many nodes that count are on the longest chain that ends in a node.
 use Rattle.std.specs.Prelude.{◌≡◌, ◌≤◌, ◌+◌, ◌⊎◌, ℕ, Bool, true, false, List, [], ◌∷◌, length, max, slice_index_or, slice_set}
-use Rattle.dependency_order.specs.Graphs.{Edge, Graph}
+use Rattle.verify_order.specs.Graphs.{Edge, Graph}
 use Rattle.node_numbers.specs.Numbers.{of_node}
 
 abbrev pub one_if : Bool → ℕ

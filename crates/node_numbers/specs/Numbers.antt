@@ -1,6 +1,6 @@
 -- Numbers of nodes that solve their rules.
 use Rattle.std.specs.Prelude.{◌≡◌, ◌<◌, ◌≤◌, ◌+◌, ◌*◌, ℕ, Bool, true, false, List, [], ◌∷◌, length, max, min, Some, slice_get, slice_index_or}
-use Rattle.dependency_order.specs.Graphs.{Graph}
+use Rattle.verify_order.specs.Graphs.{Graph}
 use Rattle.node_numbers.specs.declared.rules.Rule.{Rule}
 
 -- the number of a node

@@ -1,12 +1,12 @@
 //! The ranks of nodes: how many nodes that count are on the longest chain that ends in each node.
 
 ghost use Rattle.std.specs.Prelude.{◌≡◌, ◌<◌, ◌≤◌, ℕ, length, replicate, slice_index_or, false, IfOk};
-ghost use Rattle.dependency_order.specs.Graphs.{IsOrder};
+ghost use Rattle.verify_order.specs.Graphs.{IsOrder};
 ghost use Rattle.node_numbers.specs.Chains.{AreRanks, handed_on, one_if};
 ghost use Rattle.node_numbers.specs.Numbers.{AreWithin, LeadInside};
 
-use dependency_order::Dependencies;
 use std::alloc::{AllocError, Global};
+use verify_order::Dependencies;
 
 // Raises the numbers of some nodes to `number` where they are less.
 fn hand_on(ranks: &mut Vec<u64>, nodes: &[u32], number: u64)

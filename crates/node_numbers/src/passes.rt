@@ -1,12 +1,12 @@
 //! Numbers nodes by rules in one pass over an order of them.
 
 ghost use Rattle.std.specs.Prelude.{◌≡◌, ◌<◌, ◌≤◌, ◌^◌, ℕ, length, min, slice_get, Some, IfOk};
-ghost use Rattle.dependency_order.specs.Graphs.{IsOrder};
+ghost use Rattle.verify_order.specs.Graphs.{IsOrder};
 ghost use Rattle.node_numbers.specs.Numbers.{AreWithin, LeadInside, Solves, counted, greatest, number_by, of_node, total};
 
 use crate::rules::Rule;
-use dependency_order::Dependencies;
 use std::alloc::{AllocError, Global};
+use verify_order::Dependencies;
 
 // Returns the sum of the numbers of some nodes, capped at `most`.
 fn total(values: &[u64], nodes: &[u32], most: u64) -> u64

@@ -73,11 +73,7 @@ pub extern "C" fn gelvopaun_advance(alloc: Global, ui: &mut SessionHandle, most:
 
 /// Tells when a turn has something to run next, as `SessionHandle::next_due` and `tell_due` do.
 #[unsafe(no_mangle)]
-pub extern "C" fn gelvopaun_next_due(
-    alloc: Global,
-    ui: &mut SessionHandle,
-    moment: &mut u64,
-) -> u8
+pub extern "C" fn gelvopaun_next_due(alloc: Global, ui: &mut SessionHandle, moment: &mut u64) -> u8
     ensures { (due : Option NextDue) × TellsNext ui.old.kept.session due ui.new.kept.session × (result ≡ code_of_due due) × (moment.new ≡ moment_told due moment.old) }
 {
     let due = ui.next_due(alloc);

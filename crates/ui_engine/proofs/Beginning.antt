@@ -1,11 +1,11 @@
-use Rattle.engine_pools.specs.Promises.{IsRoomy}
+use Rattle.engine_dispatches.specs.Promises.{IsRoomy}
 -- How the build begins: nothing lives, and objects are all that there is to make; and how the engine knows its pool there.
 use Rattle.std.proofs.Common.{◌≡◌, ℕ, zero, suc, List, [], ◌∷◌, ◌++◌, map, None, refl, sym, ap, subst, ◌∙◌, arith, vec_capacity}
 use Rattle.ui_machine.specs.Seq.{total}
 use Rattle.ui_machine.specs.State.References.{in_task, mentions}
 use Rattle.instance_tables.specs.Store.{count_of}
 use Rattle.instance_tables.specs.Weak.{Knows, Marks}
-use Rattle.linked_programs.specs.Linked.{AreLinked}
+use Rattle.engine_links.specs.Linked.{AreLinked}
 use Rattle.engine_world.specs.Counting.{Connects, Counts, nothing, PassesGot}
 use Rattle.engine_world.specs.EngineView.{config_of}
 use Rattle.engine_world.specs.View.{world_of}
@@ -18,15 +18,15 @@ use Rattle.ui_machine.specs.State.Peers.{Peer}
 use Rattle.ui_machine.specs.State.Tasks.{Building, Item, Task, binds}
 use Rattle.ui_machine.specs.Rules.Build.{made_items, forward_items, numbered, connected_items, build_items}
 use Rattle.law_peers.specs.Forgetting.{forgotten}
-use Rattle.law_pools.specs.MatchedPools.{AllFree}
+use Rattle.law_peers.specs.MatchedPools.{AllFree}
 use Rattle.native_peers.specs.Matching.{as_peer, as_peers}
 use Rattle.native_peers.specs.Seen.{Seen}
-use Rattle.frame_stacks.specs.declared.task.ForwardReference.{ForwardReference}
+use Rattle.engine_stack.specs.declared.task.ForwardReference.{ForwardReference}
 use Rattle.engine_world.specs.TaskView.{agenda_of}
-use Rattle.frame_stacks.specs.TaskView.{item_of, build_from}
-use Rattle.law_pools.specs.Needs.{mismatch}
-use Rattle.engine_pools.specs.Dispatched.{IsAtRest}
-use Rattle.engine_pools.specs.PoolView.{forgotten_seen, seen_of, with_seen, world_at}
+use Rattle.engine_stack.specs.TaskView.{item_of, build_from}
+use Rattle.law_peers.specs.Needs.{mismatch}
+use Rattle.engine_dispatches.specs.Dispatched.{IsAtRest}
+use Rattle.engine_dispatches.specs.PoolView.{forgotten_seen, seen_of, with_seen, world_at}
 use Rattle.ui_engine.specs.BuildBegins.{IsBegun}
 use Rattle.ui_engine.specs.declared.starts.Beginning.{Beginning}
 

@@ -6,16 +6,16 @@ use Rattle.ui_machine.specs.State.Config.{Config, World}
 use Rattle.ui_machine.specs.State.Peers.{Peer}
 use Rattle.ui_machine.specs.State.Tasks.{Building}
 use Rattle.engine_world.specs.TaskView.{agenda_of}
-use Rattle.frame_stacks.specs.TaskView.{build_from}
+use Rattle.engine_stack.specs.TaskView.{build_from}
 use Rattle.engine_world.specs.View.{world_of}
 use Rattle.engine_world.specs.declared.engine.Engine.{Engine}
-use Rattle.frame_stacks.specs.declared.task.ForwardReference.{ForwardReference}
+use Rattle.engine_stack.specs.declared.task.ForwardReference.{ForwardReference}
 use Rattle.native_peers.specs.Seen.{Relations, Seen}
-use Rattle.engine_pools.specs.declared.dispatches.Reply.{Reply}
-use Rattle.engine_pools.specs.Dispatched.{Carried}
-use Rattle.engine_pools.specs.Following.{Halting}
-use Rattle.engine_pools.specs.PoolView.{Replied, world_at}
-use Rattle.engine_pools.specs.Ways.{Ways, carrying_out}
+use Rattle.engine_dispatches.specs.declared.dispatches.Reply.{Reply}
+use Rattle.engine_dispatches.specs.Dispatched.{Carried}
+use Rattle.engine_dispatches.specs.Following.{Halting}
+use Rattle.engine_dispatches.specs.PoolView.{Replied, world_at}
+use Rattle.engine_dispatches.specs.Ways.{Ways, carrying_out}
 use Rattle.ui_engine.specs.declared.cores.Phase.{Phase}
 use Rattle.ui_engine.specs.declared.cores.Phase.TheVariants as phases
 use Rattle.ui_engine.specs.Phases.{has_stopped, is_under_way}

@@ -6,8 +6,8 @@ use Rattle.engine_world.specs.Counting.{Counts, nothing}
 use Rattle.engine_world.specs.View.{world_of}
 use Rattle.engine_world.specs.declared.engine.Engine.{Engine}
 use Rattle.engine_world.proofs.Counts.{stays}
-use Rattle.engine_pools.specs.Promises.{Rests}
-use Rattle.engine_pools.proofs.Keeping.{without_lines_rests}
+use Rattle.engine_dispatches.specs.Promises.{Rests}
+use Rattle.engine_dispatches.proofs.Keeping.{without_lines_rests}
 use Rattle.ui_engine.specs.declared.cores.Phase.{Phase}
 use Rattle.ui_engine.specs.declared.cores.Phase.TheVariants as phases
 use Rattle.ui_engine.specs.Phases.{IsKept}

@@ -17,19 +17,19 @@ use Rattle.engine_world.specs.EngineView.{config_of}
 use Rattle.engine_world.specs.Room.{SameRoom}
 use Rattle.engine_world.specs.View.{world_of}
 use Rattle.engine_world.specs.declared.engine.Engine.{Engine}
-use Rattle.engine_pools.specs.declared.courses.Course.{Course}
-use Rattle.engine_pools.specs.declared.courses.Progress.{Progress}
-use Rattle.engine_pools.specs.declared.courses.Progress.TheVariants as progress
-use Rattle.engine_pools.specs.declared.dispatches.Reply.{Reply}
-use Rattle.engine_pools.specs.CallPoints.{point_of}
-use Rattle.engine_pools.specs.Courses.{BeginsNext, GoesOn, HasCome, IfGoesOn, IfHasEnded, IfUnderWay, IsUnderWay, MayBegin, Proceeds, nothing_yet}
-use Rattle.engine_pools.specs.Dispatched.{IsAtRest}
-use Rattle.engine_pools.specs.PoolView.{Knows, with_seen, world_at}
-use Rattle.engine_pools.specs.Promises.{Rests, IsRoomy}
-use Rattle.engine_pools.specs.TurnView.{TurnBegins}
-use Rattle.engine_pools.specs.Ways.{serving}
-use Rattle.engine_pools.proofs.Resting.{rests_here}
-use Rattle.engine_pools.proofs.UnderWay.{engine_begins, engine_handles}
+use Rattle.engine_dispatches.specs.declared.courses.Course.{Course}
+use Rattle.engine_dispatches.specs.declared.courses.Progress.{Progress}
+use Rattle.engine_dispatches.specs.declared.courses.Progress.TheVariants as progress
+use Rattle.engine_dispatches.specs.declared.dispatches.Reply.{Reply}
+use Rattle.engine_dispatches.specs.CallPoints.{point_of}
+use Rattle.engine_dispatches.specs.Courses.{BeginsNext, GoesOn, HasCome, IfGoesOn, IfHasEnded, IfUnderWay, IsUnderWay, MayBegin, Proceeds, nothing_yet}
+use Rattle.engine_dispatches.specs.Dispatched.{IsAtRest}
+use Rattle.engine_dispatches.specs.PoolView.{Knows, with_seen, world_at}
+use Rattle.engine_dispatches.specs.Promises.{Rests, IsRoomy}
+use Rattle.engine_dispatches.specs.TurnView.{TurnBegins}
+use Rattle.engine_dispatches.specs.Ways.{serving}
+use Rattle.engine_dispatches.proofs.Resting.{rests_here}
+use Rattle.engine_dispatches.proofs.UnderWay.{engine_begins, engine_handles}
 use Rattle.ui_engine.specs.declared.cores.Phase.{Phase}
 use Rattle.ui_engine.specs.declared.cores.Phase.TheVariants as phases
 use Rattle.ui_engine.specs.declared.faults.SessionFault.{SessionFault}

@@ -8,24 +8,24 @@ use Rattle.ui_machine.specs.State.Config.{World}
 use Rattle.ui_machine.specs.State.Tasks.{Event, Request}
 use Rattle.ui_machine.specs.State.Tasks as config
 use Rattle.definition_format.specs.Origin.{IsDenoted}
-use Rattle.law_pools.specs.Needs.{mismatch}
-use Rattle.law_pools.proofs.PoolProofs.{matched_is_ready}
+use Rattle.law_peers.specs.Needs.{mismatch}
+use Rattle.law_peers.proofs.PoolProofs.{matched_is_ready}
 use Rattle.law_reading.proofs.Held.{held_well}
 use Rattle.law_typing.specs.Good.Requests.{RequestRead}
 use Rattle.law_typing.specs.Laws.WellRead.{WellRead}
 use Rattle.law_typing.specs.Verdict.Accepted.{Accepted}
 use Rattle.native_peers.specs.Matching.{as_peers}
 use Rattle.native_peers.specs.Seen.{Relations, Seen}
-use Rattle.engine_pools.specs.declared.dispatches.Reply.{Reply}
-use Rattle.engine_pools.specs.Courses.{MayBegin}
-use Rattle.engine_pools.specs.Dispatched.{Carried}
-use Rattle.engine_pools.specs.PoolView.{Knows, world_at}
-use Rattle.engine_pools.specs.Promises.{BuildKeeps, EventKeeps, IsNumberable, Rests, IsRoomy}
-use Rattle.engine_pools.specs.Safety.{IsSafe}
-use Rattle.law_lengths.proofs.LengthProofs.{denoted_are_short}
-use Rattle.engine_pools.proofs.Keeping.{build_promised, build_rests, build_safe, serve_keeps, turn_event_keeps, turn_rests}
-use Rattle.engine_pools.proofs.Points.{fitting}
-use Rattle.engine_pools.proofs.Resting.{rests_here, rests_there}
+use Rattle.engine_dispatches.specs.declared.dispatches.Reply.{Reply}
+use Rattle.engine_dispatches.specs.Courses.{MayBegin}
+use Rattle.engine_dispatches.specs.Dispatched.{Carried}
+use Rattle.engine_dispatches.specs.PoolView.{Knows, world_at}
+use Rattle.engine_dispatches.specs.Promises.{BuildKeeps, EventKeeps, IsNumberable, Rests, IsRoomy}
+use Rattle.engine_dispatches.specs.Safety.{IsSafe}
+use Rattle.law_reading.proofs.LengthProofs.{denoted_are_short}
+use Rattle.engine_dispatches.proofs.Keeping.{build_promised, build_rests, build_safe, serve_keeps, turn_event_keeps, turn_rests}
+use Rattle.engine_dispatches.proofs.Points.{fitting}
+use Rattle.engine_dispatches.proofs.Resting.{rests_here, rests_there}
 use Rattle.ui_engine.specs.SessionView.{SessionState}
 use Rattle.ui_engine.proofs.Beginning.{all_free}
 

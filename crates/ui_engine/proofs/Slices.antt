@@ -4,15 +4,15 @@ use Rattle.ui_machine.specs.Definition.{Definition}
 use Rattle.ui_machine.specs.State.Config.{World}
 use Rattle.ui_machine.specs.State.Tasks.{Event}
 use Rattle.native_peers.specs.Seen.{Relations, SameRelations, Seen}
-use Rattle.engine_pools.specs.declared.courses.Course.{Course}
-use Rattle.engine_pools.specs.declared.courses.Progress.{Progress}
-use Rattle.engine_pools.specs.declared.courses.Progress.TheVariants as progress
-use Rattle.engine_pools.specs.Courses.{IfUnderWay}
-use Rattle.engine_pools.specs.Following.{Stands}
-use Rattle.engine_pools.specs.PoolView.{world_at}
-use Rattle.engine_pools.specs.Ways.{serving}
-use Rattle.engine_pools.proofs.Points.{replied_before, same_here}
-use Rattle.engine_pools.proofs.UnderWay.{cut_before, same_back, under_way_before}
+use Rattle.engine_dispatches.specs.declared.courses.Course.{Course}
+use Rattle.engine_dispatches.specs.declared.courses.Progress.{Progress}
+use Rattle.engine_dispatches.specs.declared.courses.Progress.TheVariants as progress
+use Rattle.engine_dispatches.specs.Courses.{IfUnderWay}
+use Rattle.engine_dispatches.specs.Following.{Stands}
+use Rattle.engine_dispatches.specs.PoolView.{world_at}
+use Rattle.engine_dispatches.specs.Ways.{serving}
+use Rattle.engine_dispatches.proofs.Points.{replied_before, same_here}
+use Rattle.engine_dispatches.proofs.UnderWay.{cut_before, same_back, under_way_before}
 use Rattle.ui_engine.specs.declared.faults.SessionFault.{SessionFault}
 use Rattle.ui_engine.specs.declared.faults.SessionFault.TheVariants as faults
 use Rattle.ui_engine.specs.SessionView.{BeginsEvent, Comes, ComesOn, HasCourse, InCourse, SessionState, state_at, without_lines}

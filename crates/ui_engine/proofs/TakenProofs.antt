@@ -6,7 +6,7 @@ use Rattle.ui_machine.specs.State.Peers.{Peer}
 use Rattle.native_peers.specs.Moves.{closed}
 use Rattle.native_peers.specs.Seen.{ClosesAt, Seen}
 use Rattle.ui_engine.specs.Endings.{closed_at_if, closed_if, is_taken, taken_closed}
-use Rattle.engine_pools.proofs.Living.{no_seen}
+use Rattle.engine_dispatches.proofs.Living.{no_seen}
 
 closed_not : (k : ℕ) (pool : List Seen) → closed_at_if false k pool ≡ pool
 closed_not k [] = refl

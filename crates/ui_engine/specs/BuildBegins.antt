@@ -5,14 +5,14 @@ use Rattle.ui_machine.specs.Output.Lines as lines
 use Rattle.ui_machine.specs.Rules.Build.{forward_items}
 use Rattle.ui_machine.specs.Runs.{first_world}
 use Rattle.ui_machine.specs.State.Config.{said}
-use Rattle.law_pools.specs.Needs.{mismatch}
+use Rattle.law_peers.specs.Needs.{mismatch}
 use Rattle.native_peers.specs.Matching.{as_peers}
 use Rattle.native_peers.specs.Seen.{Seen}
-use Rattle.frame_stacks.specs.TaskView.{item_of}
+use Rattle.engine_stack.specs.TaskView.{item_of}
 use Rattle.engine_world.specs.View.{world_of}
-use Rattle.engine_pools.specs.Dispatched.{IsAtRest}
-use Rattle.engine_pools.specs.PoolView.{Knows, world_at}
-use Rattle.engine_pools.specs.Promises.{IsRoomy}
+use Rattle.engine_dispatches.specs.Dispatched.{IsAtRest}
+use Rattle.engine_dispatches.specs.PoolView.{Knows, world_at}
+use Rattle.engine_dispatches.specs.Promises.{IsRoomy}
 use Rattle.ui_engine.specs.declared.starts.Beginning.{Beginning}
 
 -- The pool matches. An engine has built nothing, knows it, and has said the line with which the build begins; and the forward references are

@@ -4,7 +4,7 @@ pub mod BuildBegins
 pub mod AskedKinds
 pub mod Endings
 pub mod Widths
-pub use Rattle.engine_pools.specs.Dispatched
-pub use Rattle.engine_pools.specs.PoolView
-pub use Rattle.engine_pools.specs.Promises
-pub use Rattle.engine_pools.specs.Ways
+pub use Rattle.engine_dispatches.specs.Dispatched
+pub use Rattle.engine_dispatches.specs.PoolView
+pub use Rattle.engine_dispatches.specs.Promises
+pub use Rattle.engine_dispatches.specs.Ways

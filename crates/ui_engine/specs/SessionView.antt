@@ -7,17 +7,17 @@ use Rattle.ui_machine.specs.State.Config.{World}
 use Rattle.ui_machine.specs.State.Peers.{Peer}
 use Rattle.ui_machine.specs.State.Tasks.{Event, Task}
 use Rattle.g_values.specs.View.{value_view}
-use Rattle.law_pools.specs.Needs.{Mismatch, closed, misshapen, missing, unused}
+use Rattle.law_peers.specs.Needs.{Mismatch, closed, misshapen, missing, unused}
 use Rattle.machine_laws.specs.FrontLaws.{fronted}
 use Rattle.native_peers.specs.Seen.{Relations, Seen}
-use Rattle.engine_pools.specs.declared.courses.Course.{Course}
-use Rattle.engine_pools.specs.declared.courses.Progress.{Progress}
-use Rattle.engine_pools.specs.declared.courses.Progress.TheVariants as progress
-use Rattle.engine_pools.specs.declared.dispatches.Reply.{Reply}
-use Rattle.engine_pools.specs.Courses.{IsUnderWay}
-use Rattle.engine_pools.specs.Following.{Point}
-use Rattle.engine_pools.specs.PoolView.{Knows, world_at}
-use Rattle.engine_pools.specs.Ways.{Ways, carrying_out, serving, tally_of}
+use Rattle.engine_dispatches.specs.declared.courses.Course.{Course}
+use Rattle.engine_dispatches.specs.declared.courses.Progress.{Progress}
+use Rattle.engine_dispatches.specs.declared.courses.Progress.TheVariants as progress
+use Rattle.engine_dispatches.specs.declared.dispatches.Reply.{Reply}
+use Rattle.engine_dispatches.specs.Courses.{IsUnderWay}
+use Rattle.engine_dispatches.specs.Following.{Point}
+use Rattle.engine_dispatches.specs.PoolView.{Knows, world_at}
+use Rattle.engine_dispatches.specs.Ways.{Ways, carrying_out, serving, tally_of}
 use Rattle.ui_engine.specs.declared.faults.SessionFault.{SessionFault}
 use Rattle.ui_engine.specs.declared.faults.SessionFault.TheVariants as faults
 use Rattle.ui_engine.specs.declared.faults.StartFault.{StartFault}

@@ -13,7 +13,7 @@ mod session;
 mod starts;
 
 pub use cores::Core;
-pub use engine_pools::{Course, Progress, Reply};
+pub use engine_dispatches::{Course, Progress, Reply};
+pub use engine_stack::{Frame, Frames};
 pub use faults::{SessionFault, StartFault};
-pub use frame_stacks::{Frame, Frames};
 pub use session::{Finished, Refused, Session, Started};

@@ -1,6 +1,6 @@
 //! The arms by which the machine can be stuck, and the reasons why code that follows it stops.
 
-/// The reason why the first task of the machine can't act. No run of an accepted definition meets one (proved in `law_sessions`), but a run
+/// The reason why the first task of the machine can't act. No run of an accepted definition meets one (proved in `law_steps`), but a run
 /// of a definition that was not verified may.
 #[derive(Clone, Copy, Debug, PartialEq, Eq)]
 pub enum Arm {

@@ -14,8 +14,8 @@ use Rattle.law_typing.specs.Laws.Capped.{capped}
 use Rattle.law_typing.specs.Verdict.{most_bound}
 use Rattle.law_typing.proofs.OneSolutionProofs.{filtered_kept}
 use Rattle.law_idle.specs.Idle.{busy_channels, is_busy}
-use Rattle.definition_graph.specs.Numbers.{IsOnce, number_of}
-use Rattle.definition_graph.proofs.Positions.{found_is, number_is}
+use Rattle.verify_graph.specs.Numbers.{IsOnce, number_of}
+use Rattle.verify_graph.proofs.Positions.{found_is, number_is}
 use Rattle.verified.specs.Told.{told_bound, value_among, value_at}
 use Rattle.verified.specs.declared.numbers.Numbers.{Numbers}
 use Rattle.verified.proofs.LookUps.{same_in}

@@ -11,11 +11,11 @@ use Rattle.law_typing.specs.Graph.Channels.{Channel, Link, same_channel}
 use Rattle.law_typing.specs.Verdict.Judges.{IsToldCycle, begins_first, line_of}
 use Rattle.law_judging.specs.Cycles.{turned}
 use Rattle.law_judging.proofs.TurnProofs.{turned_is_cycle, turned_is_once}
-use Rattle.definition_graph.specs.ChannelView.{channel_of}
-use Rattle.definition_graph.specs.Numbers.{number_from}
-use Rattle.graph_sketches.specs.Sketches.{channels_in}
-use Rattle.graph_numbers.specs.Reckonings.{IsCycleOnce}
-use Rattle.graph_numbers.proofs.Lists.{mapped_length}
+use Rattle.verify_graph.specs.ChannelView.{channel_of}
+use Rattle.verify_graph.specs.Numbers.{number_from}
+use Rattle.verify_sketches.specs.Sketches.{channels_in}
+use Rattle.verify_numbers.specs.Reckonings.{IsCycleOnce}
+use Rattle.verify_numbers.proofs.Lists.{mapped_length}
 use Rattle.ui_verifier.specs.Cycles.{IsFirst, line_among, lines}
 use Rattle.ui_verifier.specs.Verdicts.{link_view}
 use Rattle.ui_verifier.specs.declared.faults.CycleLink.{CycleLink}

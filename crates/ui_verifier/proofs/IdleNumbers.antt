@@ -16,8 +16,8 @@ use Rattle.law_typing.specs.Rules.Sites.{sites}
 use Rattle.law_typing.proofs.Lists.{any_true, filter_in, map_in, same_channel_refl}
 use Rattle.law_typing.proofs.OneSolutionProofs.{filtered_kept, map_same}
 use Rattle.law_idle.specs.Idle.{busy_channels, busy_graph, is_busy}
-use Rattle.definition_graph.specs.Numbers.{number_of}
-use Rattle.definition_graph.proofs.Positions.{found_is, is_found}
+use Rattle.verify_graph.specs.Numbers.{number_of}
+use Rattle.verify_graph.proofs.Positions.{found_is, is_found}
 use Rattle.law_typing.specs.Verdict.{most_bound}
 use Rattle.ui_verifier.specs.Bounds.{AddsIdle}
 use Rattle.verified.specs.Told.{value_among, value_at}

@@ -1,7 +1,7 @@
 -- The first channel of a cycle in the report.
 use Rattle.std.specs.Prelude.{◌≡◌, ◌≤◌, ◌<◌, ℕ, suc, cond, List, [], ◌∷◌, length, map, Some, slice_get, get_or}
 use Rattle.law_typing.specs.Graph.Channels.{Channel, same_channel}
-use Rattle.definition_graph.specs.ChannelView.{channel_of}
+use Rattle.verify_graph.specs.ChannelView.{channel_of}
 use Rattle.ui_verifier.specs.declared.faults.CycleLink.{CycleLink}
 
 -- how many channels are before this one, all of them where it is not there

@@ -6,9 +6,9 @@ use Rattle.law_typing.specs.Rules.Faults.{Fault}
 use Rattle.law_typing.specs.Rules.Faults as faults
 use Rattle.law_typing.specs.Verdict.FaultText.{fault_text}
 use Rattle.law_typing.specs.Verdict.Judges.{Judges}
-use Rattle.definition_graph.specs.ChannelView.{channel_of}
-use Rattle.graph_numbers.specs.Links.{cause_of}
-use Rattle.rule_faults.specs.Faults as rules
+use Rattle.verify_graph.specs.ChannelView.{channel_of}
+use Rattle.verify_numbers.specs.Links.{cause_of}
+use Rattle.verify_faults.specs.Faults as rules
 use Rattle.verified.specs.Entries.{entry_of}
 use Rattle.law_typing.specs.Verdict.Accepted.{Accepted}
 use Rattle.verified.specs.Told.{AreNumbersOf}

@@ -2,21 +2,21 @@
 
 ghost use Rattle.std.specs.Prelude.{◌≡◌, ◌<◌, ◌≤◌, ◌++◌, ℕ, All, Some, drop, length, map, slice_get, take, IfOk, IfSome};
 ghost use Rattle.law_typing.specs.Graph.{Graph};
-ghost use Rattle.graph_sketches.specs.Sketches.{channels_in};
-ghost use Rattle.graph_numbers.specs.Links.{NamesBelow, links_view};
-ghost use Rattle.graph_numbers.specs.Reckonings.{IsCycleOnce};
+ghost use Rattle.verify_sketches.specs.Sketches.{channels_in};
+ghost use Rattle.verify_numbers.specs.Links.{NamesBelow, links_view};
+ghost use Rattle.verify_numbers.specs.Reckonings.{IsCycleOnce};
 ghost use Rattle.law_numbering.specs.Cycles.{channel_numbered};
 ghost use Rattle.law_typing.specs.Verdict.Judges.{IsToldCycle};
-ghost use Rattle.graph_numbers.specs.Links as sketched;
-ghost use Rattle.definition_graph.specs.ChannelView.{channel_of};
+ghost use Rattle.verify_numbers.specs.Links as sketched;
+ghost use Rattle.verify_graph.specs.ChannelView.{channel_of};
 ghost use Rattle.ui_verifier.specs.Cycles.{IsFirst, line_among, lines};
 ghost use Rattle.ui_verifier.specs.Verdicts.{link_view};
 
 use crate::faults::CycleLink;
-use definition_graph::ChannelNumbers;
-use graph_numbers::SketchedLink;
 use std::alloc::{AllocError, Global};
 use ui_machine::{Channel, Member, Place, ProgramId};
+use verify_graph::ChannelNumbers;
+use verify_numbers::SketchedLink;
 
 // Converts the program of a link to a `ProgramId`. There are at most 256 programs.
 fn program_of(by: Option<usize>) -> Option<ProgramId>

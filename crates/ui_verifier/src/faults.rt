@@ -1,8 +1,8 @@
 //! The reasons why a definition is refused.
 
-use rule_faults::RuleFault;
 use std::alloc::AllocError;
 use ui_machine::{Channel, Entry, ProgramId};
+use verify_faults::RuleFault;
 
 /// A channel of a cycle, and what leads from it to the next one.
 #[derive(Clone, Copy, Debug, PartialEq, Eq)]

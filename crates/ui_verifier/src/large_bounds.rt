@@ -12,9 +12,9 @@ ghost use Rattle.verified.specs.Entries.{entry_of};
 ghost use Rattle.ui_verifier.specs.Bounds.{AreCapped};
 ghost use Rattle.ui_verifier.specs.Large.{large_channel, large_source};
 
-use definition_graph::ChannelNumbers;
 use ui_machine::Entry;
 use verified::{Numbers, SourceBound};
+use verify_graph::ChannelNumbers;
 
 // The greatest bound that is allowed.
 const MOST_BOUND: u64 = 1_000_000_000_000;

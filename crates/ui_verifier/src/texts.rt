@@ -3,7 +3,7 @@
 ghost use Rattle.std.specs.Prelude.{◌≡◌, ◌<◌, Some, codes, length, map, slice_get, string_bytes, IfOk};
 ghost use Rattle.law_typing.specs.Verdict.FaultText.{cause_text, entry_text, fault_text, link_text, links_text};
 ghost use Rattle.law_typing.specs.Rules.Faults.{bound_too_large, cycle};
-ghost use Rattle.graph_numbers.specs.Links.{cause_of};
+ghost use Rattle.verify_numbers.specs.Links.{cause_of};
 ghost use Rattle.verified.specs.Entries.{entry_of};
 ghost use Rattle.ui_verifier.specs.Verdicts.{link_view};
 ghost use Rattle.ui_verifier.specs.Texts.{separator};

@@ -15,9 +15,9 @@ use Rattle.law_typing.specs.Rules.RegisterKinds.{place_numbers}
 use Rattle.law_typing.proofs.CostProofs.{listed_in}
 use Rattle.law_typing.proofs.EdgeProofs.{flat_in}
 use Rattle.ui_machine.specs.declared.ids.Channel as code
-use Rattle.definition_graph.specs.ChannelView.{channel_of, channels_of}
-use Rattle.definition_graph.proofs.ChannelLists.{next_place}
-use Rattle.definition_graph.proofs.Prefixes.{listed_get, listed_length, take_all, take_last}
+use Rattle.verify_graph.specs.ChannelView.{channel_of, channels_of}
+use Rattle.verify_graph.proofs.ChannelLists.{next_place}
+use Rattle.verify_graph.proofs.Prefixes.{listed_get, listed_length, take_all, take_last}
 use Rattle.law_typing.specs.Verdict.Accepted.{Accepted}
 use Rattle.law_typing.specs.Verdict.Report.{channel_line, numbered}
 use Rattle.verified.specs.declared.numbers.SourceBound.{SourceBound}

@@ -7,7 +7,7 @@ use Rattle.ui_machine.specs.Definition.{Definition}
 use Rattle.law_typing.specs.Graph.{graph}
 use Rattle.law_typing.specs.Graph.Channels.{Entry, is_channel}
 use Rattle.law_typing.specs.Graph.Channels as entries
-use Rattle.definition_graph.specs.ChannelView.{channel_of}
+use Rattle.verify_graph.specs.ChannelView.{channel_of}
 
 -- an entry of the code as one of the law
 abbrev pub entry_of : code.Entry → Entry

@@ -12,7 +12,7 @@ use Rattle.law_typing.specs.Graph.Ranks.{node}
 use Rattle.law_typing.specs.Graph.Tables.{Table, Tables, entry}
 use Rattle.law_typing.specs.Verdict.Accepted.{Accepted}
 use Rattle.law_idle.specs.Idle.{busy_channels}
-use Rattle.definition_graph.specs.Numbers.{number_of}
+use Rattle.verify_graph.specs.Numbers.{number_of}
 use Rattle.verified.specs.declared.numbers.Numbers.{Numbers}
 use Rattle.verified.specs.declared.numbers.SourceBound.{SourceBound}
 

@@ -3,7 +3,7 @@
 ghost use Rattle.std.specs.Prelude.{◌≡◌, ◌<◌, ℕ, Some, false, length, slice_get};
 ghost use Rattle.law_typing.specs.Graph.Channels.{channels_at};
 ghost use Rattle.law_typing.specs.Verdict.Accepted.{Accepted};
-ghost use Rattle.definition_graph.specs.ChannelView.{channels_of};
+ghost use Rattle.verify_graph.specs.ChannelView.{channels_of};
 ghost use Rattle.verified.specs.Lines.{channel_lines, place_lines, report_of, source_lines, total_lines};
 ghost use Rattle.verified.specs.Writing.{IsMarked, Reports};
 
@@ -11,10 +11,10 @@ use crate::faults::ReportFault;
 use crate::texts::{build_line, depth_line, source_line};
 use crate::verified::Verified;
 use crate::writing::write_line;
-use definition_graph::channels_at;
-use operand_types::Lookups;
 use std::alloc::Global;
 use ui_machine::{Channel, Entry, Place, Sink};
+use verify_graph::channels_at;
+use verify_operands::Lookups;
 
 // Returns the channel at an index of a slice.
 fn channel_at(channels: &[Channel], number: usize) -> Channel

@@ -5,7 +5,7 @@ ghost use Rattle.ui_machine.specs.Definition.Lookups.{program_at};
 ghost use Rattle.law_typing.specs.Rules.RegisterKinds.{class_at};
 ghost use Rattle.law_typing.specs.Graph.Channels.{spec_at};
 ghost use Rattle.law_typing.specs.Verdict.Report.{id_of, name_of_program, name_of_signal, numbered, property_name, text_of_channel};
-ghost use Rattle.definition_graph.specs.ChannelView.{channel_of};
+ghost use Rattle.verify_graph.specs.ChannelView.{channel_of};
 ghost use Rattle.verified.specs.Lines.{line_of_channel, line_of_source};
 
 use crate::numbers::SourceBound;

@@ -6,18 +6,18 @@ ghost use Rattle.law_typing.specs.Graph.Channels.{is_channel};
 ghost use Rattle.law_typing.specs.Laws.{IsIn};
 ghost use Rattle.law_typing.specs.Verdict.Accepted.{Accepted};
 ghost use Rattle.law_idle.specs.Idle.{busy_channels};
-ghost use Rattle.definition_graph.specs.ChannelView.{channel_of};
+ghost use Rattle.verify_graph.specs.ChannelView.{channel_of};
 ghost use Rattle.verified.specs.Entries.{entry_of, is_entry};
 ghost use Rattle.verified.specs.Lines.{line_in};
 ghost use Rattle.verified.specs.Told.{AreNumbersOf, AreSources, IsBound, IsDepth, IsRank, bound_in, value_among};
 
 use crate::numbers::{Numbers, SourceBound};
 use crate::texts::channel_line;
-use definition_graph::ChannelNumbers;
 use definitions::Definition;
 use std::alloc::{AllocError, Global};
 use std::marker::Model;
 use ui_machine::{Channel, Entry, ProgramId};
+use verify_graph::ChannelNumbers;
 
 /// A definition that is accepted, with the numbers of its verification. The contracts see only the definition.
 #[derive(Drop)]

@@ -5,13 +5,13 @@ use Rattle.ui_machine.specs.Seq.{listed}
 use Rattle.law_typing.specs.Graph.{pairs_of}
 use Rattle.law_typing.specs.Graph.Channels.{Channel}
 use Rattle.law_idle.specs.Idle.{busy_channels}
-use Rattle.graph_sketches.specs.Sketches.{Sketch}
-use Rattle.graph_sketches.specs.View.{block_view, channel_view, start_view}
-use Rattle.definition_graph.specs.Paired.{ArePaired, paired_at}
-use Rattle.raised_channels.specs.Connected.{programs_of}
-use Rattle.raised_channels.specs.Raised.{AreSketched}
-use Rattle.started_channels.specs.SketchedCode.{ArePrograms}
-use Rattle.started_channels.specs.Tables.{AreOfSome}
+use Rattle.verify_sketches.specs.Sketches.{Sketch}
+use Rattle.verify_sketches.specs.View.{block_view, channel_view, start_view}
+use Rattle.verify_graph.specs.Paired.{ArePaired, paired_at}
+use Rattle.verify_channels.specs.Connected.{programs_of}
+use Rattle.verify_channels.specs.Raised.{AreSketched}
+use Rattle.verify_starts.specs.SketchedCode.{ArePrograms}
+use Rattle.verify_starts.specs.Tables.{AreOfSome}
 use Rattle.definition_sketch.proofs.NoFaults.{no_pair_faults}
 use Rattle.definition_sketch.proofs.Sketched.{sketch_right}
 use Rattle.definition_sketch.proofs.sketch.Goals as goal

@@ -1,6 +1,6 @@
 use Rattle.std.proofs.Common.{Some}
 use Rattle.serde_json.specs.View.{view}
-use Rattle.definition_parts.proofs.Values.{line_value-not_utf8, line_value-text}
+use Rattle.read_parts.proofs.Values.{line_value-not_utf8, line_value-text}
 use Rattle.builder_defs.proofs.event_reading.parsed_line.Goals as goal
 
 pub returns-in_default : goal.returns-in_default

@@ -1,6 +1,6 @@
 use Rattle.param_specs.specs.View.{spec_view}
 use Rattle.definition_format.specs.Meaning.{class_at}
-use Rattle.definition_objects.proofs.PlainKinds.{plain_known}
+use Rattle.read_objects.proofs.PlainKinds.{plain_known}
 use Rattle.builder_defs.proofs.event_reading.set_of.Goals as goal
 
 pub given_by-requires : goal.given_by-requires

@@ -4,7 +4,7 @@ use Rattle.serde_json.specs.View.{view, items_view}
 use Rattle.definition_format.specs.Document.{entries_at}
 use Rattle.definition_format.specs.Meaning.{plain_shape}
 use Rattle.definition_format.specs.Denoted.Drafts.{class_draft_of}
-use Rattle.definition_parts.proofs.Sections.{classes_fail}
+use Rattle.read_parts.proofs.Sections.{classes_fail}
 use Rattle.builder_defs.proofs.reading.classes_of.Goals as goal
 
 pub returns-in_err-read_classes : goal.returns-in_err-read_classes

@@ -4,7 +4,7 @@ use Rattle.serde_json.specs.View.{view, items_view}
 use Rattle.definition_format.specs.Refusals.{Fails}
 use Rattle.definition_format.specs.Document.{entries_at, each, at_entry}
 use Rattle.definition_format.specs.Denoted.Enums.{enum_at}
-use Rattle.definition_parts.proofs.Sections.{enums_fail}
+use Rattle.read_parts.proofs.Sections.{enums_fail}
 use Rattle.builder_defs.proofs.reading.enums_of.Goals as goal
 
 pub returns-in_err-read_enums : goal.returns-in_err-read_enums

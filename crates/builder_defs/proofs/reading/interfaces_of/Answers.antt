@@ -8,7 +8,7 @@ use Rattle.definition_format.specs.Refusals.{Fails}
 use Rattle.definition_format.specs.Document.{entries_at, listed_ahead, each, at_entry}
 use Rattle.definition_format.specs.Denoted.Drafts.{draft_of}
 use Rattle.definition_format.specs.Denoted.Interfaces.{interface_at}
-use Rattle.definition_parts.proofs.Sections.{interfaces_fail}
+use Rattle.read_parts.proofs.Sections.{interfaces_fail}
 use Rattle.builder_defs.proofs.reading.interfaces_of.Goals as goal
 
 pub returns-in_err-read_interfaces-clause-draft : goal.returns-in_err-read_interfaces-clause-draft

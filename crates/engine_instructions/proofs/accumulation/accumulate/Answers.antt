@@ -9,14 +9,14 @@ use Rattle.g_values.specs.View.{value_view}
 use Rattle.signal_core.specs.Emission.{accumulator_of}
 use Rattle.signal_core.specs.SignalView.{declared_view}
 use Rattle.engine_world.specs.FirstEmissions.{first_emitted}
-use Rattle.frame_stacks.specs.FirstEmissions.{Emitted, emission_view, emitting, entries_left}
+use Rattle.engine_stack.specs.FirstEmissions.{Emitted, emission_view, emitting, entries_left}
 use Rattle.engine_world.specs.FirstPrograms.{rest_of}
 use Rattle.engine_world.specs.TaskView.{agenda_of}
 use Rattle.engine_world.specs.View.{world_of}
 use Rattle.engine_world.specs.declared.engine.Engine.{Engine}
 use Rattle.engine_world.proofs.Ableness.{no_arm}
 use Rattle.engine_world.proofs.FirstEmissions.{begins}
-use Rattle.frame_stacks.proofs.FirstEmissions.{emission_found}
+use Rattle.engine_stack.proofs.FirstEmissions.{emission_found}
 use Rattle.engine_world.proofs.LivingObjects.{lives_where}
 use Rattle.engine_world.proofs.Registers.{tasks_world}
 use Rattle.engine_instructions.specs.CollectView.{collected_by}

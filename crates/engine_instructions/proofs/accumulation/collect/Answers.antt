@@ -3,8 +3,8 @@ use Rattle.ui_machine.specs.State.References.{in_register}
 use Rattle.g_values.specs.View.{value_view}
 use Rattle.signal_core.specs.Emission.{accumulator_of, collected}
 use Rattle.engine_world.specs.FirstEmissions.{first_emitted}
-use Rattle.frame_stacks.specs.FirstEmissions.{Emitted}
-use Rattle.frame_stacks.specs.declared.task.Transfers.TheVariants as at
+use Rattle.engine_stack.specs.FirstEmissions.{Emitted}
+use Rattle.engine_stack.specs.declared.task.Transfers.TheVariants as at
 use Rattle.engine_instructions.specs.CollectView.{collects}
 use Rattle.engine_world.proofs.Counts.{both_only}
 use Rattle.engine_world.proofs.Held.{may_less}

@@ -1,7 +1,7 @@
 use Rattle.std.proofs.Common.{◌∙◌, ap, sym}
 use Rattle.ui_machine.specs.State.References.{in_register}
-use Rattle.frame_stacks.specs.FirstEmissions.{Emitted}
-use Rattle.frame_stacks.proofs.FirstEmissions.{emission_found}
+use Rattle.engine_stack.specs.FirstEmissions.{Emitted}
+use Rattle.engine_stack.proofs.FirstEmissions.{emission_found}
 use Rattle.engine_instructions.proofs.accumulation.first_collected.Goals as goal
 
 pub returns : goal.returns

@@ -6,10 +6,10 @@ use Rattle.ui_machine.specs.State.Tasks.{Task}
 use Rattle.g_values.specs.View.{value_view}
 use Rattle.engine_world.specs.Able.{Able}
 use Rattle.engine_world.specs.FirstEmissions.{first_emitted}
-use Rattle.frame_stacks.specs.FirstEmissions.{first_emission}
+use Rattle.engine_stack.specs.FirstEmissions.{first_emission}
 use Rattle.engine_world.specs.View.{world_of}
 use Rattle.engine_world.proofs.FirstEmissions.{begins}
-use Rattle.frame_stacks.proofs.FirstEmissions.{first_begun}
+use Rattle.engine_stack.proofs.FirstEmissions.{first_begun}
 use Rattle.engine_world.proofs.Quiets.{quiet_same}
 use Rattle.engine_world.proofs.Registers.{none_found, some_found, tasks_world}
 use Rattle.engine_instructions.proofs.Holding.{counted_may}

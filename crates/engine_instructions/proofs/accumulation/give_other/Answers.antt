@@ -3,12 +3,12 @@ use Rattle.ui_machine.specs.Rules.Accumulation.{given_down}
 use Rattle.ui_machine.specs.State.Tasks.{Task}
 use Rattle.g_values.specs.View.{value_view}
 use Rattle.engine_world.specs.Able.{Able}
-use Rattle.frame_stacks.specs.TaskFrames.{emission_in, program_in}
+use Rattle.engine_stack.specs.TaskFrames.{emission_in, program_in}
 use Rattle.engine_world.specs.TaskView.{agenda_of}
-use Rattle.frame_stacks.specs.TaskView.{task_of, tasks_of}
+use Rattle.engine_stack.specs.TaskView.{task_of, tasks_of}
 use Rattle.engine_world.specs.View.{world_of}
-use Rattle.frame_stacks.specs.declared.task.Task as code
-use Rattle.frame_stacks.specs.declared.task.Task.TheVariants as tasks
+use Rattle.engine_stack.specs.declared.task.Task as code
+use Rattle.engine_stack.specs.declared.task.Task.TheVariants as tasks
 use Rattle.engine_instructions.proofs.Collecting.{TakesNone, gives_last, gives_nothing, gives_other, gives_source, popped_behind, popped_source, source_able}
 use Rattle.engine_world.proofs.Left.{same_agenda}
 use Rattle.engine_instructions.proofs.accumulation.give_other.Goals as goal

@@ -2,7 +2,7 @@ use Rattle.std.proofs.Common.{[], ◌∷◌, List, ap, map, string_bytes, ◌∙
 use Rattle.ui_machine.specs.State.Tasks.{Calling, Task}
 use Rattle.bytecode.specs.View.{number_of}
 use Rattle.engine_world.specs.Counting.{nothing}
-use Rattle.frame_stacks.specs.TaskView.{call_of}
+use Rattle.engine_stack.specs.TaskView.{call_of}
 use Rattle.engine_world.specs.View.{world_of}
 use Rattle.engine_world.proofs.Held.{pushes_living}
 use Rattle.engine_instructions.proofs.Holding.{all_counted, begun_names, call_lives}

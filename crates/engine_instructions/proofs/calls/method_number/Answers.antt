@@ -1,6 +1,6 @@
 use Rattle.std.proofs.Common.{ap, sym, ◌∙◌}
 use Rattle.ui_machine.specs.Rules.Construction.{nearest_shape}
-use Rattle.linked_programs.specs.Linked.{method_by}
+use Rattle.engine_links.specs.Linked.{method_by}
 use Rattle.engine_instructions.proofs.PeerCalls.{class_is, named_in, none_named}
 use Rattle.engine_instructions.proofs.calls.method_number.Goals as goal
 

@@ -1,5 +1,5 @@
 use Rattle.std.proofs.Common.{ℕ, Option, Some, sym, ◌∙◌, subst}
-use Rattle.linked_programs.specs.Linked.{IsDetail}
+use Rattle.engine_links.specs.Linked.{IsDetail}
 use Rattle.engine_instructions.proofs.LinkedNames.{detail_placed}
 use Rattle.engine_instructions.proofs.details.property_named.Goals as goal
 

@@ -4,7 +4,7 @@ use Rattle.ui_machine.specs.State.References.{in_task}
 use Rattle.ui_machine.specs.State.Tasks.{Beginning, Frame, Running, Task}
 use Rattle.engine_world.specs.Counting.{nothing}
 use Rattle.engine_instructions.specs.EmitView.{emit_of}
-use Rattle.frame_stacks.specs.TaskView.{new_of}
+use Rattle.engine_stack.specs.TaskView.{new_of}
 use Rattle.engine_world.specs.View.{world_of}
 use Rattle.engine_world.proofs.Held.{emission_lives, pushes_living}
 use Rattle.engine_instructions.proofs.Calling.{emission_able, emission_begins}

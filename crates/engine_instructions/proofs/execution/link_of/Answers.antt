@@ -1,8 +1,8 @@
 use Rattle.std.proofs.Common.{◌-◌, ap, sym, subst, ◌∙◌}
 use Rattle.ui_machine.specs.State.Tasks.{Frame}
 use Rattle.bytecode.specs.View.{instruction_view}
-use Rattle.linked_programs.specs.Linked.{IsLink, instruction_at}
-use Rattle.linked_programs.specs.declared.link.Link.{Link}
+use Rattle.engine_links.specs.Linked.{IsLink, instruction_at}
+use Rattle.engine_links.specs.declared.link.Link.{Link}
 use Rattle.engine_instructions.proofs.LinkedNames.{linked_there}
 use Rattle.engine_instructions.proofs.execution.link_of.Goals as goal
 

@@ -7,7 +7,7 @@ use Rattle.bytecode.specs.View.{program_view}
 use Rattle.engine_world.specs.Counting.{nothing}
 use Rattle.engine_world.specs.View.{world_of}
 use Rattle.engine_world.specs.FirstPrograms.{first_frame, rest_of}
-use Rattle.frame_stacks.specs.FirstPrograms.{stack_frame}
+use Rattle.engine_stack.specs.FirstPrograms.{stack_frame}
 use Rattle.engine_world.proofs.Ableness.{no_arm}
 use Rattle.engine_world.proofs.FirstPrograms.{begins}
 use Rattle.engine_world.proofs.Registers.{going_left, stack_same_held}

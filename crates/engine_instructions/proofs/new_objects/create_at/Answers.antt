@@ -1,4 +1,4 @@
-use Rattle.frame_stacks.specs.declared.stacks.Frames.{Frames}
+use Rattle.engine_stack.specs.declared.stacks.Frames.{Frames}
 use Rattle.std.proofs.Common.{◌≡◌, ◌<◌, ℕ, IfSome, IsSome, List, Option, length, false, ap, subst, sym, ◌∙◌, rules}
 use Rattle.std.proofs.lemmas.Result.{err_from_is_err_and}
 use Rattle.ui_machine.specs.Definition.Values as values
@@ -12,7 +12,7 @@ use Rattle.law_typing.specs.Good.Living.{NamesLiving}
 use Rattle.g_values.specs.View.{value_view}
 use Rattle.engine_world.specs.Counting.{nothing}
 use Rattle.engine_world.specs.NewObjects.{begun}
-use Rattle.frame_stacks.specs.TaskFrames.{HasPlaces}
+use Rattle.engine_stack.specs.TaskFrames.{HasPlaces}
 use Rattle.engine_world.specs.View.{world_of}
 use Rattle.engine_instructions.proofs.Creating.{create_world, create_written, made_able, write_able}
 use Rattle.engine_instructions.proofs.Holding.{lives_held}

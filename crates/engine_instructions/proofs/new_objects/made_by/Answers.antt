@@ -1,8 +1,8 @@
 use Rattle.std.proofs.Common.{◌≡◌, refl, sym, ◌∙◌, ap, ◌-◌}
 use Rattle.ui_machine.specs.Rules.Build.{is_making, of_items}
-use Rattle.frame_stacks.specs.TaskView.{task_of}
-use Rattle.frame_stacks.specs.declared.task.Task.{Task}
-use Rattle.frame_stacks.specs.declared.task.Task.TheVariants as tasks
+use Rattle.engine_stack.specs.TaskView.{task_of}
+use Rattle.engine_stack.specs.declared.task.Task.{Task}
+use Rattle.engine_stack.specs.declared.task.Task.TheVariants as tasks
 use Rattle.engine_instructions.proofs.Creating.{making_behind, making_bound, making_from, making_none}
 use Rattle.engine_instructions.proofs.new_objects.made_by.Goals as goal
 

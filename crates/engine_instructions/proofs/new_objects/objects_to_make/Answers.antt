@@ -1,7 +1,7 @@
 use Rattle.std.proofs.Common.{◌≡◌, ◌<◌, ◌+◌, [], drop, get_or, length, map, min, ap, sym, ◌∙◌, arith}
 use Rattle.std.proofs.lemmas.List.{nil_from_length, length-drop}
 use Rattle.ui_machine.specs.Rules.Build.{is_making, of_items, to_make}
-use Rattle.frame_stacks.specs.TaskView.{task_of}
+use Rattle.engine_stack.specs.TaskView.{task_of}
 use Rattle.engine_instructions.proofs.Creating.{counted_more}
 use Rattle.engine_world.proofs.Signals.{tasks_left}
 use Rattle.engine_instructions.proofs.new_objects.objects_to_make.Goals as goal

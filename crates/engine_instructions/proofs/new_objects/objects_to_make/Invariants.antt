@@ -1,6 +1,6 @@
 use Rattle.std.proofs.Common.{◌≡◌, ◌≤◌, ◌+◌, drop, map, min}
 use Rattle.ui_machine.specs.Rules.Build.{to_make}
-use Rattle.frame_stacks.specs.TaskView.{task_of}
+use Rattle.engine_stack.specs.TaskView.{task_of}
 use Rattle.engine_instructions.proofs.new_objects.objects_to_make.Given as goal
 
 abbrev pub invariant-loop-task : goal.invariant-loop-task

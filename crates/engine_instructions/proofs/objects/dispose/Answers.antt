@@ -5,10 +5,10 @@ use Rattle.engine_world.specs.ClosingView.{or_number}
 use Rattle.engine_world.specs.Counting.{KeepsCounts}
 use Rattle.engine_world.specs.Standing.{gone_handlers}
 use Rattle.signal_core.specs.Connected.{Connected, without_object}
-use Rattle.frame_stacks.specs.TaskView.{tasks_of}
+use Rattle.engine_stack.specs.TaskView.{tasks_of}
 use Rattle.engine_world.specs.View.{world_of}
 use Rattle.engine_world.specs.declared.engine.Engine.{Engine}
-use Rattle.frame_stacks.specs.declared.stacks.Frames.{Frames}
+use Rattle.engine_stack.specs.declared.stacks.Frames.{Frames}
 use Rattle.engine_world.specs.declared.world.World.{World}
 use Rattle.engine_instructions.proofs.Disposing.{keeps_disposed}
 use Rattle.engine_world.proofs.Finalising.{code_gone, closing_able, disposed_so, finalised_agenda}

@@ -2,7 +2,7 @@ use Rattle.std.proofs.Common.{refl, ap, ◌∙◌, List, nat_eq}
 use Rattle.std.specs.List.{list_any}
 use Rattle.ui_machine.specs.State.Bindings.{Binding}
 use Rattle.bindings.specs.Made.{Made}
-use Rattle.linked_programs.specs.Linked.{numbers_by}
+use Rattle.engine_links.specs.Linked.{numbers_by}
 use Rattle.engine_world.specs.View.{world_of}
 use Rattle.engine_instructions.proofs.Unbinding.{numbers_called}
 use Rattle.engine_world.proofs.Counts.{keeps_same}

@@ -5,7 +5,7 @@ use Rattle.ui_machine.specs.State.Tasks.{Building, Item, Task}
 use Rattle.ui_machine.specs.Steps.{uncounted}
 use Rattle.definition_format.specs.Meaning.{bind_view}
 use Rattle.engine_world.specs.TaskView.{agenda_of}
-use Rattle.frame_stacks.specs.TaskView.{binds_from}
+use Rattle.engine_stack.specs.TaskView.{binds_from}
 use Rattle.engine_world.specs.View.{world_of}
 use Rattle.engine_world.proofs.Counts.{keeps_on}
 use Rattle.engine_world.proofs.Left.{same_agenda}

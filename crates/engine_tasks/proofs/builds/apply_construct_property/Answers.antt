@@ -13,7 +13,7 @@ use Rattle.ui_machine.specs.State.Objects.{living}
 use Rattle.ui_machine.specs.State.Tasks.{Setting, Task}
 use Rattle.engine_world.specs.Counting.{nothing}
 use Rattle.engine_world.specs.FirstConstructions.{first_constructed}
-use Rattle.frame_stacks.specs.FirstConstructions.{constructing_task}
+use Rattle.engine_stack.specs.FirstConstructions.{constructing_task}
 use Rattle.engine_world.specs.FirstPrograms.{rest_of}
 use Rattle.engine_world.proofs.Ableness.{in_uncounted, tested}
 use Rattle.engine_world.proofs.FirstConstructions.{begins}

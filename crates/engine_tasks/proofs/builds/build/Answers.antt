@@ -11,7 +11,7 @@ use Rattle.engine_world.specs.PeerPlaces.{own_peer}
 use Rattle.ui_machine.specs.Steps.{uncounted}
 use Rattle.engine_world.specs.View.{world_of}
 use Rattle.engine_world.specs.TaskView.{agenda_of}
-use Rattle.frame_stacks.specs.TaskView.{build_from}
+use Rattle.engine_stack.specs.TaskView.{build_from}
 use Rattle.engine_world.specs.EngineView.{config_of}
 use Rattle.engine_world.proofs.Building.{object_within, builds_next, builds_stuck, only_forwards}
 use Rattle.engine_world.proofs.Counts.{keeps_on, still_counted}

@@ -3,9 +3,9 @@ use Rattle.ui_machine.specs.Outcome.{Answer}
 use Rattle.ui_machine.specs.State.Config.{Config}
 use Rattle.engine_world.specs.Able.{Leads}
 use Rattle.engine_world.specs.EngineView.{config_of}
-use Rattle.frame_stacks.specs.FirstConstructions.{stack_construction}
-use Rattle.frame_stacks.specs.MakingView.{making_of_code}
-use Rattle.frame_stacks.specs.declared.task.ConstructStep.{ConstructStep}
+use Rattle.engine_stack.specs.FirstConstructions.{stack_construction}
+use Rattle.engine_stack.specs.MakingView.{making_of_code}
+use Rattle.engine_stack.specs.declared.task.ConstructStep.{ConstructStep}
 use Rattle.engine_world.proofs.Ableness.{able_as}
 use Rattle.engine_tasks.proofs.ConstructionPlaces.{counts_past, goes_on, lives_past}
 use Rattle.engine_world.proofs.RoomLeft.{places_kept}

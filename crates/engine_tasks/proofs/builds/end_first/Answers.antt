@@ -8,17 +8,17 @@ use Rattle.ui_machine.specs.Steps.{uncounted}
 use Rattle.engine_world.specs.Able.{Leads}
 use Rattle.engine_world.specs.EngineView.{config_of}
 use Rattle.engine_world.specs.FirstConstructions.{first_constructed}
-use Rattle.frame_stacks.specs.FirstConstructions.{Constructed, constructed_of, constructing_task, construction_in}
+use Rattle.engine_stack.specs.FirstConstructions.{Constructed, constructed_of, constructing_task, construction_in}
 use Rattle.engine_world.specs.FirstPrograms.{rest_of}
-use Rattle.frame_stacks.specs.TaskView.{task_of, tasks_of}
+use Rattle.engine_stack.specs.TaskView.{task_of, tasks_of}
 use Rattle.engine_world.specs.View.{world_of}
-use Rattle.frame_stacks.specs.declared.construction_frames.ConstructionFrame.{ConstructionFrame}
+use Rattle.engine_stack.specs.declared.construction_frames.ConstructionFrame.{ConstructionFrame}
 use Rattle.engine_world.specs.declared.engine.Engine.{Engine}
-use Rattle.frame_stacks.specs.declared.stacks.Frames.{Frames}
-use Rattle.frame_stacks.specs.declared.task.Task as code
+use Rattle.engine_stack.specs.declared.stacks.Frames.{Frames}
+use Rattle.engine_stack.specs.declared.task.Task as code
 use Rattle.engine_world.proofs.Ableness.{able_as}
 use Rattle.engine_world.proofs.Counts.{taken_alike, taken_off}
-use Rattle.frame_stacks.proofs.FirstConstructions.{construction_found}
+use Rattle.engine_stack.proofs.FirstConstructions.{construction_found}
 use Rattle.engine_world.proofs.OtherFirst.{constructs_only}
 use Rattle.engine_tasks.proofs.builds.end_first.Goals as goal
 

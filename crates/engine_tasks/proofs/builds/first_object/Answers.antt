@@ -1,6 +1,6 @@
 use Rattle.std.proofs.Common.{sym, ap}
-use Rattle.frame_stacks.specs.FirstConstructions.{Constructed}
-use Rattle.frame_stacks.proofs.FirstConstructions.{construction_found}
+use Rattle.engine_stack.specs.FirstConstructions.{Constructed}
+use Rattle.engine_stack.proofs.FirstConstructions.{construction_found}
 use Rattle.engine_tasks.proofs.builds.first_object.Goals as goal
 
 pub returns : goal.returns

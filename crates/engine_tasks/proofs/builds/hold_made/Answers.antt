@@ -10,7 +10,7 @@ use Rattle.ui_machine.specs.Seq.{total}
 use Rattle.ui_machine.specs.State.Config.{BuilderEntry, unbuilt, built}
 use Rattle.ui_machine.specs.State.References.{same, in_held}
 use Rattle.engine_world.specs.View.{held_of}
-use Rattle.frame_stacks.proofs.Lists.{total-written}
+use Rattle.engine_stack.proofs.Lists.{total-written}
 use Rattle.engine_world.proofs.Floats.{holds_nothing}
 use Rattle.engine_world.proofs.Counts.{keeps_by, holder_more, sunk_exact, stays}
 use Rattle.ui_machine.specs.declared.arm.Arm.TheVariants as arms

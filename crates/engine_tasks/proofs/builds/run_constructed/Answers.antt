@@ -10,7 +10,7 @@ use Rattle.engine_world.specs.Able.{Leads}
 use Rattle.engine_world.specs.Counting.{nothing}
 use Rattle.engine_world.specs.EngineView.{config_of}
 use Rattle.engine_world.specs.FirstConstructions.{first_constructed}
-use Rattle.frame_stacks.specs.FirstConstructions.{constructing_task}
+use Rattle.engine_stack.specs.FirstConstructions.{constructing_task}
 use Rattle.engine_world.specs.FirstPrograms.{rest_of}
 use Rattle.engine_world.specs.TaskView.{agenda_of}
 use Rattle.engine_world.specs.View.{world_of}

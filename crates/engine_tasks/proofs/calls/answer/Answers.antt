@@ -6,7 +6,7 @@ use Rattle.ui_machine.specs.Steps.{left}
 use Rattle.g_values.specs.View.{value_view}
 use Rattle.engine_world.specs.EngineView.{config_of}
 use Rattle.engine_world.specs.TaskView.{agenda_of}
-use Rattle.frame_stacks.specs.TaskView.{call_of}
+use Rattle.engine_stack.specs.TaskView.{call_of}
 use Rattle.engine_world.specs.View.{world_of}
 use Rattle.engine_tasks.specs.CallView.{answered, reply_of}
 use Rattle.engine_tasks.proofs.CallSteps.{asks, goes_on_so, able_to_go_on, able_to_conclude, is_closed}

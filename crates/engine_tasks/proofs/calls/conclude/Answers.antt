@@ -7,7 +7,7 @@ use Rattle.g_values.specs.View.{value_view}
 use Rattle.g_values.specs.declared.value.Value.{Value}
 use Rattle.signal_core.specs.Connected.{Connected}
 use Rattle.engine_world.specs.TaskView.{agenda_of}
-use Rattle.frame_stacks.specs.TaskView.{tasks_of}
+use Rattle.engine_stack.specs.TaskView.{tasks_of}
 use Rattle.engine_world.specs.View.{with_line, world_of}
 use Rattle.engine_world.specs.declared.engine.Engine.{Engine}
 use Rattle.engine_world.proofs.Counts.{config_same, keeps_said, less_held}
@@ -15,7 +15,7 @@ use Rattle.engine_world.proofs.Quiets.{quiet_same}
 use Rattle.engine_world.proofs.Registers.{tasks_world}
 use Rattle.engine_tasks.proofs.CallSteps.{concludes, able_to_receive}
 use Rattle.instance_tables.proofs.Few.{value_most}
-use Rattle.frame_stacks.specs.declared.task.Task.TheVariants as tasks
+use Rattle.engine_stack.specs.declared.task.Task.TheVariants as tasks
 use Rattle.engine_world.proofs.Held.{may_counted, value_lives}
 use Rattle.engine_world.proofs.Rooms.{task_counted}
 use Rattle.engine_tasks.proofs.Holding.{received_names}

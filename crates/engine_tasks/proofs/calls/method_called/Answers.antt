@@ -1,5 +1,5 @@
 use Rattle.engine_world.specs.SeatView.{lent_view}
-use Rattle.frame_stacks.specs.TaskView.{call_of}
+use Rattle.engine_stack.specs.TaskView.{call_of}
 use Rattle.engine_world.specs.View.{world_of}
 use Rattle.peer_shapes.specs.MethodViews as methods
 use Rattle.engine_tasks.proofs.CallSteps.{method_named, no_method_called, no_peer_called}

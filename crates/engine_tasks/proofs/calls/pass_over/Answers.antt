@@ -4,7 +4,7 @@ use Rattle.ui_machine.specs.State.Config.{Left}
 use Rattle.ui_machine.specs.Steps.{left}
 use Rattle.engine_world.specs.EngineView.{config_of}
 use Rattle.engine_world.specs.TaskView.{agenda_of}
-use Rattle.frame_stacks.specs.TaskView.{call_of}
+use Rattle.engine_stack.specs.TaskView.{call_of}
 use Rattle.engine_world.specs.View.{world_of}
 use Rattle.engine_tasks.specs.CallView.{unanswered}
 use Rattle.engine_tasks.proofs.CallSteps.{goes_on_so, is_closed, able_to_go_on, not_asked, able_to_conclude}

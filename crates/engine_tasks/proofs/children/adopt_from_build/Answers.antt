@@ -5,7 +5,7 @@ use Rattle.ui_machine.specs.State.Tasks.{Item, Building, Task}
 use Rattle.engine_world.specs.KinView.{kin_at, Kin, kin_of, joined}
 use Rattle.engine_world.specs.View.{world_of}
 use Rattle.engine_world.specs.TaskView.{agenda_of}
-use Rattle.frame_stacks.specs.TaskView.{build_from}
+use Rattle.engine_stack.specs.TaskView.{build_from}
 use Rattle.engine_world.proofs.Kin.{no_kin, no_object_there, joins_not, joins_then}
 use Rattle.ui_machine.specs.declared.arm.Arm.TheVariants as arms
 use Rattle.ui_machine.specs.Definition.{Definition}

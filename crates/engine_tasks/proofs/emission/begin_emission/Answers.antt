@@ -17,16 +17,16 @@ use Rattle.definition_format.specs.Meaning.{planned}
 use Rattle.engine_world.specs.Counting.{PassesGot}
 use Rattle.engine_world.specs.View.{with_line, world_of}
 use Rattle.engine_world.specs.TaskView.{agenda_of}
-use Rattle.frame_stacks.specs.TaskView.{emission_of, entries_to_come, new_of}
+use Rattle.engine_stack.specs.TaskView.{emission_of, entries_to_come, new_of}
 use Rattle.engine_world.specs.declared.engine.Engine.{Engine}
-use Rattle.frame_stacks.specs.declared.task.Transfers.{Transfers}
-use Rattle.frame_stacks.specs.declared.task.Transfers.TheVariants as at
+use Rattle.engine_stack.specs.declared.task.Transfers.{Transfers}
+use Rattle.engine_stack.specs.declared.task.Transfers.TheVariants as at
 use Rattle.engine_world.proofs.Counts.{keeps_same, taken_alike}
 use Rattle.engine_tasks.proofs.Emitted.{beginning_starts, begun_as, begin_unheard, begin_fit, begun_none, begin_unknown}
 use Rattle.engine_world.proofs.Left.{left_with}
 use Rattle.engine_world.proofs.Notified.{counted_on}
 use Rattle.engine_world.proofs.Ableness.{in_counted, able_as, no_arm}
-use Rattle.frame_stacks.specs.declared.task.Task.TheVariants as tasks
+use Rattle.engine_stack.specs.declared.task.Task.TheVariants as tasks
 use Rattle.engine_world.proofs.Held.{may_on}
 use Rattle.engine_world.proofs.LivingObjects.{lives_where}
 use Rattle.engine_world.proofs.Rooms.{task_counted}

@@ -6,8 +6,8 @@ use Rattle.signal_core.specs.declared.turn.Turn.{Turn}
 use Rattle.engine_world.specs.Able.{Leads}
 use Rattle.engine_world.specs.EngineView.{config_of}
 use Rattle.engine_world.specs.FirstEmissions.{first_emitted}
-use Rattle.frame_stacks.specs.FirstEmissions.{stack_emission}
-use Rattle.frame_stacks.specs.TransferView.{due_now}
+use Rattle.engine_stack.specs.FirstEmissions.{stack_emission}
+use Rattle.engine_stack.specs.TransferView.{due_now}
 use Rattle.engine_world.specs.View.{world_of}
 use Rattle.engine_world.proofs.Ableness.{able_as}
 use Rattle.engine_world.proofs.Named.{names_as}

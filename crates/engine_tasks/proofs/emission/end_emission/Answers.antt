@@ -7,7 +7,7 @@ use Rattle.g_values.specs.View.{kind_view, value_view}
 use Rattle.signal_core.specs.SignalView.{declared_view}
 use Rattle.engine_world.specs.View.{world_of}
 use Rattle.engine_world.specs.TaskView.{agenda_of}
-use Rattle.frame_stacks.specs.TaskView.{emission_of}
+use Rattle.engine_stack.specs.TaskView.{emission_of}
 use Rattle.engine_world.proofs.Counts.{both_only, config_same, less_held}
 use Rattle.engine_tasks.proofs.Emitted.{end_known, able_to_pass, end_unheard, end_unknown}
 use Rattle.engine_world.proofs.Left.{left_kept, same_agenda}

@@ -12,12 +12,12 @@ use Rattle.engine_world.specs.Able.{Leads}
 use Rattle.engine_world.specs.Counting.{OnlyTasks, nothing}
 use Rattle.engine_world.specs.EngineView.{config_of}
 use Rattle.engine_world.specs.FirstEmissions.{first_emitted}
-use Rattle.frame_stacks.specs.FirstEmissions.{Emitted, emission_view, emitted_of}
+use Rattle.engine_stack.specs.FirstEmissions.{Emitted, emission_view, emitted_of}
 use Rattle.engine_world.specs.FirstPrograms.{rest_of}
 use Rattle.engine_world.specs.Quiet.{IsQuiet}
 use Rattle.engine_world.specs.TaskView.{agenda_of}
 use Rattle.engine_world.specs.View.{world_of}
-use Rattle.frame_stacks.specs.declared.emission_frames.EmissionFrame.{EmissionFrame}
+use Rattle.engine_stack.specs.declared.emission_frames.EmissionFrame.{EmissionFrame}
 use Rattle.engine_world.specs.declared.engine.Engine.{Engine}
 use Rattle.engine_world.proofs.Ableness.{able_as}
 use Rattle.engine_world.proofs.Counts.{taken_alike}

@@ -6,7 +6,7 @@ use Rattle.signal_core.specs.Connected.{Connected}
 use Rattle.signal_core.specs.Emission.{Walk}
 use Rattle.engine_world.specs.View.{with_line}
 use Rattle.engine_world.specs.TaskView.{agenda_of}
-use Rattle.frame_stacks.specs.TaskView.{emission_of, entries_to_come, tasks_of}
+use Rattle.engine_stack.specs.TaskView.{emission_of, entries_to_come, tasks_of}
 use Rattle.engine_world.proofs.Counts.{keeps_said, taken_alike}
 use Rattle.engine_tasks.proofs.emission.start_emission.Goals as goal
 

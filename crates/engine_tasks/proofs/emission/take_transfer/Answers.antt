@@ -2,7 +2,7 @@ use Rattle.std.proofs.Common.{List, ◌∷◌, refl, ap, ◌∙◌, rules}
 use Rattle.ui_machine.specs.State.Tasks.{Task, Transferring}
 use Rattle.engine_world.specs.Counting.{nothing}
 use Rattle.engine_world.specs.FirstEmissions.{first_emitted}
-use Rattle.frame_stacks.specs.FirstEmissions.{emission_view, entries_left}
+use Rattle.engine_stack.specs.FirstEmissions.{emission_view, entries_left}
 use Rattle.engine_world.specs.FirstPrograms.{rest_of}
 use Rattle.engine_world.specs.View.{world_of}
 use Rattle.engine_world.proofs.FirstEmissions.{begins}

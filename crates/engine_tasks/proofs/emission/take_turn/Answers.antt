@@ -11,13 +11,13 @@ use Rattle.engine_world.specs.Able.{Leads}
 use Rattle.engine_world.specs.Counting.{Counts, nothing}
 use Rattle.engine_world.specs.EngineView.{config_of}
 use Rattle.engine_world.specs.FirstEmissions.{first_emitted}
-use Rattle.frame_stacks.specs.FirstEmissions.{Emitted, emission_view}
+use Rattle.engine_stack.specs.FirstEmissions.{Emitted, emission_view}
 use Rattle.engine_world.specs.Room.{HasRoom}
 use Rattle.engine_world.specs.TaskView.{agenda_of}
 use Rattle.engine_world.specs.View.{world_of}
 use Rattle.engine_world.specs.declared.engine.Engine.{Engine}
 use Rattle.engine_world.proofs.Ableness.{able_as}
-use Rattle.frame_stacks.proofs.FirstEmissions.{emission_found}
+use Rattle.engine_stack.proofs.FirstEmissions.{emission_found}
 use Rattle.engine_world.proofs.Named.{begins_names}
 use Rattle.engine_world.proofs.Registers.{on_ok}
 use Rattle.engine_tasks.specs.TurnView.{given_by}

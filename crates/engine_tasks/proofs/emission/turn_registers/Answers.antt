@@ -1,8 +1,8 @@
 use Rattle.std.proofs.Common.{◌∙◌, List, Some, map, sym, ap}
 use Rattle.g_values.specs.View.{value_view}
 use Rattle.g_values.specs.declared.value.Value.{Value}
-use Rattle.frame_stacks.specs.FirstEmissions.{Emitted}
-use Rattle.frame_stacks.proofs.FirstEmissions.{emission_found}
+use Rattle.engine_stack.specs.FirstEmissions.{Emitted}
+use Rattle.engine_stack.proofs.FirstEmissions.{emission_found}
 use Rattle.engine_tasks.specs.TurnView.{given_around}
 use Rattle.engine_tasks.proofs.emission.turn_registers.Goals as goal
 

@@ -3,8 +3,8 @@ use Rattle.ui_machine.specs.State.Tasks.{Beginning}
 use Rattle.ui_machine.specs.Steps.{uncounted}
 use Rattle.engine_world.specs.View.{world_of}
 use Rattle.engine_world.specs.TaskView.{agenda_of}
-use Rattle.frame_stacks.specs.TaskView.{new_of}
-use Rattle.frame_stacks.specs.declared.task.NewEmission.{NewEmission}
+use Rattle.engine_stack.specs.TaskView.{new_of}
+use Rattle.engine_stack.specs.declared.task.NewEmission.{NewEmission}
 use Rattle.engine_world.proofs.Emits.{not_held, args_stop, detail_stops, emits}
 use Rattle.engine_world.proofs.Ableness.{no_arm, none_stops}
 use Rattle.ui_machine.specs.declared.arm.Halt.TheVariants as halts

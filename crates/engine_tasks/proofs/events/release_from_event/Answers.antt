@@ -8,7 +8,7 @@ use Rattle.engine_world.specs.View.{held_of, world_of}
 use Rattle.engine_world.specs.TaskView.{agenda_of}
 use Rattle.engine_world.proofs.Counts.{holder_less, keeps_by, keeps_on, keeps_said, stays}
 use Rattle.engine_world.proofs.Floats.{holds_built}
-use Rattle.frame_stacks.proofs.Lists.{read-within, total-exchanged}
+use Rattle.engine_stack.proofs.Lists.{read-within, total-exchanged}
 use Rattle.engine_tasks.proofs.events.release_from_event.Goals as goal
 
 pub let_go_any-requires : goal.let_go_any-requires

@@ -10,11 +10,11 @@ use Rattle.instance_tables.specs.Weak.{Knows}
 use Rattle.engine_world.specs.ClosingView.{closed_with, or_number}
 use Rattle.engine_world.specs.Counting.{KeepsCounts, PassesGot}
 use Rattle.engine_world.specs.declared.engine.Engine.{Engine}
-use Rattle.frame_stacks.specs.declared.stacks.Frames.{Frames}
+use Rattle.engine_stack.specs.declared.stacks.Frames.{Frames}
 use Rattle.engine_world.specs.declared.world.World.{World}
 use Rattle.engine_world.specs.View.{world_of}
 use Rattle.engine_world.specs.TaskView.{agenda_of}
-use Rattle.frame_stacks.specs.TaskView.{tasks_of}
+use Rattle.engine_stack.specs.TaskView.{tasks_of}
 use Rattle.signal_core.specs.Connected.{Connected, without_object}
 use Rattle.engine_world.proofs.Counts.{keeps_on, keeps_same, keeps_finalised, only_list}
 use Rattle.machine_laws.specs.GoneLaws.{pruned}

@@ -4,8 +4,8 @@ use Rattle.ui_machine.specs.State.Tasks.{forwards}
 use Rattle.ui_machine.specs.Rules.Build.{forward_given}
 use Rattle.definition_format.specs.declared.objects.Given.{Given}
 use Rattle.definition_format.specs.Meaning.{given_view}
-use Rattle.frame_stacks.specs.declared.task.ForwardReference.{ForwardReference}
-use Rattle.frame_stacks.specs.TaskView.{items_of}
+use Rattle.engine_stack.specs.declared.task.ForwardReference.{ForwardReference}
+use Rattle.engine_stack.specs.TaskView.{items_of}
 use Rattle.engine_world.proofs.Forwarded.{one_forward_more}
 use Rattle.engine_tasks.proofs.forward_references.add_forward.Goals as goal
 

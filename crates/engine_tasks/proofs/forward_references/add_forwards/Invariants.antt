@@ -2,7 +2,7 @@ use Rattle.std.proofs.Common.{◌≡◌, ◌≤◌, ◌++◌, drop, length, map}
 use Rattle.std.specs.List.{flat_map}
 use Rattle.ui_machine.specs.Rules.Build.{forward_of}
 use Rattle.definition_format.specs.Meaning.{given_property}
-use Rattle.frame_stacks.specs.TaskView.{items_of}
+use Rattle.engine_stack.specs.TaskView.{items_of}
 use Rattle.engine_tasks.proofs.forward_references.add_forwards.Given as goal
 
 abbrev pub invariant-entries : goal.invariant-entries

@@ -1,6 +1,6 @@
 use Rattle.std.proofs.Common.{◌≡◌, ℕ, ◌++◌, ◌-◌, suc, map, drop, sym, ap, ◌∙◌, arith}
 use Rattle.ui_machine.specs.Rules.Build.{forward_items}
-use Rattle.frame_stacks.specs.TaskView.{item_of, items_of, forwards_at}
+use Rattle.engine_stack.specs.TaskView.{item_of, items_of, forwards_at}
 use Rattle.engine_world.proofs.Building.{object_within, forwards_before}
 use Rattle.engine_world.proofs.Prototypes.{forwards_past}
 use Rattle.engine_tasks.proofs.forward_references.forward_references.Goals as goal

@@ -1,7 +1,7 @@
 use Rattle.std.proofs.Common.{◌≡◌, ◌≤◌, drop}
 use Rattle.ui_machine.specs.Rules.Build.{forward_items}
 use Rattle.definition_format.specs.Meaning.{object_count}
-use Rattle.frame_stacks.specs.TaskView.{items_of}
+use Rattle.engine_stack.specs.TaskView.{items_of}
 use Rattle.engine_tasks.proofs.forward_references.forward_references.Given as goal
 
 abbrev pub invariant-places : goal.invariant-places

@@ -7,10 +7,10 @@ use Rattle.ui_machine.specs.Rules.Build.{held_object, building, building_forward
 use Rattle.ui_machine.specs.Rules.Sets.{spec_at}
 use Rattle.ui_machine.specs.Steps.{uncounted}
 use Rattle.g_values.specs.View.{value_view}
-use Rattle.frame_stacks.specs.declared.task.ForwardReference.{ForwardReference}
+use Rattle.engine_stack.specs.declared.task.ForwardReference.{ForwardReference}
 use Rattle.engine_world.specs.View.{world_of}
 use Rattle.engine_world.specs.TaskView.{agenda_of}
-use Rattle.frame_stacks.specs.TaskView.{build_end}
+use Rattle.engine_stack.specs.TaskView.{build_end}
 use Rattle.engine_world.proofs.Building.{only_forwards}
 use Rattle.engine_world.proofs.Forwarded.{held_then}
 use Rattle.engine_world.proofs.Counts.{keeps_on}

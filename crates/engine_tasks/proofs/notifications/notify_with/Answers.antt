@@ -24,9 +24,9 @@ use Rattle.bindings.specs.Due.{entry_of}
 use Rattle.engine_world.specs.Counting.{PassesGot}
 use Rattle.engine_world.specs.View.{with_line, world_of}
 use Rattle.engine_world.specs.TaskView.{agenda_of}
-use Rattle.frame_stacks.specs.TaskView.{emission_of, entries_to_come}
+use Rattle.engine_stack.specs.TaskView.{emission_of, entries_to_come}
 use Rattle.engine_world.specs.declared.engine.Engine.{Engine}
-use Rattle.frame_stacks.specs.declared.task.Transfers.TheVariants as at
+use Rattle.engine_stack.specs.declared.task.Transfers.TheVariants as at
 use Rattle.engine_world.proofs.Counts.{keeps_same, taken_alike}
 use Rattle.engine_tasks.proofs.Emitted.{begun_as, begun_some, notifying_starts, begun_none}
 use Rattle.engine_world.proofs.Left.{left_with}

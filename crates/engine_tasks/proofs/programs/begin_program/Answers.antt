@@ -12,7 +12,7 @@ use Rattle.bytecode.specs.View.{program_view}
 use Rattle.signal_core.specs.Connected.{Connected}
 use Rattle.engine_world.specs.View.{with_line, world_of}
 use Rattle.engine_world.specs.TaskView.{agenda_of}
-use Rattle.frame_stacks.specs.TaskView.{tasks_of}
+use Rattle.engine_stack.specs.TaskView.{tasks_of}
 use Rattle.ui_machine.specs.State.Config.{World}
 use Rattle.engine_world.proofs.Counts.{keeps_on, keeps_said}
 use Rattle.engine_world.proofs.Left.{left_with}

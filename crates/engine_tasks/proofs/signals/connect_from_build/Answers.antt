@@ -8,7 +8,7 @@ use Rattle.ui_machine.specs.State.Tasks.{Building, Item}
 use Rattle.ui_machine.specs.Steps.{uncounted}
 use Rattle.signal_core.specs.Connected.{connection_of}
 use Rattle.engine_world.specs.TaskView.{agenda_of}
-use Rattle.frame_stacks.specs.TaskView.{connects_from}
+use Rattle.engine_stack.specs.TaskView.{connects_from}
 use Rattle.engine_world.specs.View.{world_of}
 use Rattle.engine_world.proofs.Counts.{keeps_on}
 use Rattle.engine_world.proofs.Signals.{connects_attached}

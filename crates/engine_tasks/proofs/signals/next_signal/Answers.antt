@@ -1,6 +1,6 @@
 use Rattle.std.proofs.Common.{◌≡◌, ◌≤◌, suc, ◌+◌, length, ap, ◌∙◌, arith}
 use Rattle.ui_machine.specs.Definition.Lookups.{place_at}
-use Rattle.frame_stacks.specs.TaskView.{connects_from, signals_of}
+use Rattle.engine_stack.specs.TaskView.{connects_from, signals_of}
 use Rattle.engine_world.proofs.Signals.{next_place, next_there, none_left}
 use Rattle.engine_tasks.proofs.signals.next_signal.Goals as goal
 

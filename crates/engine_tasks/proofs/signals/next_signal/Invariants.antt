@@ -1,5 +1,5 @@
 use Rattle.std.proofs.Common.{◌≡◌}
-use Rattle.frame_stacks.specs.TaskView.{connects_from}
+use Rattle.engine_stack.specs.TaskView.{connects_from}
 use Rattle.engine_tasks.proofs.signals.next_signal.Given as goal
 
 abbrev pub invariant-loop-at : goal.invariant-loop-at

@@ -2,7 +2,7 @@ use Rattle.std.proofs.Common.{◌≡◌, ◌<◌, ◌+◌, nat_lt, [], drop, get
 use Rattle.std.proofs.lemmas.List.{nil_from_length, length-drop}
 use Rattle.ui_machine.specs.Rules.Build.{is_connecting, of_items, to_connect}
 use Rattle.ui_machine.specs.Rules.Connections.{greatest_handler}
-use Rattle.frame_stacks.specs.TaskView.{task_of}
+use Rattle.engine_stack.specs.TaskView.{task_of}
 use Rattle.engine_world.proofs.Signals.{tasks_left}
 use Rattle.engine_world.proofs.connections.has_handler_number.Goals as goal
 

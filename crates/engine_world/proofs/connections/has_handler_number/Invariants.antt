@@ -1,7 +1,7 @@
 use Rattle.std.proofs.Common.{◌≡◌, ℕ, ◌+◌, nat_lt, drop, map}
 use Rattle.ui_machine.specs.Rules.Build.{to_connect}
 use Rattle.ui_machine.specs.Rules.Connections.{greatest_handler}
-use Rattle.frame_stacks.specs.TaskView.{task_of}
+use Rattle.engine_stack.specs.TaskView.{task_of}
 use Rattle.engine_world.proofs.connections.has_handler_number.Given as goal
 
 abbrev pub invariant-loop-task : goal.invariant-loop-task

@@ -3,7 +3,7 @@ use Rattle.ui_machine.specs.Definition.Lookups.{place_at}
 use Rattle.ui_machine.specs.Rules.Build.{is_connecting}
 use Rattle.ui_machine.specs.Rules.Connections.{greatest_handler}
 use Rattle.ui_machine.specs.Seq.{total}
-use Rattle.frame_stacks.specs.TaskView.{connects_from, signals_of}
+use Rattle.engine_stack.specs.TaskView.{connects_from, signals_of}
 use Rattle.engine_world.proofs.Signals.{count_from, none_left, taken_step}
 use Rattle.engine_world.proofs.connections.taken_from.Goals as goal
 

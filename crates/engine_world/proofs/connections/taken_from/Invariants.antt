@@ -2,7 +2,7 @@ use Rattle.std.proofs.Common.{◌≡◌, ℕ, ◌+◌, nat_lt}
 use Rattle.ui_machine.specs.Rules.Build.{is_connecting}
 use Rattle.ui_machine.specs.Rules.Connections.{greatest_handler}
 use Rattle.ui_machine.specs.Seq.{total}
-use Rattle.frame_stacks.specs.TaskView.{connects_from}
+use Rattle.engine_stack.specs.TaskView.{connects_from}
 use Rattle.engine_world.proofs.connections.taken_from.Given as goal
 
 abbrev pub invariant-loop-at : goal.invariant-loop-at

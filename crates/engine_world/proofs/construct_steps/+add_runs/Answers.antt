@@ -2,7 +2,7 @@ use Rattle.std.proofs.Common.{List, ap, sym, ◌∙◌, subst}
 use Rattle.ui_machine.specs.Definition.Types.{GType}
 use Rattle.ui_machine.specs.Rules.Ancestry.{parent_of}
 use Rattle.type_tree.specs.Tree.{IsTree}
-use Rattle.frame_stacks.specs.MakingView.{making_steps}
+use Rattle.engine_stack.specs.MakingView.{making_steps}
 use Rattle.engine_world.proofs.ConstructedRuns.{runs_before_child}
 use Rattle.engine_world.proofs.construct_steps.+add_runs.Goals as goal
 

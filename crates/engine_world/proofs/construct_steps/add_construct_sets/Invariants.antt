@@ -3,7 +3,7 @@ use Rattle.ui_machine.specs.Definition.Lookups.{specs_of}
 use Rattle.ui_machine.specs.Rules.Construction.{construct_sets}
 use Rattle.engine_world.specs.View.{world_of}
 use Rattle.engine_world.specs.MakingView.{early}
-use Rattle.frame_stacks.specs.MakingView.{making_steps}
+use Rattle.engine_stack.specs.MakingView.{making_steps}
 use Rattle.engine_world.proofs.construct_steps.add_construct_sets.Given as goal
 
 abbrev pub invariant-slots : goal.invariant-slots

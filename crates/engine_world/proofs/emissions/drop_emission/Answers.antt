@@ -5,11 +5,11 @@ use Rattle.ui_machine.specs.State.Tasks as config
 use Rattle.g_values.specs.View.{value_view}
 use Rattle.g_values.specs.declared.value.Value.{Value}
 use Rattle.engine_world.specs.FirstEmissions.{first_emitted}
-use Rattle.frame_stacks.specs.FirstEmissions.{Emitted}
+use Rattle.engine_stack.specs.FirstEmissions.{Emitted}
 use Rattle.engine_world.specs.FirstPrograms.{rest_of}
 use Rattle.engine_world.proofs.Counts.{dropped}
 use Rattle.engine_world.proofs.FirstEmissions.{begins}
-use Rattle.frame_stacks.proofs.FirstEmissions.{emission_found}
+use Rattle.engine_stack.proofs.FirstEmissions.{emission_found}
 use Rattle.engine_world.proofs.emissions.drop_emission.Goals as goal
 
 pub let_go_values-requires : goal.let_go_values-requires

@@ -1,6 +1,6 @@
 use Rattle.std.proofs.Common.{ap, arith}
 use Rattle.ui_machine.specs.State.References.{same}
-use Rattle.frame_stacks.specs.TaskView.{emission_of}
+use Rattle.engine_stack.specs.TaskView.{emission_of}
 use Rattle.engine_world.proofs.Counts.{pushed_rest}
 use Rattle.engine_world.proofs.Held.{may_less, may_one}
 use Rattle.engine_world.proofs.emissions.push_emission.Goals as goal

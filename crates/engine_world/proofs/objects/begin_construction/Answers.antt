@@ -3,7 +3,7 @@ use Rattle.ui_machine.specs.Rules.Construction.{lent}
 use Rattle.ui_machine.specs.State.Config.{World}
 use Rattle.ui_machine.specs.State.Peers.{Peer}
 use Rattle.signal_core.specs.Connected.{Connected}
-use Rattle.frame_stacks.specs.TaskView.{tasks_of}
+use Rattle.engine_stack.specs.TaskView.{tasks_of}
 use Rattle.engine_world.specs.View.{with_line, world_of}
 use Rattle.engine_world.proofs.Counts.{keeps_lent, keeps_on, keeps_said}
 use Rattle.engine_world.proofs.Held.{pushes_one}

@@ -3,11 +3,11 @@ use Rattle.ui_machine.specs.Seq.{total}
 use Rattle.ui_machine.specs.State.References.{in_register, in_task}
 use Rattle.ui_machine.specs.State.Tasks as config
 use Rattle.bytecode.specs.Computing.{registers_of}
-use Rattle.frame_stacks.specs.HeldByTasks.{in_frame}
+use Rattle.engine_stack.specs.HeldByTasks.{in_frame}
 use Rattle.engine_world.specs.FirstPrograms.{first_frame, rest_of}
 use Rattle.engine_world.proofs.Counts.{dropped}
 use Rattle.engine_world.proofs.FirstPrograms.{begins}
-use Rattle.frame_stacks.proofs.FirstPrograms.{frame_found}
+use Rattle.engine_stack.proofs.FirstPrograms.{frame_found}
 use Rattle.engine_world.proofs.program_frames.drop_program.Goals as goal
 
 pub let_go_registers-requires : goal.let_go_registers-requires

@@ -1,5 +1,5 @@
 use Rattle.std.proofs.Common.{sym}
-use Rattle.frame_stacks.proofs.FirstPrograms.{frame_found}
+use Rattle.engine_stack.proofs.FirstPrograms.{frame_found}
 use Rattle.engine_world.proofs.program_frames.first_frame.Goals as goal
 
 pub returns : goal.returns

@@ -4,7 +4,7 @@ use Rattle.ui_machine.specs.State.Tasks.{Task}
 use Rattle.g_values.specs.View.{value_view}
 use Rattle.engine_world.specs.Able.{Leads}
 use Rattle.engine_world.specs.FirstPrograms.{first_frame, rest_of}
-use Rattle.frame_stacks.specs.FirstPrograms.{first_program}
+use Rattle.engine_stack.specs.FirstPrograms.{first_program}
 use Rattle.engine_world.specs.TaskView.{agenda_of}
 use Rattle.engine_world.proofs.Ableness.{able_as}
 use Rattle.engine_world.proofs.FirstPrograms.{begins}

@@ -8,7 +8,7 @@ use Rattle.bytecode.specs.View.{program_view}
 use Rattle.frames.specs.FrameView.{set_values}
 use Rattle.engine_world.specs.View.{held_of}
 use Rattle.engine_world.specs.TaskView.{agenda_of}
-use Rattle.frame_stacks.specs.TaskView.{tasks_of}
+use Rattle.engine_stack.specs.TaskView.{tasks_of}
 use Rattle.engine_world.proofs.Begun.{first_total, set_total}
 use Rattle.engine_world.proofs.Counts.{keeps_by, holder_more}
 use Rattle.engine_world.proofs.Held.{may_by, may_less}

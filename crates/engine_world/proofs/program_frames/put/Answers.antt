@@ -8,7 +8,7 @@ use Rattle.engine_world.specs.FirstPrograms.{first_frame, rest_of}
 use Rattle.engine_world.proofs.Counts.{both_only}
 use Rattle.engine_world.proofs.FirstPrograms.{begins, put_in_place}
 use Rattle.engine_world.proofs.Held.{may_less}
-use Rattle.frame_stacks.proofs.Lists.{read-within}
+use Rattle.engine_stack.proofs.Lists.{read-within}
 use Rattle.engine_world.proofs.Registers.{is_there, total_written}
 use Rattle.engine_world.proofs.program_frames.put.Goals as goal
 

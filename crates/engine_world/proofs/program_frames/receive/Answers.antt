@@ -6,7 +6,7 @@ use Rattle.g_values.specs.View.{value_view}
 use Rattle.engine_world.specs.Able.{Able}
 use Rattle.ui_machine.specs.Instructions.Registers.{with_register}
 use Rattle.engine_world.specs.FirstPrograms.{first_frame, rest_of}
-use Rattle.frame_stacks.specs.FirstPrograms.{stack_frame}
+use Rattle.engine_stack.specs.FirstPrograms.{stack_frame}
 use Rattle.engine_world.proofs.FirstPrograms.{begins}
 use Rattle.engine_world.proofs.Registers.{receives, stack_same_held, writes_there}
 use Rattle.engine_world.proofs.program_frames.receive.Goals as goal

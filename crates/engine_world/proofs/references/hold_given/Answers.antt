@@ -3,9 +3,9 @@ use Rattle.ui_machine.specs.Seq.{total}
 use Rattle.ui_machine.specs.State.References.{in_value}
 use Rattle.g_values.specs.View.{value_view}
 use Rattle.g_values.specs.declared.value.Value.{Value}
-use Rattle.frame_stacks.specs.HeldByTasks.{in_given}
-use Rattle.frame_stacks.specs.TaskView.{task_of}
-use Rattle.frame_stacks.specs.declared.task.Task as code
+use Rattle.engine_stack.specs.HeldByTasks.{in_given}
+use Rattle.engine_stack.specs.TaskView.{task_of}
+use Rattle.engine_stack.specs.declared.task.Task as code
 use Rattle.engine_world.proofs.Held.{any, may_less}
 use Rattle.engine_world.proofs.references.hold_given.Goals as goal
 

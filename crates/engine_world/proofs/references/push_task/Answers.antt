@@ -3,10 +3,10 @@ use Rattle.ui_machine.specs.Seq.{total}
 use Rattle.ui_machine.specs.State.References.{in_task}
 use Rattle.ui_machine.specs.State.Tasks.{Task}
 use Rattle.engine_world.specs.Counting.{MayHold}
-use Rattle.frame_stacks.specs.HeldByTasks.{in_subject}
+use Rattle.engine_stack.specs.HeldByTasks.{in_subject}
 use Rattle.engine_world.specs.View.{held_of}
 use Rattle.engine_world.specs.TaskView.{task_in, agenda_of}
-use Rattle.frame_stacks.specs.TaskView.{task_of, tasks_of}
+use Rattle.engine_stack.specs.TaskView.{task_of, tasks_of}
 use Rattle.engine_world.proofs.Counts.{keeps_by, holder_more, both_only}
 use Rattle.engine_world.proofs.Held.{any, may_after, may_by, may_less}
 use Rattle.engine_world.proofs.Parts.{parts, task_alike}

@@ -4,7 +4,7 @@ use Rattle.ui_machine.specs.State.References.{in_source}
 use Rattle.ui_machine.specs.State.Sources.{new_source}
 use Rattle.main_context.specs.Attached.{Attached}
 use Rattle.main_context.specs.Dues.{identity_of}
-use Rattle.frame_stacks.proofs.Lists.{total-append}
+use Rattle.engine_stack.proofs.Lists.{total-append}
 use Rattle.engine_world.proofs.SourceCounts.{context_moves}
 use Rattle.engine_world.proofs.sources.attach_source.Goals as goal
 

@@ -1,5 +1,5 @@
 use Rattle.std.proofs.Common.{◌≡◌, arith, [], ◌∷◌, ◌++◌, ◌∙◌, ap, refl, sym, length, append-nil, inl, inr}
-use Rattle.engine_pools.proofs.Points.{same_here, same_on}
+use Rattle.engine_dispatches.proofs.Points.{same_here, same_on}
 use Rattle.ui_engine.specs.SessionView.{state_at, without_lines}
 use Rattle.event_lines.specs.Events.{event_replies}
 use Rattle.event_lines.specs.Lines.{lines_of}

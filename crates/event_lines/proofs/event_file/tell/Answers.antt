@@ -3,8 +3,8 @@ use Rattle.std.proofs.lemmas.List.{length-map}
 use Rattle.std.proofs.lemmas.Result.{err_from_is_err_and}
 use Rattle.std.specs.Prelude.{string_bytes}
 use Rattle.ui_machine.specs.Definition.{Definition}
-use Rattle.engine_pools.specs.PoolView.{world_at}
-use Rattle.engine_pools.proofs.Points.{same_here}
+use Rattle.engine_dispatches.specs.PoolView.{world_at}
+use Rattle.engine_dispatches.proofs.Points.{same_here}
 use Rattle.ui_engine.specs.SessionView.{ComesOn, state_at}
 use Rattle.event_lines.specs.LineOutcome.{outcome_with}
 use Rattle.event_lines.specs.LineStarts.{since}

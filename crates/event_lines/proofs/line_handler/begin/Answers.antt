@@ -3,7 +3,7 @@ use Rattle.std.proofs.lemmas.Result.{err_from_is_err_and}
 use Rattle.ui_machine.specs.Definition.{Definition}
 use Rattle.definition_format.specs.Meaning.{event_of}
 use Rattle.builder_defs.specs.EventMeaning.{event_denoted, Fails}
-use Rattle.law_sessions.specs.Sessions.{EventRead}
+use Rattle.law_steps.specs.Served.Sessions.{EventRead}
 use Rattle.event_lines.proofs.EventLemmas.{begun, halted, unread}
 use Rattle.event_lines.proofs.line_handler.begin.Goals as goal
 

@@ -1,8 +1,8 @@
 use Rattle.std.proofs.Common.{Result, subst}
-use Rattle.law_pools.proofs.PoolProofs.{matched_is_ready}
+use Rattle.law_peers.proofs.PoolProofs.{matched_is_ready}
 use Rattle.native_peers.specs.Matching.{as_peers}
-use Rattle.engine_pools.proofs.Points.{same_here}
-use Rattle.engine_pools.specs.declared.dispatches.Reply.{Reply}
+use Rattle.engine_dispatches.proofs.Points.{same_here}
+use Rattle.engine_dispatches.specs.declared.dispatches.Reply.{Reply}
 use Rattle.ui_engine.specs.declared.faults.SessionFault.{SessionFault}
 use Rattle.ui_engine.specs.SessionView.{Comes, building, state_at}
 use Rattle.event_lines.specs.Opening.{IsTaken}

@@ -1,6 +1,6 @@
 use Rattle.std.proofs.Common.{refl}
 use Rattle.native_peers.specs.Matching.{as_peers}
-use Rattle.engine_pools.proofs.Points.{same_here}
+use Rattle.engine_dispatches.proofs.Points.{same_here}
 use Rattle.event_lines.proofs.Openings.{opens_refused, opens_unbegun}
 use Rattle.event_lines.proofs.session_start.open.Goals as goal
 

@@ -1,5 +1,5 @@
 use Rattle.std.proofs.Common.{refl}
-use Rattle.law_pools.specs.Needs.{mismatch}
+use Rattle.law_peers.specs.Needs.{mismatch}
 use Rattle.native_peers.specs.Matching.{as_peers}
 use Rattle.event_lines.proofs.Openings.{opens_mismatched, opens_unbegun}
 use Rattle.event_lines.proofs.session_start.unstarted.Goals as goal

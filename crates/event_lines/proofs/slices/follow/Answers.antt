@@ -1,8 +1,8 @@
 use Rattle.std.proofs.Common.{◌<◌, Ok, Err, refl, ap, sym, subst, arith}
 use Rattle.std.proofs.lemmas.Result.{err_from_is_err_and}
-use Rattle.engine_pools.specs.declared.courses.Progress.{Progress}
-use Rattle.engine_pools.specs.declared.courses.Progress.TheVariants as progress
-use Rattle.engine_pools.proofs.Points.{same_here, same_on}
+use Rattle.engine_dispatches.specs.declared.courses.Progress.{Progress}
+use Rattle.engine_dispatches.specs.declared.courses.Progress.TheVariants as progress
+use Rattle.engine_dispatches.proofs.Points.{same_here, same_on}
 use Rattle.ui_engine.specs.SessionView.{SessionState}
 use Rattle.event_lines.specs.Slices.{most_left}
 use Rattle.event_lines.proofs.SliceLemmas.{comes_to, far_as, far_begins, far_ended, far_on, far_said, far_stopped, far_torn, fewer_steps, has_course}

@@ -1,5 +1,5 @@
 use Rattle.std.proofs.Common.{refl, []}
-use Rattle.engine_pools.proofs.Points.{same_here}
+use Rattle.engine_dispatches.proofs.Points.{same_here}
 use Rattle.ui_engine.specs.SessionView.{state_at, without_lines}
 use Rattle.event_lines.specs.Events.{event_replies}
 use Rattle.event_lines.proofs.Openings.{breaks_off, plays}

@@ -1,7 +1,7 @@
 use Rattle.std.proofs.Common.{◌≡◌, refl}
 use Rattle.builder_defs.specs.Denoted.{denoted}
 use Rattle.native_peers.specs.Matching.{as_peers}
-use Rattle.engine_pools.proofs.Points.{same_on}
+use Rattle.engine_dispatches.proofs.Points.{same_on}
 use Rattle.event_lines.proofs.Openings.{denoted_where_built, on_err, on_ok, ran_stopped, ran_unbegun, ran_refused, ran_built}
 use Rattle.event_lines.proofs.whole_runs.run_with.Goals as goal
 

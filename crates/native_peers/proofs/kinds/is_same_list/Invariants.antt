@@ -1,6 +1,6 @@
 use Rattle.std.proofs.Common.{◌≡◌, drop, length, map}
 use Rattle.g_values.specs.View.{kind_view}
-use Rattle.law_pools.specs.Needs.{same_kinds}
+use Rattle.law_peers.specs.Needs.{same_kinds}
 use Rattle.native_peers.proofs.kinds.is_same_list.Given as goal
 
 abbrev pub invariant-kinds : goal.invariant-kinds

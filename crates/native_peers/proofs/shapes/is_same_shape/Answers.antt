@@ -1,6 +1,6 @@
 use Rattle.std.proofs.Common.{◌≡◌, ◌<◌, ◌+◌, ℕ, suc, List, map, drop, Option, Some, None, length, slice_get, sym, subst, ◌∙◌, ⊎_elim, arith}
 use Rattle.std.proofs.lemmas.Option.{slice_get_cases}
-use Rattle.law_pools.specs.Needs.{same_shape}
+use Rattle.law_peers.specs.Needs.{same_shape}
 use Rattle.peer_shapes.specs.MethodViews.{lent_view, method_view}
 use Rattle.native_peers.proofs.Lengths.{one_decides, rest_decides, shapes_not_same}
 use Rattle.native_peers.proofs.Places.{here}

@@ -1,5 +1,5 @@
 use Rattle.std.proofs.Common.{◌≡◌, drop, length, map}
-use Rattle.law_pools.specs.Needs.{same_shape}
+use Rattle.law_peers.specs.Needs.{same_shape}
 use Rattle.peer_shapes.specs.MethodViews.{method_view}
 use Rattle.native_peers.proofs.shapes.is_same_shape.Given as goal
 

@@ -1,7 +1,7 @@
 use Rattle.std.proofs.Common.{◌≡◌, ◌++◌, List, ℕ, map, take}
 use Rattle.ui_machine.specs.Rules.Construction.{nearest_shape}
 use Rattle.definition_format.specs.Meaning.{name_bytes}
-use Rattle.law_pools.specs.Needs.{methods_in}
+use Rattle.law_peers.specs.Needs.{methods_in}
 use Rattle.native_peers.specs.Matching.{need_view}
 use Rattle.needed_peers.proofs.needs.add_place.Given as goal
 

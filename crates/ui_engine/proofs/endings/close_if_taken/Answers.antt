@@ -1,5 +1,5 @@
 use Rattle.std.proofs.Common.{sym, ◌∙◌}
-use Rattle.engine_pools.proofs.PeerByPeer.{peer_opens}
+use Rattle.engine_dispatches.proofs.PeerByPeer.{peer_opens}
 use Rattle.ui_engine.proofs.TakenProofs.{shut_already, shut_now, untaken}
 use Rattle.ui_engine.proofs.endings.close_if_taken.Goals as goal
 use Rattle.ui_engine.proofs.endings.close_if_taken.Goals.{else-is_taken-via-then-is_taken+else-is_open, else-is_taken-via-else-is_taken}

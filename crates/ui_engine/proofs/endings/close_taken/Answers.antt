@@ -1,5 +1,5 @@
 use Rattle.std.proofs.Common.{◌≤◌, ◌<◌, length, arith}
-use Rattle.engine_pools.proofs.Points.{same_on}
+use Rattle.engine_dispatches.proofs.Points.{same_on}
 use Rattle.ui_engine.proofs.TakenProofs.{inside_still, taken_end, taken_on}
 use Rattle.ui_engine.proofs.endings.close_taken.Goals as goal
 

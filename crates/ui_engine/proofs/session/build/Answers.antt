@@ -6,10 +6,10 @@ use Rattle.ui_machine.specs.State.Config.{Config}
 use Rattle.ui_machine.specs.State.Tasks.{Building}
 use Rattle.native_peers.specs.Matching.{as_peers}
 use Rattle.engine_world.specs.View.{world_of}
-use Rattle.frame_stacks.specs.TaskView.{build_from}
-use Rattle.engine_pools.specs.Dispatched.{IsAtRest}
-use Rattle.engine_pools.specs.PoolView.{world_at}
-use Rattle.engine_pools.specs.Safety.{IsSafe}
+use Rattle.engine_stack.specs.TaskView.{build_from}
+use Rattle.engine_dispatches.specs.Dispatched.{IsAtRest}
+use Rattle.engine_dispatches.specs.PoolView.{world_at}
+use Rattle.engine_dispatches.specs.Safety.{IsSafe}
 use Rattle.ui_engine.specs.declared.cores.Phase.TheVariants as phases
 use Rattle.ui_engine.specs.declared.faults.SessionFault.{SessionFault}
 use Rattle.ui_engine.specs.SessionView.{Comes, building, state_at}

@@ -1,5 +1,5 @@
 use Rattle.std.proofs.Common.{◌≡◌, List, None, map, sym, ap, ◌∙◌, arith}
-use Rattle.law_pools.specs.Needs.{Need, mismatch, mismatch_with}
+use Rattle.law_peers.specs.Needs.{Need, mismatch, mismatch_with}
 use Rattle.native_peers.specs.Matching.{as_peers, mismatch_of, need_view}
 use Rattle.ui_engine.proofs.Beginning.{begun_at}
 use Rattle.ui_engine.proofs.starts.begin.Goals as goal

@@ -2,12 +2,12 @@ use Rattle.std.proofs.Common.{â„•, Global, List, Option, Vec, ap, subst, sym, â—
 use Rattle.ui_machine.specs.Output.Lines as lines
 use Rattle.ui_machine.specs.State.Config.{World, said}
 use Rattle.signal_core.specs.Connected.{Connected}
-use Rattle.linked_programs.specs.Linked.{AreLinked, Linked}
+use Rattle.engine_links.specs.Linked.{AreLinked, Linked}
 use Rattle.engine_world.specs.declared.engine.Engine.{Engine}
 use Rattle.ui_machine.specs.State.Peers.{Peer}
 use Rattle.engine_world.specs.Counting.{Connects, PassesGot}
 use Rattle.engine_world.specs.PeerPlaces.{AreNumbered}
-use Rattle.frame_stacks.specs.KnownHandlers.{AllTakeKnownHandlers}
+use Rattle.engine_stack.specs.KnownHandlers.{AllTakeKnownHandlers}
 use Rattle.engine_world.specs.TaskView.{agenda_of}
 use Rattle.engine_world.proofs.GotPeers.{zeros_got}
 use Rattle.ui_engine.proofs.Beginning.{none_counted_with}

@@ -1,8 +1,8 @@
 use Rattle.std.proofs.Common.{◌≡◌, ℕ, ◌+◌, map, take}
 use Rattle.law_typing.specs.Laws.Capped.{capped}
 use Rattle.node_numbers.specs.Numbers.{of_node}
-use Rattle.graph_sketches.specs.Numbered.{program}
-use Rattle.graph_numbers.specs.Counts.{at}
+use Rattle.verify_sketches.specs.Numbered.{program}
+use Rattle.verify_numbers.specs.Counts.{at}
 use Rattle.verified.specs.Told.{source_view}
 use Rattle.ui_verifier.proofs.bounds.source_bounds.Given as goal
 

@@ -8,11 +8,11 @@ use Rattle.law_typing.specs.Graph.Tables.{entry, greatest}
 use Rattle.law_typing.specs.Laws.Capped.{capped}
 use Rattle.law_numbering.specs.Tables.{value_of}
 use Rattle.node_numbers.specs.Numbers.{AreWithin, of_node}
-use Rattle.graph_sketches.specs.Numbered.{program}
-use Rattle.graph_sketches.specs.View.{channel_view, sketch_view}
-use Rattle.graph_numbers.specs.Counts.{Counts, at, at_in}
-use Rattle.graph_numbers.proofs.Lists.{mapped_length}
-use Rattle.graph_bounds.specs.ByChannel.{Gives, GivesCapped, build_cost, makings_depth}
+use Rattle.verify_sketches.specs.Numbered.{program}
+use Rattle.verify_sketches.specs.View.{channel_view, sketch_view}
+use Rattle.verify_numbers.specs.Counts.{Counts, at, at_in}
+use Rattle.verify_numbers.proofs.Lists.{mapped_length}
+use Rattle.verify_bounds.specs.ByChannel.{Gives, GivesCapped, build_cost, makings_depth}
 use Rattle.ui_verifier.specs.Bounds.{with_objects}
 use Rattle.ui_verifier.proofs.FewNumbers.{within_listed}
 use Rattle.ui_verifier.proofs.ToldNumbers.{bounds_are, by_cost, by_depth, cost_list, costs_are, depth_is, depth_list, depths_are, gives_costs, gives_depths, ranks_are, sources_are}

@@ -1,6 +1,6 @@
 use Rattle.std.proofs.Common.{◌∙◌, sym, ap, subst, ◌++◌, drop, take, map}
 use Rattle.law_typing.specs.Verdict.Judges.{IsToldCycle}
-use Rattle.graph_numbers.specs.Links.{links_view}
+use Rattle.verify_numbers.specs.Links.{links_view}
 use Rattle.ui_verifier.specs.Cycles.{IsFirst, lines}
 use Rattle.ui_verifier.specs.Verdicts.{link_view}
 use Rattle.ui_verifier.proofs.CycleProofs.{told}

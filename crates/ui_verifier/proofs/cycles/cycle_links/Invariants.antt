@@ -1,7 +1,7 @@
 use Rattle.std.proofs.Common.{◌≡◌, map, take}
 use Rattle.law_typing.specs.Graph.{Graph}
-use Rattle.graph_sketches.specs.Sketches.{channels_in}
-use Rattle.graph_numbers.specs.Links.{links_view}
+use Rattle.verify_sketches.specs.Sketches.{channels_in}
+use Rattle.verify_numbers.specs.Links.{links_view}
 use Rattle.ui_verifier.specs.Verdicts.{link_view}
 use Rattle.ui_verifier.proofs.cycles.cycle_links.Given as goal
 

@@ -1,5 +1,5 @@
 use Rattle.std.proofs.Common.{◌≡◌, ◌∙◌, sym, ◌+◌, arith}
-use Rattle.definition_graph.specs.ChannelView.{channel_of}
+use Rattle.verify_graph.specs.ChannelView.{channel_of}
 use Rattle.ui_verifier.specs.Cycles.{line_among}
 use Rattle.ui_verifier.proofs.CycleProofs.{line_is, no_line}
 use Rattle.ui_verifier.proofs.cycles.line_of.Goals as goal

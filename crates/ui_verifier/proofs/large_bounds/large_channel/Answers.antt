@@ -2,10 +2,10 @@ use Rattle.std.proofs.Common.{◌∙◌, sym, ap, map, slice_get, length, ◌≤
 use Rattle.std.specs.List.{find}
 use Rattle.law_typing.specs.Graph.Channels as entries
 use Rattle.law_idle.specs.Idle.{busy_channels}
-use Rattle.definition_graph.specs.ChannelView.{channel_of}
-use Rattle.definition_graph.specs.Numbers.{IsOnce}
+use Rattle.verify_graph.specs.ChannelView.{channel_of}
+use Rattle.verify_graph.specs.Numbers.{IsOnce}
 use Rattle.ui_verifier.specs.Large.{is_large}
-use Rattle.graph_bounds.proofs.BuiltPlaces.{past}
+use Rattle.verify_bounds.proofs.BuiltPlaces.{past}
 use Rattle.ui_verifier.proofs.BusyBounds.{by_busy, large_at}
 use Rattle.ui_verifier.proofs.LargeProofs.{first_here, first_later}
 use Rattle.ui_verifier.proofs.large_bounds.large_channel.Goals as goal

@@ -1,7 +1,7 @@
 use Rattle.std.proofs.Common.{◌≡◌, ◌∙◌, sym, ap, ◌++◌, ◌+◌, suc, map, drop, string_bytes}
 use Rattle.std.proofs.lemmas.List.{append_assoc}
 use Rattle.law_typing.specs.Verdict.FaultText.{link_text}
-use Rattle.graph_numbers.proofs.Lists.{one_more}
+use Rattle.verify_numbers.proofs.Lists.{one_more}
 use Rattle.ui_verifier.specs.Texts.{links_from, separator}
 use Rattle.ui_verifier.specs.Verdicts.{link_view}
 use Rattle.ui_verifier.proofs.LinkTexts.{from_first, from_link}

@@ -7,7 +7,7 @@ use Rattle.law_judging.proofs.TurnProofs.{cycle_is_told}
 use Rattle.law_idle.specs.Idle.{busy_graph, is_busy}
 use Rattle.law_idle.proofs.IdleProofs.{others_are_idle}
 use Rattle.law_idle.proofs.Resting.{cycles_are_same}
-use Rattle.graph_numbers.specs.Links.{links_view}
+use Rattle.verify_numbers.specs.Links.{links_view}
 use Rattle.ui_verifier.specs.Verdicts.{link_view}
 use Rattle.ui_verifier.proofs.ToldNumbers.{all_channels, same_channels}
 use Rattle.ui_verifier.proofs.verdicts.cycle_refusal.Goals as goal

@@ -1,9 +1,9 @@
 use Rattle.std.proofs.Common.{◌∙◌, sym, ap, subst, All}
 use Rattle.ui_machine.specs.Definition.{Definition}
 use Rattle.law_idle.specs.Idle.{busy_graph}
-use Rattle.graph_sketches.specs.View.{sketch_view}
-use Rattle.graph_numbers.specs.Links.{NamesBelow, links_view}
-use Rattle.graph_numbers.specs.Reckonings.{AreFewNumbers, AreGraphNumbers, IsCycleOnce, Reckons}
+use Rattle.verify_sketches.specs.View.{sketch_view}
+use Rattle.verify_numbers.specs.Links.{NamesBelow, links_view}
+use Rattle.verify_numbers.specs.Reckonings.{AreFewNumbers, AreGraphNumbers, IsCycleOnce, Reckons}
 use Rattle.ui_verifier.proofs.ToldNumbers.{by_cost, by_depth, by_rank}
 use Rattle.ui_verifier.proofs.verdicts.judge_sketch.Goals as goal
 

@@ -1,7 +1,7 @@
 use Rattle.std.proofs.Common.{◌∙◌, length, refl, sym, ap}
 use Rattle.std.proofs.lemmas.Bool.{ltb-true}
 use Rattle.std.proofs.lemmas.Option.{slice_get_read}
-use Rattle.definition_graph.proofs.Prefixes.{read_past}
+use Rattle.verify_graph.proofs.Prefixes.{read_past}
 use Rattle.verified.specs.Told.{value_at}
 use Rattle.verified.proofs.LookUps.{read_got}
 use Rattle.verified.proofs.verified.value_of.Goals as goal

@@ -1,7 +1,7 @@
 use Rattle.std.proofs.Common.{◌≡◌, Ok, subst}
 use Rattle.std.proofs.lemmas.Result.{err_from_is_err_and}
 use Rattle.ui_machine.specs.Definition.{Definition}
-use Rattle.law_sessions.specs.Sessions.{EventRead}
+use Rattle.law_steps.specs.Served.Sessions.{EventRead}
 use Rattle.definition_format.specs.Meaning.{event_of}
 use Rattle.builder_defs.specs.EventMeaning.{Fails, event_denoted}
 use Rattle.event_lines.proofs.EventLemmas.{unread}

@@ -1,5 +1,5 @@
 use Rattle.std.proofs.Common.{rules, ◌<◌, ◌∙◌, length, string_bytes, sym, ap}
-use Rattle.law_pools.specs.Needs.{wrong_with}
+use Rattle.law_peers.specs.Needs.{wrong_with}
 use Rattle.native_peers.specs.Matching.{need_view}
 use Rattle.native_peers.proofs.Finding.{within}
 use Rattle.native_peers.proofs.Named.{nobody, somebody}

@@ -1,5 +1,5 @@
 use Rattle.std.proofs.Common.{◌≡◌, drop, map}
-use Rattle.law_pools.specs.Needs.{first_wrong}
+use Rattle.law_peers.specs.Needs.{first_wrong}
 use Rattle.native_peers.specs.Matching.{as_peers, need_view}
 use Rattle.native_peers.specs.Pool.{entries, seen}
 use Rattle.native_peers.proofs.pools.PeerPool.serves_all.Given as goal

@@ -1,5 +1,5 @@
 use Rattle.std.proofs.Common.{◌≡◌, drop, map}
-use Rattle.law_pools.specs.Needs.{first_unused}
+use Rattle.law_peers.specs.Needs.{first_unused}
 use Rattle.native_peers.specs.Matching.{as_peers, need_view}
 use Rattle.native_peers.specs.Pool.{entries, seen}
 use Rattle.native_peers.proofs.pools.PeerPool.used_up.Given as goal

@@ -1,5 +1,5 @@
 use Rattle.std.proofs.Common.{◌≡◌, ◌∷◌, [], drop, map}
-use Rattle.law_pools.specs.Needs.{first_wrong}
+use Rattle.law_peers.specs.Needs.{first_wrong}
 use Rattle.native_peers.specs.Matching.{as_peer, need_view}
 use Rattle.native_peers.specs.StandIns.{seen_of}
 use Rattle.native_peers.proofs.stand_ins.StandIn.serves_all.Given as goal

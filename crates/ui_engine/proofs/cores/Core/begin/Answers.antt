@@ -3,8 +3,8 @@ use Rattle.ui_machine.specs.Rules.Events.{refusal}
 use Rattle.definition_format.specs.declared.events.Event as code
 use Rattle.ui_machine.specs.State.Tasks as config
 use Rattle.definition_format.specs.Meaning.{event_of, request_of}
-use Rattle.engine_pools.specs.PoolView.{world_at}
-use Rattle.engine_pools.specs.Promises.{EventKeeps}
+use Rattle.engine_dispatches.specs.PoolView.{world_at}
+use Rattle.engine_dispatches.specs.Promises.{EventKeeps}
 use Rattle.ui_engine.specs.declared.cores.Phase.{Phase}
 use Rattle.ui_engine.specs.Phases.{has_stopped}
 use Rattle.ui_engine.specs.SessionView.{BeginsEvent, SessionState}

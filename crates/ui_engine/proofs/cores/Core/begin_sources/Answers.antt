@@ -1,9 +1,9 @@
 use Rattle.std.proofs.Common.{[], None, Ok, ap, subst, sym, ◌∙◌}
 use Rattle.ui_machine.specs.Definition.{Definition}
 use Rattle.engine_world.specs.View.{world_of}
-use Rattle.engine_pools.specs.Courses.{HasCome, nothing_yet}
-use Rattle.engine_pools.specs.Dispatched.{IsAtRest}
-use Rattle.engine_pools.specs.PoolView.{world_at}
+use Rattle.engine_dispatches.specs.Courses.{HasCome, nothing_yet}
+use Rattle.engine_dispatches.specs.Dispatched.{IsAtRest}
+use Rattle.engine_dispatches.specs.PoolView.{world_at}
 use Rattle.ui_engine.specs.SessionView.{ComesOn, SessionState}
 use Rattle.ui_engine.proofs.Ending.{session_at}
 use Rattle.ui_engine.proofs.InParts.{kept_at_rest, kept_begun, sources_begin, room_for_one}

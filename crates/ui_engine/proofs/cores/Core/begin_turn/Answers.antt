@@ -6,12 +6,12 @@ use Rattle.ui_machine.specs.State.Config.{World}
 use Rattle.ui_machine.specs.State.Tasks as config
 use Rattle.engine_world.specs.View.{world_of}
 use Rattle.engine_world.specs.declared.engine.Engine.{Engine}
-use Rattle.engine_pools.specs.Dispatched.{IsAtRest}
-use Rattle.engine_pools.specs.PoolView.{world_at}
-use Rattle.engine_pools.specs.Promises.{Rests}
-use Rattle.engine_pools.specs.TurnView.{TurnBegins}
-use Rattle.engine_pools.proofs.Points.{seen_so}
-use Rattle.engine_pools.proofs.UnderWay.{turn_begins}
+use Rattle.engine_dispatches.specs.Dispatched.{IsAtRest}
+use Rattle.engine_dispatches.specs.PoolView.{world_at}
+use Rattle.engine_dispatches.specs.Promises.{Rests}
+use Rattle.engine_dispatches.specs.TurnView.{TurnBegins}
+use Rattle.engine_dispatches.proofs.Points.{seen_so}
+use Rattle.engine_dispatches.proofs.UnderWay.{turn_begins}
 use Rattle.ui_engine.specs.declared.cores.Phase.TheVariants as phases
 use Rattle.ui_engine.specs.declared.faults.SessionFault.TheVariants as faults
 use Rattle.ui_engine.specs.Phases.{IsKept}

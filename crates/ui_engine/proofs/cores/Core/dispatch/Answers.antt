@@ -1,7 +1,7 @@
 use Rattle.std.proofs.Common.{Ok, subst}
 use Rattle.std.proofs.lemmas.Result.{err_from_is_err_and}
 use Rattle.definition_format.specs.Meaning.{event_of}
-use Rattle.engine_pools.specs.declared.courses.Progress.{Progress}
+use Rattle.engine_dispatches.specs.declared.courses.Progress.{Progress}
 use Rattle.ui_engine.specs.SessionView.{BeginsEvent}
 use Rattle.ui_engine.proofs.InParts.{answers_fault, answers_reply, comes_as, has_ended, made_as, none_as}
 use Rattle.ui_engine.proofs.cores.Core.dispatch.Goals as goal

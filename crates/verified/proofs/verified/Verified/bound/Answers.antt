@@ -1,6 +1,6 @@
 use Rattle.std.proofs.Common.{◌≡◌, true, sym, subst}
 use Rattle.ui_machine.specs.declared.ids.Entry.{Entry}
-use Rattle.definition_graph.specs.ChannelView.{channel_of}
+use Rattle.verify_graph.specs.ChannelView.{channel_of}
 use Rattle.verified.specs.Entries.{entry_of, is_entry}
 use Rattle.verified.specs.Told.{IsBound}
 use Rattle.verified.proofs.LookUps.{build_read, has_channel}

@@ -1,5 +1,5 @@
 use Rattle.std.proofs.Common.{◌∙◌, ap}
-use Rattle.definition_graph.specs.ChannelView.{channel_of}
+use Rattle.verify_graph.specs.ChannelView.{channel_of}
 use Rattle.verified.specs.Told.{value_among}
 use Rattle.verified.proofs.LookUps.{bound_read}
 use Rattle.verified.proofs.verified.Verified.bound_of.Goals as goal

@@ -4,7 +4,7 @@ use Rattle.std.proofs.lemmas.Result.{IfOk-weaker}
 use Rattle.law_typing.specs.Graph.Channels.{channels}
 use Rattle.law_typing.specs.Laws.{IsIn}
 use Rattle.law_typing.specs.Verdict.Accepted.{Accepted}
-use Rattle.definition_graph.specs.ChannelView.{channel_of}
+use Rattle.verify_graph.specs.ChannelView.{channel_of}
 use Rattle.verified.specs.Lines.{line_in, line_of_channel}
 use Rattle.verified.proofs.ReportLines.{channel_line_is}
 use Rattle.verified.proofs.verified.Verified.line_of_channel.Goals as goal

@@ -1,4 +1,4 @@
-use Rattle.definition_graph.specs.ChannelView.{channel_of}
+use Rattle.verify_graph.specs.ChannelView.{channel_of}
 use Rattle.verified.proofs.LookUps.{has_channel}
 use Rattle.verified.proofs.verified.Verified.rank.Goals as goal
 

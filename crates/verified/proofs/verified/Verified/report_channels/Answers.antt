@@ -2,7 +2,7 @@ use Rattle.std.proofs.Common.{◌≡◌, ◌∙◌, ◌+◌, ◌++◌, ◌<◌, 
 use Rattle.std.proofs.lemmas.Result.{err_from_is_err_and}
 use Rattle.ui_machine.specs.Definition.{Definition}
 use Rattle.law_typing.specs.Graph.Channels.{channels_at}
-use Rattle.definition_graph.specs.ChannelView.{channels_of}
+use Rattle.verify_graph.specs.ChannelView.{channels_of}
 use Rattle.verified.specs.Lines.{channel_lines, place_lines}
 use Rattle.verified.specs.Writing.{Reports, Stops}
 use Rattle.verified.specs.declared.faults.ReportFault.TheVariants as faults

@@ -2,7 +2,7 @@ use Rattle.std.proofs.Common.{◌≡◌, ◌<◌, ℕ, false, length, take}
 use Rattle.std.specs.Io.KnownBytes.{Appends}
 use Rattle.law_typing.specs.Graph.Channels.{channels_at}
 use Rattle.law_typing.specs.Verdict.Accepted.{Accepted}
-use Rattle.definition_graph.specs.ChannelView.{channels_of}
+use Rattle.verify_graph.specs.ChannelView.{channels_of}
 use Rattle.verified.specs.Lines.{place_lines}
 use Rattle.verified.specs.Writing.{lines_text}
 use Rattle.verified.proofs.verified.Verified.report_place.Given as goal

@@ -1,6 +1,0 @@
-use Rattle.std.proofs.Common.{◌≡◌, length}
-use Rattle.definition_graph.specs.Busy.{AreUsedOfTypes}
-use Rattle.definition_graph.proofs.busy_signals.used_signals.Given as goal
-
-abbrev pub invariant-loop-number : goal.invariant-loop-number
-invariant-loop-number l = record { count : length l.lists.items ≡ l.number; used : AreUsedOfTypes l.lookups l.lists.items }

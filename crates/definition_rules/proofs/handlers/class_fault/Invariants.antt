@@ -1,8 +1,0 @@
-use Rattle.std.proofs.Common.{◌≡◌, drop, slice_get}
-use Rattle.law_typing.specs.Rules.Handlers.{class_faults}
-use Rattle.definition_rules.proofs.handlers.class_fault.Given as goal
-
-abbrev pub invariant-loop-number : goal.invariant-loop-number
-invariant-loop-number l =
-    slice_get (class_faults l.lookups 0 l.lookups.classes) 0
-    ≡ slice_get (class_faults l.lookups l.number (drop l.number l.lookups.classes)) 0

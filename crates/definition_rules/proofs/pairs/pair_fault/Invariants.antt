@@ -1,5 +1,0 @@
-use Rattle.definition_rules.proofs.PairedEnds.{IsReached}
-use Rattle.definition_rules.proofs.pairs.pair_fault.Given as goal
-
-abbrev pub invariant-loop-number : goal.invariant-loop-number
-invariant-loop-number l = IsReached l.ends l.number l.lookups.bindings

@@ -1,6 +1,0 @@
-use Rattle.std.proofs.Common.{◌∙◌}
-use Rattle.definition_types.proofs.OwnAhead.{has_own}
-use Rattle.definition_types.proofs.overrides.has_own.Goals as goal
-
-pub returns : goal.returns
-returns c = c.contains_key.ensures ∙ has_own c.args.own.now c.args.name.now

@@ -1,6 +1,0 @@
-use Rattle.std.proofs.Common.{◌∙◌}
-use Rattle.definition_types.proofs.NamesAhead.{named_among}
-use Rattle.definition_types.proofs.own_signals.has_own_signal.Goals as goal
-
-pub returns : goal.returns
-returns c = c.contains.ensures ∙ named_among c.args.own.now c.args.name.now

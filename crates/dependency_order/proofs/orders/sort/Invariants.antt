@@ -1,9 +1,0 @@
-use Rattle.std.proofs.Common.{◌<◌, ℕ}
-use Rattle.dependency_order.specs.Searches.{IsDone, IsSearch}
-use Rattle.dependency_order.proofs.orders.sort.Given as goal
-
-abbrev pub invariant-loop-root : goal.invariant-loop-root
-invariant-loop-root l = record {
-  search : IsSearch l.dependencies l.search;
-  done : (n : ℕ) → n < l.root → IsDone l.search n;
-}

@@ -1,8 +1,0 @@
-use Rattle.std.proofs.Common.{sym, ◌∙◌, ap, cond, ◌∷◌, []}
-use Rattle.graph_numbers.specs.Columns.{linked}
-use Rattle.graph_numbers.proofs.Edges.{linked_none}
-use Rattle.graph_numbers.proofs.links.link_if.Goals as goal
-
-pub returns : goal.returns
-returns c =
-    sym (linked_none c.args.nodes.now) ∙ ap (λ b. linked c.args.nodes.now (cond b (c.args.to ∷ []) [])) (sym c.if-is_there.false)

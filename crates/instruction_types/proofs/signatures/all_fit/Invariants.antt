@@ -1,8 +1,0 @@
-use Rattle.std.proofs.Common.{◌≡◌, drop}
-use Rattle.law_typing.specs.Rules.Signatures.{parameters_fit}
-use Rattle.operand_types.specs.Views.{kinds_of}
-use Rattle.instruction_types.proofs.signatures.all_fit.Given as goal
-
-abbrev pub invariant-loop-number : goal.invariant-loop-number
-invariant-loop-number l =
-    parameters_fit l.lookups (kinds_of l.given) (kinds_of l.params) ≡ parameters_fit l.lookups (drop l.number (kinds_of l.given)) (drop l.number (kinds_of l.params))

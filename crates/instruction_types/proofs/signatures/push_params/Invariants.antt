@@ -1,8 +1,0 @@
-use Rattle.std.proofs.Common.{◌≡◌, ◌++◌, map, take}
-use Rattle.g_values.specs.View.{kind_view}
-use Rattle.ui_machine.specs.Definition.Kinds as kinds
-use Rattle.operand_types.specs.Views.{kinds_of}
-use Rattle.instruction_types.proofs.signatures.push_params.Given as goal
-
-abbrev pub invariant-loop-kind : goal.invariant-loop-kind
-invariant-loop-kind l = kinds_of l.given.items ≡ kinds_of l.initial.given.items ++ map kinds.plain (map kind_view (take l.kind-index l.params))

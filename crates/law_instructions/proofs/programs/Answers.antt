@@ -1,5 +1,0 @@
-use Rattle.law_instructions.proofs.AllProofs.{instructions_are_fine, programs_keep_good}
-use Rattle.law_instructions.proofs.programs.Goals as goal
-
-pub returns : goal.returns
-returns c = record { instructions = instructions_are_fine; programs = programs_keep_good }

@@ -1,8 +1,0 @@
--- The instruction that disposes an object.
-use Rattle.std.specs.Prelude.{ℕ}
-use Rattle.ui_machine.specs.Definition.Programs as words
-use Rattle.law_instructions.specs.Running.{IsFine}
-
--- it is taken well
-abbrev pub DisposesAreFine : Type 0
-DisposesAreFine = (object : ℕ) → IsFine (words.dispose object)

@@ -1,8 +1,0 @@
--- The instruction that freezes an object.
-use Rattle.std.specs.Prelude.{ℕ}
-use Rattle.ui_machine.specs.Definition.Programs as words
-use Rattle.law_instructions.specs.Running.{IsFine}
-
--- it is taken well
-abbrev pub FreezesAreFine : Type 0
-FreezesAreFine = (object : ℕ) → IsFine (words.freeze object)

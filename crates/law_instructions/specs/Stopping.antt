@@ -1,7 +1,0 @@
--- The instruction that stops the emission below its program.
-use Rattle.ui_machine.specs.Definition.Programs as words
-use Rattle.law_instructions.specs.Running.{IsFine}
-
--- it is taken well, whatever lies below the program
-abbrev pub StopsAreFine : Type 0
-StopsAreFine = IsFine words.stop

@@ -1,9 +1,0 @@
-pub mod Counting
-pub mod StartProofs
-pub mod InstructionProofs
-pub mod TaskProofs
-pub mod StepProofs
-pub mod BuildProofs
-pub mod KinProofs
-pub mod RunProofs
-pub mod HandlerProofs

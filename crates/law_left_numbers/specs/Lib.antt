@@ -1,3 +1,0 @@
-pub mod Identities
-pub mod Kin
-pub mod Handlers

@@ -1,0 +1,2 @@
+pub mod LeftProofs
+pub mod BrokenProofs

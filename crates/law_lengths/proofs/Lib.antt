@@ -1,4 +1,0 @@
-pub mod TextProofs
-pub mod WidthProofs
-pub mod PartProofs
-pub mod LengthProofs

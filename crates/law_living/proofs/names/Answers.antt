@@ -1,5 +1,0 @@
-use Rattle.law_living.proofs.LivingProofs.{builds_name_living, requests_name_living, rests_name_living, sources_name_living}
-use Rattle.law_living.proofs.names.Goals as goal
-
-pub returns : goal.returns
-returns c = record { build = builds_name_living; request = requests_name_living; source = sources_name_living; rest = rests_name_living }

@@ -1,9 +1,0 @@
-//! The law on the peers of a definition: bytes name each plainly.
-#![tactic(auto)]
-
-ghost use Rattle.law_peer_names.specs.PeerNames.{NamesPeersPlainly};
-
-/// Each definition that bytes denote names its peers plainly: each name has a byte, and no point.
-pub fn peer_names()
-    ensures { NamesPeersPlainly }
-{}

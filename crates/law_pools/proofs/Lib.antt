@@ -1,3 +1,0 @@
-pub mod PoolProofs
-pub mod WorkedProofs
-pub mod ApartProofs

@@ -1,4 +1,0 @@
-pub mod Needs
-pub mod MatchedPools
-pub mod WorkedPools
-pub mod NamesApart

@@ -1,0 +1,17 @@
+pub mod LivingProofs
+pub mod MeaningProofs
+pub mod ShortProofs
+pub mod FewProofs
+pub mod StartProofs
+pub mod InstructionProofs
+pub mod TaskProofs
+pub mod StepProofs
+pub mod Counting
+pub mod NumberStartProofs
+pub mod NumberInstructionProofs
+pub mod NumberTaskProofs
+pub mod NumberStepProofs
+pub mod BuildProofs
+pub mod KinProofs
+pub mod RunProofs
+pub mod HandlerProofs

@@ -1,0 +1,4 @@
+pub mod Kept
+pub mod Instructed
+pub mod Tasked
+pub mod Served

@@ -1,7 +1,0 @@
-use Rattle.law_tasks.proofs.StartingProofs.{sources_are_fine, runs_are_fine}
-use Rattle.law_tasks.proofs.ConstructingProofs.{constructions_set}
-use Rattle.law_tasks.proofs.ThawedProofs.{constructions_thaw}
-use Rattle.law_tasks.proofs.starting.Goals as goal
-
-pub returns : goal.returns
-returns c = record { sources = sources_are_fine; runs = runs_are_fine; sets = constructions_set; thaws = constructions_thaw; answers = λ d a most_counted w rest n source g. g.agenda.3 }

@@ -1,7 +1,0 @@
-use Rattle.std.proofs.Common.{take}
-use Rattle.ui_machine.specs.Definition.Lookups.{class_of}
-use Rattle.linked_programs.specs.Steps.{ArePairwise, IsHandler}
-use Rattle.linked_programs.proofs.class_handlers.handlers_of.Given as goal
-
-abbrev pub invariant-loop-number : goal.invariant-loop-number
-invariant-loop-number l = ArePairwise (IsHandler l.definition l.class) (take l.number (class_of l.definition l.class).signals) l.row.items

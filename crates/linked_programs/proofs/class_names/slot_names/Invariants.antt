@@ -1,7 +1,0 @@
-use Rattle.name_tables.specs.Names.{number_of}
-use Rattle.linked_programs.specs.Steps.{slot_called}
-use Rattle.name_tables.specs.Steps.{HasUpTo}
-use Rattle.linked_programs.proofs.class_names.slot_names.Given as goal
-
-abbrev pub invariant-classes : goal.invariant-classes
-invariant-classes l = HasUpTo (slot_called l.definition) l.class (number_of l.names)

@@ -1,8 +1,0 @@
-use Rattle.std.proofs.Common.{map, take}
-use Rattle.bytecode.specs.View.{block_view}
-use Rattle.linked_programs.specs.Steps.{ArePairwise, LinksBlock, tables_alone}
-use Rattle.linked_programs.proofs.programs.Names.program.Given as goal
-
-abbrev pub invariant-loop-block : goal.invariant-loop-block
-invariant-loop-block l =
-    ArePairwise (LinksBlock l.self.definition.now (tables_alone l.self.tables.now)) (take l.block-index (map block_view l.program.blocks.items)) (map (λ b. b.items) l.blocks.items)

@@ -1,5 +1,0 @@
-use Rattle.linked_worked.proofs.GatheringMet.{met}
-use Rattle.linked_worked.proofs.gathering.Goals as goal
-
-pub returns : goal.returns
-returns c = met

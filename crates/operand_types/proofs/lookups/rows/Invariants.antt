@@ -1,6 +1,0 @@
-use Rattle.std.proofs.Common.{◌≡◌, length}
-use Rattle.operand_types.specs.Ancestry.{AreRows}
-use Rattle.operand_types.proofs.lookups.rows.Given as goal
-
-abbrev pub invariant-loop-number : goal.invariant-loop-number
-invariant-loop-number l = record { count : length l.rows.items ≡ l.number; rows : AreRows l.types l.rows.items }

@@ -1,0 +1,22 @@
+use Rattle.std.proofs.Common.{◌≡◌, ◌∙◌, codes}
+use Rattle.std.proofs.lemmas.Result.{err_from_is_err_and}
+use Rattle.serde_json.specs.View.{view, items_view}
+use Rattle.param_specs.specs.Table.{own_of}
+use Rattle.definition_format.specs.Document.{path_of, under}
+use Rattle.read_parts.proofs.Chains.{fails_as}
+use Rattle.read_types.proofs.OwnAhead.{own_ahead_is}
+use Rattle.read_types.proofs.overrides.read_own.Goals as goal
+
+pub returns-in_err-own : goal.returns-in_err-own
+returns-in_err-own c =
+    let at_base : c.as_str.result.now ≡ under (path_of c.args.part.path) (codes "properties") = c.as_str.ensures.value ∙ c.in_ok-path.ensures in
+    let p = err_from_is_err_and c.from_residual-in_err-own.result c.from_residual-in_err-own.ensures.1 in
+    rw (p.1, p.2) (fails_as c.in_err-own.field-0.0 _ _
+    (own_ahead_is (path_of c.args.part.path) c.args.types.now c.args.names.now (own_of c.args.specs.now) c.args.parent (view c.args.part.value.now) c.as_str.result.now (items_view c.listed_ahead.result.now) at_base c.listed_ahead.ensures)
+    c.in_err-own.ensures)
+
+pub returns : goal.returns
+returns c =
+    let at_base : c.as_str.result.now ≡ under (path_of c.args.part.path) (codes "properties") = c.as_str.ensures.value ∙ c.in_ok-path.ensures in
+    own_ahead_is (path_of c.args.part.path) c.args.types.now c.args.names.now (own_of c.args.specs.now) c.args.parent (view c.args.part.value.now) c.as_str.result.now (items_view c.listed_ahead.result.now) at_base c.listed_ahead.ensures
+    ∙ c.in_ok-own.ensures

@@ -1,0 +1,88 @@
+//! The interfaces of a class while they are read. The names of the signals that they bring are also kept in a set, so that a further name
+//! is found without a search of the interfaces.
+
+ghost use Rattle.std.specs.Prelude.{◌≡◌, ◌||◌, [], List, ℕ, false, is_some, OnOk};
+ghost use Rattle.std.specs.List.{list_any};
+ghost use Rattle.ui_machine.specs.Definition.Names.{canonical, place_named, same_name};
+ghost use Rattle.signal_core.specs.Sources.{signals_of};
+ghost use Rattle.read_types.specs.ImplementDrafts.{has_name, parts_seen, with_interface};
+
+use signal_core::SignalTable;
+use std::alloc::{AllocError, Global};
+use std::collections::BTreeSet;
+use type_tree::{TypeId, TypeTree, has_canonical_bytes, is_spelling};
+use ui_machine::SignalId;
+
+/// The interfaces of a class, and the names of all signals that they bring.
+#[derive(Drop)]
+pub(crate) struct ImplementDraft<'a> {
+    pub(crate) types: Vec<TypeId>,
+    pub(crate) names: BTreeSet<&'a str>,
+}
+
+impl<'a> ImplementDraft<'a> {
+    /// Creates a draft without interfaces.
+    pub(crate) fn new(alloc: Global) -> Self
+        ensures types { result.types.items ≡ [] }
+        ensures names { (name : List ℕ) → has_name result.names name ≡ false }
+    {
+        ImplementDraft {
+            types: Vec::new(alloc),
+            names: BTreeSet::new(alloc),
+        }
+    }
+
+    // Returns whether one of the signals is called `name`, by a search through all names.
+    fn has_spelled(&self, name: &str) -> bool
+        ensures { result ≡ list_any (λ k. same_name k.now (canonical name.now)) self.now.names.keys }
+    {
+        self.names.iter().any(|own| is_spelling(*own, name))
+    }
+
+    /// Returns whether one of the signals is called `name`, in any spelling. A name in the canonical spelling needs no search.
+    pub(crate) fn has(&self, name: &str) -> bool
+        ensures { result ≡ has_name self.now.names (canonical name.now) }
+    {
+        if has_canonical_bytes(name) {
+            self.names.contains(name)
+        } else {
+            self.has_spelled(name)
+        }
+    }
+
+    /// Adds an interface.
+    ///
+    /// # Errors
+    ///
+    /// `AllocError` if memory is refused. The draft may then have an interface without its names, and is of no further use.
+    pub(crate) fn add(
+        &mut self,
+        types: &TypeTree,
+        signals: &'a SignalTable,
+        interface: TypeId,
+    ) -> Result<(), AllocError>
+        ensures { OnOk result (parts_seen self.new ≡ with_interface (signals_of types.now signals.now.signals) interface (parts_seen self.old)) }
+    {
+        self.types.push(interface)?;
+        add_names(&mut self.names, types, signals, interface)?;
+        Ok(())
+    }
+}
+
+// Adds the names of all signals of a type.
+fn add_names<'a>(
+    names: &mut BTreeSet<&'a str>,
+    types: &TypeTree,
+    signals: &'a SignalTable,
+    t: TypeId,
+) -> Result<(), AllocError>
+    ensures { (name : List ℕ) → OnOk result (has_name names.new name ≡ (has_name names.old name || is_some (place_named (λ s. s.name) (signals_of types.now signals.now.signals t) name))) }
+{
+    for number in 0..signals.signal_count(types, t) {
+        let Some(signal) = signals.signal(types, t, number as SignalId) else {
+            unreachable!()
+        };
+        names.insert(signal.name)?;
+    }
+    Ok(())
+}
