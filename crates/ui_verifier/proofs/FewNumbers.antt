@@ -2,7 +2,7 @@
 use Rattle.std.proofs.Common.{ℕ, zero, suc, ◌≤◌, List, [], ◌∷◌, arith}
 use Rattle.ui_machine.specs.Seq.{listed}
 use Rattle.law_typing.specs.Graph.Tables.{greatest}
-use Rattle.node_numbers.specs.Numbers.{AreWithin}
+use Rattle.verify_order.specs.Numbers.{AreWithin}
 
 pub within_listed : (f : ℕ → ℕ) (n most : ℕ) → ((i : ℕ) → f i ≤ most) → AreWithin (listed f n) most
 within_listed f zero most each node = omega arith

@@ -6,3 +6,6 @@ pub mod LargeProofs
 pub mod LinkTexts
 pub mod ToldNumbers
 pub mod IdleNumbers
+pub mod Sums
+pub mod BuiltPlaces
+pub mod NamedSites

@@ -15,17 +15,17 @@ use Rattle.law_typing.specs.Laws.Capped.{capped}
 use Rattle.law_typing.specs.Rules.Sites.{Site, sites}
 use Rattle.law_typing.proofs.Lists.{same_channel_true}
 use Rattle.law_idle.specs.Idle.{busy_channels, busy_graph}
-use Rattle.law_numbering.specs.Tables.{cost_tables, depth_tables, rank_table, table_from, value_of}
-use Rattle.law_numbering.proofs.SketchLists.{read_listed, same_length}
-use Rattle.node_numbers.specs.Numbers.{of_node}
+use Rattle.verify_numbers.specs.Tables.{cost_tables, depth_tables, rank_table, table_from, value_of}
+use Rattle.verify_numbers.proofs.SketchLists.{read_listed, same_length}
+use Rattle.verify_order.specs.Numbers.{of_node}
 use Rattle.verify_sketches.specs.Sketches.{IsSketch, IsSketchedChannel, Names, Sketch, channels_in}
 use Rattle.verify_sketches.specs.Numbered.{program}
 use Rattle.verify_numbers.specs.Counts.{at_in}
 use Rattle.verify_numbers.specs.Reckonings.{AreGraphNumbers}
 use Rattle.verify_numbers.specs.declared.reckonings.NodeNumbers.{NodeNumbers}
 use Rattle.verify_numbers.proofs.Lists.{mapped_length}
-use Rattle.definition_sketch.proofs.GraphChannels.{graph_channels}
-use Rattle.verify_bounds.specs.ByChannel.{Gives, GivesCapped, makings_depth}
+use Rattle.verify_channels.proofs.GraphChannels.{graph_channels}
+use Rattle.ui_verifier.specs.ByChannel.{Gives, GivesCapped, makings_depth}
 use Rattle.ui_verifier.specs.Bounds.{with_objects}
 
 -- ** lists

@@ -3,3 +3,5 @@ pub mod Cycles
 pub mod Large
 pub mod Texts
 pub mod Verdicts
+pub mod ByChannel
+pub mod NamedSources

@@ -8,7 +8,7 @@ use Rattle.law_typing.specs.Verdict.FaultText.{fault_text}
 use Rattle.law_typing.specs.Verdict.Judges.{Judges}
 use Rattle.verify_graph.specs.ChannelView.{channel_of}
 use Rattle.verify_numbers.specs.Links.{cause_of}
-use Rattle.verify_faults.specs.Faults as rules
+use Rattle.verify_rules.specs.RuleFaults as rules
 use Rattle.verified.specs.Entries.{entry_of}
 use Rattle.law_typing.specs.Verdict.Accepted.{Accepted}
 use Rattle.verified.specs.Told.{AreNumbersOf}

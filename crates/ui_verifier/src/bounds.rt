@@ -4,11 +4,11 @@ ghost use Rattle.std.specs.Prelude.{◌≡◌, ◌+◌, ℕ, length, map, max, I
 ghost use Rattle.ui_machine.specs.Seq.{listed};
 ghost use Rattle.law_idle.specs.Idle.{busy_channels, busy_graph};
 ghost use Rattle.law_typing.specs.Graph.Channels as law;
-ghost use Rattle.verify_bounds.specs.ByChannel.{Gives, makings_depth};
+ghost use Rattle.ui_verifier.specs.ByChannel.{Gives, makings_depth};
 ghost use Rattle.law_typing.specs.Graph.Tables.{greatest};
 ghost use Rattle.law_typing.specs.Laws.Capped.{capped};
-ghost use Rattle.law_numbering.specs.Tables.{cost_tables, depth_tables, rank_table};
-ghost use Rattle.node_numbers.specs.Numbers.{AreWithin, of_node};
+ghost use Rattle.verify_numbers.specs.Tables.{cost_tables, depth_tables, rank_table};
+ghost use Rattle.verify_order.specs.Numbers.{AreWithin, of_node};
 ghost use Rattle.verify_sketches.specs.Numbered as part;
 ghost use Rattle.verify_sketches.specs.Sketches.{IsSketch};
 ghost use Rattle.verify_sketches.specs.View.{sketch_view};
@@ -17,10 +17,10 @@ ghost use Rattle.verify_numbers.specs.Reckonings.{AreGraphNumbers, HaveFew};
 ghost use Rattle.verified.specs.Told.{source_view};
 ghost use Rattle.ui_verifier.specs.Bounds.{AreCappedIn, with_objects};
 
+use crate::{build_bound, capped_sum, makings_depth, source_programs};
 use std::alloc::{AllocError, Global};
 use ui_machine::ProgramId;
 use verified::{Numbers, SourceBound};
-use verify_bounds::{build_bound, capped_sum, makings_depth, source_programs};
 use verify_graph::ChannelNumbers;
 use verify_numbers::{Layout, NodeNumbers, channel_values, program_value};
 use verify_operands::Lookups;

@@ -5,7 +5,7 @@ ghost use Rattle.law_typing.specs.Graph.{Graph};
 ghost use Rattle.verify_sketches.specs.Sketches.{channels_in};
 ghost use Rattle.verify_numbers.specs.Links.{NamesBelow, links_view};
 ghost use Rattle.verify_numbers.specs.Reckonings.{IsCycleOnce};
-ghost use Rattle.law_numbering.specs.Cycles.{channel_numbered};
+ghost use Rattle.verify_numbers.specs.Cycles.{channel_numbered};
 ghost use Rattle.law_typing.specs.Verdict.Judges.{IsToldCycle};
 ghost use Rattle.verify_numbers.specs.Links as sketched;
 ghost use Rattle.verify_graph.specs.ChannelView.{channel_of};

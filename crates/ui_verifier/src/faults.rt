@@ -2,7 +2,7 @@
 
 use std::alloc::AllocError;
 use ui_machine::{Channel, Entry, ProgramId};
-use verify_faults::RuleFault;
+use verify_rules::RuleFault;
 
 /// A channel of a cycle, and what leads from it to the next one.
 #[derive(Clone, Copy, Debug, PartialEq, Eq)]

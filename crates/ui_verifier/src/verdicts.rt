@@ -12,7 +12,7 @@ ghost use Rattle.verify_numbers.specs.Links.{NamesBelow, links_view};
 ghost use Rattle.verify_sketches.specs.Sizes.{IsSmall};
 ghost use Rattle.verify_sketches.specs.Sketches.{IsSketch};
 ghost use Rattle.verify_sketches.specs.View.{sketch_view};
-ghost use Rattle.verify_faults.specs.Faults as rules;
+ghost use Rattle.verify_rules.specs.RuleFaults as rules;
 ghost use Rattle.verified.specs.Entries.{entry_of};
 ghost use Rattle.ui_verifier.specs.Bounds.{AreBusyNumbers};
 ghost use Rattle.ui_verifier.specs.Verdicts.{AreAccepted, IsJudged, IsRefusal, Verifies};
@@ -22,15 +22,15 @@ use crate::cycles::cycle_from_first;
 use crate::faults::{Refusal, VerifyError, VerifyFault};
 use crate::large_bounds::too_large;
 use crate::texts::{bound_text, cycle_text};
-use definition_sketch::sketch;
 use definitions::Definition;
 use std::alloc::{AllocError, Global};
 use ui_machine::Entry;
 use verified::{Numbers, Verified};
-use verify_faults::{RuleFault, fault_text, rule_fault};
+use verify_channels::sketch;
 use verify_graph::ChannelNumbers;
 use verify_numbers::{Layout, Reckoned, SketchedLink, reckon};
 use verify_operands::Lookups;
+use verify_rules::{RuleFault, fault_text, rule_fault};
 use verify_sketches::Sketch;
 
 // The judgement of a definition that breaks no rule.

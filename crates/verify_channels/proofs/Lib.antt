@@ -7,3 +7,8 @@ pub mod MeantLists
 pub mod RaisedByParts
 pub mod SignalLists
 pub mod TransferLists
+pub mod GraphChannels
+mod NoFaults
+mod PairEnds
+mod Sketched
+mod Starts

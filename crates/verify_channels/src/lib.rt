@@ -1,4 +1,4 @@
-//! Sketches what runs at the channels of a definition, by their numbers.
+//! Sketches the graph of a definition by numbers: what runs at each channel, and what programs may start.
 //!
 //! The meaning of a handler's signal and detail is looked up once for each place. Programs that bytecode may connect alike are one group.
 #![tactic(auto)]
@@ -10,7 +10,9 @@ mod connection_keys;
 mod connections;
 mod meanings;
 mod signal_lists;
+mod sketches;
 mod transfers;
 
 pub use channels::{RaisedChannels, raised_channels};
 pub use connections::Connects;
+pub use sketches::sketch;

@@ -8,7 +8,7 @@ use Rattle.verify_numbers.specs.Counts.{at_in}
 use Rattle.verify_numbers.specs.Laid.{laid}
 use Rattle.law_typing.specs.Graph.{Graph}
 use Rattle.law_typing.specs.Graph.Channels.{Link}
-use Rattle.law_numbering.specs.Cycles.{links_after}
+use Rattle.verify_numbers.specs.Cycles.{links_after}
 use Rattle.verify_numbers.specs.Links.{IsOther, link_view, links_view, part_at, part_or}
 use Rattle.verify_numbers.specs.declared.cycle_links.SketchedLink.{SketchedLink}
 use Rattle.verify_numbers.proofs.LaidNodes.{laid_is_numbered}

@@ -4,7 +4,7 @@ use Rattle.ui_machine.specs.Seq.{listed}
 use Rattle.verify_sketches.specs.Pointwise.{inside}
 use Rattle.verify_numbers.proofs.Lists.{from_number}
 use Rattle.verify_order.specs.Kept.{with_last}
-use Rattle.node_numbers.specs.declared.rules.Rule.{Rule}
+use Rattle.verify_order.specs.declared.rules.Rule.{Rule}
 use Rattle.verify_sketches.specs.Numbered.{Node}
 use Rattle.verify_numbers.specs.Columns.{Columns, grown, linked, with_node, with_row}
 

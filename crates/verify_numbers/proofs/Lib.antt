@@ -8,3 +8,13 @@ pub mod LaidNodes
 pub mod CycleParts
 pub mod TurnedCycles
 pub mod ReckonedGraphs
+pub mod SketchLists
+pub mod SketchParts
+pub mod CostNumbers
+pub mod OrderBounds
+pub mod DepthNumbers
+pub mod Members
+pub mod PartEdges
+pub mod RankNumbers
+pub mod CycleChannels
+pub mod CycleLinks

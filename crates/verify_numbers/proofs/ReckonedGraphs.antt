@@ -3,7 +3,7 @@ use Rattle.std.proofs.Common.{◌≡◌, refl, sym, ap, subst, ◌∙◌, ℕ, z
 use Rattle.std.proofs.lemmas.Option.{IfSome_then, none-some, same_Some}
 use Rattle.std.proofs.lemmas.List.Elements.{All-weaker}
 use Rattle.verify_order.specs.Graphs.{Edge, IsCycle, IsGraph, IsOrder, LeadTo}
-use Rattle.node_numbers.specs.Numbers.{AreWithin}
+use Rattle.verify_order.specs.Numbers.{AreWithin}
 use Rattle.law_typing.specs.Graph.{Graph}
 use Rattle.law_typing.specs.Graph.Channels.{Link, same_channel}
 use Rattle.law_typing.specs.Graph.Ranks.{is_cycle}
@@ -12,15 +12,15 @@ use Rattle.law_typing.specs.Verdict.{most_bound}
 use Rattle.verify_sketches.specs.Sketches.{IsSketch, Sketch, SketchedChannel}
 use Rattle.verify_sketches.specs.Sizes.{IsSmall}
 use Rattle.verify_sketches.specs.Numbered.{IsNumbered, Node, edges_in, of_whole, whole, whole_node}
-use Rattle.law_numbering.specs.Cycles.{HaveNodes, links_of}
-use Rattle.law_numbering.specs.Tables.{value_of}
-use Rattle.law_numbering.proofs.CostNumbers.{costs_are_solved, node_cost_at, not_there}
-use Rattle.law_numbering.proofs.CycleChannels.{cycles_have_channels}
-use Rattle.law_numbering.proofs.CycleLinks.{cycles_are_told}
-use Rattle.law_numbering.proofs.DepthNumbers.{depths_are_solved, entry_is}
-use Rattle.law_numbering.proofs.RankNumbers.{chains_are_ranks, rank_at}
-use Rattle.law_numbering.proofs.SketchParts.{table_none}
-use Rattle.law_numbering.proofs.PartEdges.{leads_on, part_at}
+use Rattle.verify_numbers.specs.Cycles.{HaveNodes, links_of}
+use Rattle.verify_numbers.specs.Tables.{value_of}
+use Rattle.verify_numbers.proofs.CostNumbers.{costs_are_solved, node_cost_at, not_there}
+use Rattle.verify_numbers.proofs.CycleChannels.{cycles_have_channels}
+use Rattle.verify_numbers.proofs.CycleLinks.{cycles_are_told}
+use Rattle.verify_numbers.proofs.DepthNumbers.{depths_are_solved, entry_is}
+use Rattle.verify_numbers.proofs.RankNumbers.{chains_are_ranks, rank_at}
+use Rattle.verify_numbers.proofs.SketchParts.{table_none}
+use Rattle.verify_numbers.proofs.PartEdges.{leads_on, part_at}
 use Rattle.verify_numbers.specs.Columns.{Columns}
 use Rattle.verify_numbers.specs.Counts.{at_in, counts_of}
 use Rattle.verify_numbers.specs.Laid.{laid}

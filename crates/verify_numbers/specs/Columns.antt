@@ -1,6 +1,6 @@
 -- Nodes as they are kept: their edges, the rules of their costs and of their depths, and whether they count, each in a list.
 use Rattle.std.specs.Prelude.{ℕ, Bool, List, [], ◌∷◌, ◌++◌}
-use Rattle.node_numbers.specs.declared.rules.Rule.{Rule}
+use Rattle.verify_order.specs.declared.rules.Rule.{Rule}
 use Rattle.verify_sketches.specs.Numbered.{Node}
 
 pub record Columns : Type 0 where

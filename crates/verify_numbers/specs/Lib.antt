@@ -4,3 +4,5 @@ pub mod Laid
 pub mod Ends
 pub mod Links
 pub mod Reckonings
+pub mod Tables
+pub mod Cycles

@@ -3,7 +3,7 @@ use Rattle.std.specs.Prelude.{◌≡◌, ◌<◌, ◌++◌, ℕ, IfSome, List, �
 use Rattle.law_typing.specs.Graph.{Graph}
 use Rattle.law_typing.specs.Graph.Channels.{Cause, Link}
 use Rattle.law_typing.specs.Graph.Channels as causes
-use Rattle.law_numbering.specs.Cycles.{channel_numbered, links_of}
+use Rattle.verify_numbers.specs.Cycles.{channel_numbered, links_of}
 use Rattle.verify_sketches.specs.Sketches.{Sketch}
 use Rattle.verify_numbers.specs.Counts.{Counts, counts_of}
 use Rattle.verify_numbers.specs.Laid.{laid}

@@ -1,7 +1,7 @@
 -- Numbers of nodes that are reckoned, or a cycle of channels.
 use Rattle.std.specs.Prelude.{◌≡◌, ◌+◌, ℕ, All, true, false, List, map}
-use Rattle.node_numbers.specs.Chains.{AreRanks}
-use Rattle.node_numbers.specs.Numbers.{AreWithin, Solves}
+use Rattle.verify_order.specs.Chains.{AreRanks}
+use Rattle.verify_order.specs.Numbers.{AreWithin, Solves}
 use Rattle.law_typing.specs.Graph.{Graph}
 use Rattle.law_typing.specs.Graph.Channels.{Channel, Link, same_channel}
 use Rattle.law_typing.specs.Graph.Costs.{node_cost}
@@ -12,7 +12,7 @@ use Rattle.law_typing.specs.Graph.Ranks.{IsRanking, is_cycle, is_raised, node}
 use Rattle.law_typing.specs.Laws.WellRead.{no_two}
 use Rattle.law_typing.specs.Verdict.{most_bound}
 use Rattle.law_judging.specs.CappedNumbers.{SolvesCapped}
-use Rattle.law_numbering.specs.Tables.{cost_tables, depth_tables, rank_table, value_of}
+use Rattle.verify_numbers.specs.Tables.{cost_tables, depth_tables, rank_table, value_of}
 use Rattle.verify_sketches.specs.Sketches.{Names, Sketch}
 use Rattle.verify_numbers.specs.Columns.{Columns}
 use Rattle.verify_numbers.specs.Counts.{at_in}

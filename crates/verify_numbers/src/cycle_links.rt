@@ -2,7 +2,7 @@
 
 ghost use Rattle.std.specs.Prelude.{◌≡◌, ◌++◌, ◌+◌, ◌<◌, ◌≤◌, ◌∷◌, ℕ, List, All, drop, length, take, slice_index_or, IfOk, IfNone, IfSome};
 ghost use Rattle.law_typing.specs.Graph.{Graph};
-ghost use Rattle.law_numbering.specs.Cycles.{links_after, links_of};
+ghost use Rattle.verify_numbers.specs.Cycles.{links_after, links_of};
 ghost use Rattle.verify_sketches.specs.Numbered.{Part};
 ghost use Rattle.verify_sketches.specs.Sketches.{Sketch};
 ghost use Rattle.verify_numbers.specs.Counts.{counts_of};

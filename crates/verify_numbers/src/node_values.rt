@@ -1,11 +1,11 @@
 //! Looks up the numbers of the nodes of channels and programs.
 
 ghost use Rattle.std.specs.Prelude.{◌≡◌, length, slice_get, slice_index_or, IfOk};
-ghost use Rattle.law_numbering.specs.Tables.{value_of};
+ghost use Rattle.verify_numbers.specs.Tables.{value_of};
 ghost use Rattle.verify_sketches.specs.Numbered.{first_of, program, whole};
 ghost use Rattle.verify_sketches.specs.View.{sketch_view};
 ghost use Rattle.verify_numbers.specs.Counts.{at, at_in, counts_of};
-ghost use Rattle.node_numbers.specs.Numbers.{of_node};
+ghost use Rattle.verify_order.specs.Numbers.{of_node};
 ghost use Rattle.ui_machine.specs.Seq.{listed};
 
 use crate::layouts::Layout;

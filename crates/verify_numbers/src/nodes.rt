@@ -3,10 +3,9 @@
 ghost use Rattle.std.specs.Prelude.{◌≡◌, ◌<◌, ◌≤◌, ◌∷◌, [], true, false, length, OnOk};
 ghost use Rattle.verify_numbers.specs.Columns.{linked, no_columns, with_row};
 
-use node_numbers::Rule;
 use std::alloc::{AllocError, Global};
 use std::marker::Model;
-use verify_order::Dependencies;
+use verify_order::{Dependencies, Rule};
 
 /// The nodes of a graph by number: what each depends on, the rules of its cost and of its depth, and whether it counts in ranks.
 #[derive(Drop)]

@@ -11,9 +11,9 @@ ghost use Rattle.verify_numbers.specs.Laid.{group_nodes, place_nodes, program_no
 use crate::layouts::Layout;
 use crate::links::{link_blocks, link_channels, link_if, link_places, link_programs};
 use crate::nodes::{Nodes, greatest_of, sum_of};
-use node_numbers::Rule;
 use std::alloc::AllocError;
 use ui_machine::ProgramId;
+use verify_order::Rule;
 use verify_sketches::{Sketch, SketchedBlock, SketchedStart};
 
 /// A part of a program that has a node of its own.

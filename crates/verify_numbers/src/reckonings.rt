@@ -11,7 +11,7 @@ ghost use Rattle.verify_sketches.specs.View.{sketch_view};
 ghost use Rattle.verify_numbers.specs.Columns.{no_columns, with_nodes};
 ghost use Rattle.verify_numbers.specs.Counts.{counts_of};
 ghost use Rattle.verify_numbers.specs.Ends.{EndsAreThere};
-ghost use Rattle.node_numbers.specs.Numbers.{AreWithin};
+ghost use Rattle.verify_order.specs.Numbers.{AreWithin};
 ghost use Rattle.verify_numbers.specs.Laid.{all_of_blocks, all_of_channels, all_of_programs, laid};
 
 use crate::block_nodes::{BlockPart, add_block_parts};
@@ -114,21 +114,21 @@ fn numbers_of(alloc: Global, nodes: &Nodes, order: &[usize]) -> Result<NodeNumbe
     ensures reckoned { IfOk result (λ numbers. AreNodeNumbers nodes.now numbers) }
     ensures few { IfOk result (λ numbers. AreWithin numbers.ranks.items (length nodes.now.graph)) }
 {
-    let costs = node_numbers::numbers(
+    let costs = verify_order::numbers(
         alloc,
         nodes.costs.as_slice(),
         &nodes.dependencies,
         order,
         MOST_COST,
     )?;
-    let depths = node_numbers::numbers(
+    let depths = verify_order::numbers(
         alloc,
         nodes.depths.as_slice(),
         &nodes.dependencies,
         order,
         MOST_DEPTH,
     )?;
-    let ranks = node_numbers::ranks(alloc, nodes.counts.as_slice(), &nodes.dependencies, order)?;
+    let ranks = verify_order::ranks(alloc, nodes.counts.as_slice(), &nodes.dependencies, order)?;
     Ok(NodeNumbers {
         costs,
         depths,

@@ -1,3 +1,6 @@
 mod Lists
 mod Kept
 mod Steps
+pub mod Sums
+pub mod Passing
+pub mod Handing

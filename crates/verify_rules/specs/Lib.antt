@@ -2,3 +2,5 @@ pub mod BracketSteps
 pub mod Faults
 pub mod PairedEnds
 pub mod Parts
+pub mod RuleFaults
+pub mod Places

@@ -2,7 +2,7 @@
 use Rattle.std.specs.Prelude.{◌≡◌, ℕ, zero, suc, ◌+◌, ◌*◌, ◌-◌, Bool, true, false, cond, nat_eq, List, [], ◌∷◌, ◌++◌, length, map, Option, None, Some, slice_get}
 use Rattle.ui_machine.specs.Seq.{read, listed}
 use Rattle.law_typing.specs.Graph.Costs.{before_last, only_last}
-use Rattle.node_numbers.specs.declared.rules.Rule.{Rule}
+use Rattle.verify_order.specs.declared.rules.Rule.{Rule}
 use Rattle.verify_sketches.specs.Pointwise.{inside}
 use Rattle.verify_sketches.specs.Sketches.{Sketch, SketchedBlock, SketchedChannel, SketchedStart, nothing, raises, makes, thaws}
 

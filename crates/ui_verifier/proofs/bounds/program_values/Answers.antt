@@ -1,10 +1,10 @@
 use Rattle.std.proofs.Common.{◌∙◌, sym, ap, ℕ, ◌++◌, ◌∷◌, [], arith}
-use Rattle.node_numbers.specs.Numbers.{of_node}
+use Rattle.verify_order.specs.Numbers.{of_node}
 use Rattle.bytecode.specs.View.{program_view}
 use Rattle.verify_sketches.specs.Numbered.{program}
 use Rattle.verify_numbers.specs.Counts.{at}
 use Rattle.verify_numbers.proofs.Lists.{listed_more}
-use Rattle.law_numbering.proofs.SketchLists.{below}
+use Rattle.verify_numbers.proofs.SketchLists.{below}
 use Rattle.ui_verifier.proofs.bounds.program_values.Goals as goal
 
 pub loop-number-preserved : goal.loop-number-preserved

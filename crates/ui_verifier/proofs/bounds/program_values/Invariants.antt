@@ -1,6 +1,6 @@
 use Rattle.std.proofs.Common.{◌≡◌, ◌≤◌, length}
 use Rattle.ui_machine.specs.Seq.{listed}
-use Rattle.node_numbers.specs.Numbers.{of_node}
+use Rattle.verify_order.specs.Numbers.{of_node}
 use Rattle.verify_sketches.specs.Numbered.{program}
 use Rattle.verify_numbers.specs.Counts.{at}
 use Rattle.ui_verifier.proofs.bounds.program_values.Given as goal

@@ -1,6 +1,6 @@
 use Rattle.std.proofs.Common.{◌≡◌, ℕ, ◌+◌, map, take}
 use Rattle.law_typing.specs.Laws.Capped.{capped}
-use Rattle.node_numbers.specs.Numbers.{of_node}
+use Rattle.verify_order.specs.Numbers.{of_node}
 use Rattle.verify_sketches.specs.Numbered.{program}
 use Rattle.verify_numbers.specs.Counts.{at}
 use Rattle.verified.specs.Told.{source_view}

@@ -6,13 +6,13 @@ use Rattle.law_idle.specs.Idle.{busy_channels, busy_graph}
 use Rattle.law_typing.specs.Graph.Costs.{node_cost}
 use Rattle.law_typing.specs.Graph.Tables.{entry, greatest}
 use Rattle.law_typing.specs.Laws.Capped.{capped}
-use Rattle.law_numbering.specs.Tables.{value_of}
-use Rattle.node_numbers.specs.Numbers.{AreWithin, of_node}
+use Rattle.verify_numbers.specs.Tables.{value_of}
+use Rattle.verify_order.specs.Numbers.{AreWithin, of_node}
 use Rattle.verify_sketches.specs.Numbered.{program}
 use Rattle.verify_sketches.specs.View.{channel_view, sketch_view}
 use Rattle.verify_numbers.specs.Counts.{Counts, at, at_in}
 use Rattle.verify_numbers.proofs.Lists.{mapped_length}
-use Rattle.verify_bounds.specs.ByChannel.{Gives, GivesCapped, build_cost, makings_depth}
+use Rattle.ui_verifier.specs.ByChannel.{Gives, GivesCapped, build_cost, makings_depth}
 use Rattle.ui_verifier.specs.Bounds.{with_objects}
 use Rattle.ui_verifier.proofs.FewNumbers.{within_listed}
 use Rattle.ui_verifier.proofs.ToldNumbers.{bounds_are, by_cost, by_depth, cost_list, costs_are, depth_is, depth_list, depths_are, gives_costs, gives_depths, ranks_are, sources_are}

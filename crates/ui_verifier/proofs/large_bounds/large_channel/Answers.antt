@@ -5,7 +5,7 @@ use Rattle.law_idle.specs.Idle.{busy_channels}
 use Rattle.verify_graph.specs.ChannelView.{channel_of}
 use Rattle.verify_graph.specs.Numbers.{IsOnce}
 use Rattle.ui_verifier.specs.Large.{is_large}
-use Rattle.verify_bounds.proofs.BuiltPlaces.{past}
+use Rattle.ui_verifier.proofs.BuiltPlaces.{past}
 use Rattle.ui_verifier.proofs.BusyBounds.{by_busy, large_at}
 use Rattle.ui_verifier.proofs.LargeProofs.{first_here, first_later}
 use Rattle.ui_verifier.proofs.large_bounds.large_channel.Goals as goal

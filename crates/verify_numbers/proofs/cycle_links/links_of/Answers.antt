@@ -1,5 +1,5 @@
 use Rattle.std.proofs.Common.{◌≡◌, ◌∙◌, sym, ap, ◌<◌, ◌+◌, ◌++◌, [], drop, length, slice_index_or, append-nil, ℕ, arith}
-use Rattle.law_numbering.specs.Cycles.{links_after, links_of}
+use Rattle.verify_numbers.specs.Cycles.{links_after, links_of}
 use Rattle.verify_numbers.specs.Laid.{laid}
 use Rattle.verify_numbers.specs.Links.{link_view, links_view, part_at, parts_at}
 use Rattle.verify_numbers.proofs.CycleParts.{more_links}

@@ -1,6 +1,6 @@
 use Rattle.std.proofs.Common.{◌≡◌, ◌++◌, ℕ, All, drop}
 use Rattle.law_typing.specs.Graph.{Graph}
-use Rattle.law_numbering.specs.Cycles.{links_after, links_of}
+use Rattle.verify_numbers.specs.Cycles.{links_after, links_of}
 use Rattle.verify_sketches.specs.Sketches.{Sketch}
 use Rattle.verify_numbers.specs.Counts.{counts_of}
 use Rattle.verify_numbers.specs.Laid.{laid}

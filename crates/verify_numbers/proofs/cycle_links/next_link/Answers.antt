@@ -1,5 +1,5 @@
 use Rattle.std.proofs.Common.{sym, ap, subst, ◌∷◌, ◌++◌}
-use Rattle.law_numbering.specs.Cycles.{links_after}
+use Rattle.verify_numbers.specs.Cycles.{links_after}
 use Rattle.verify_numbers.specs.Links.{Describes, link_view, links_view}
 use Rattle.verify_numbers.proofs.CycleParts.{passed_by}
 use Rattle.verify_numbers.proofs.cycle_links.next_link.Goals as goal

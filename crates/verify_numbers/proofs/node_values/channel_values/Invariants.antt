@@ -1,5 +1,5 @@
 use Rattle.std.proofs.Common.{◌≡◌}
-use Rattle.law_numbering.specs.Tables.{value_of}
+use Rattle.verify_numbers.specs.Tables.{value_of}
 use Rattle.verify_sketches.specs.View.{sketch_view}
 use Rattle.verify_numbers.specs.Counts.{at_in}
 use Rattle.ui_machine.specs.Seq.{listed}

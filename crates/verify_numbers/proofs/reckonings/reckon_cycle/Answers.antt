@@ -1,7 +1,7 @@
 use Rattle.std.proofs.Common.{◌∙◌, ap, ◌+◌, ◌++◌, drop, take, slice_index_or}
 use Rattle.verify_numbers.specs.Laid.{laid}
 use Rattle.verify_numbers.specs.Links.{parts_at}
-use Rattle.law_numbering.specs.Cycles.{links_of}
+use Rattle.verify_numbers.specs.Cycles.{links_of}
 use Rattle.verify_numbers.proofs.Lists.{from_number}
 use Rattle.verify_numbers.proofs.reckonings.reckon_cycle.Goals as goal
 

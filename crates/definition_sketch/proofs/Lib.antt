@@ -1,5 +1,0 @@
-pub mod GraphChannels
-mod NoFaults
-mod PairEnds
-mod Sketched
-mod Starts

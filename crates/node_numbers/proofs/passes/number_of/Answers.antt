@@ -1,8 +1,0 @@
-use Rattle.node_numbers.specs.Numbers.{counted, of_node}
-use Rattle.node_numbers.proofs.Sums.{capped_before}
-use Rattle.node_numbers.proofs.passes.number_of.Goals as goal
-
-pub returns : goal.returns
-returns c =
-    let l = capped_before c.args.rule.now.times (counted c.args.rule.now.adds (of_node c.args.values.now) c.args.nodes.now) c.args.rule.now.more c.args.most in
-    cc

@@ -1,2 +1,0 @@
-pub mod ByChannel
-pub mod NamedSources

@@ -1,4 +1,0 @@
-use Rattle.verify_faults.proofs.paths.+path_within.Given as goal
-
-abbrev pub decreases-path_within : goal.decreases-path_within
-decreases-path_within l = l.steps
