@@ -27,3 +27,4 @@ pub mod Few
 pub mod Short
 pub mod Names
 pub mod Naming
+pub mod Following

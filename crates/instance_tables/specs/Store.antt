@@ -1,6 +1,6 @@
 -- What a table is seen as: the machine's objects, and beside each how often it is held.
 use Rattle.std.specs.Option.{option_map}
-use Rattle.std.specs.Prelude.{◌≡◌, ◌+◌, ◌&&◌, ℕ, zero, suc, nat_lt, length, map, false, true, Bool, List, [], ◌∷◌, ◌++◌, Option, Some, None, is_some, cond, nat_eq, Result, Ok, Err}
+use Rattle.std.specs.Prelude.{◌≡◌, ◌+◌, ◌&&◌, ℕ, zero, suc, nat_lt, length, map, false, true, Bool, List, [], ◌∷◌, ◌++◌, Option, Some, None, is_some, IsSome, ◌≤◌, cond, nat_eq, Result, Ok, Err}
 use Rattle.ui_machine.specs.declared.ids.ObjectId.{ObjectId}
 use Rattle.ui_machine.specs.Definition.Values.{Value}
 use Rattle.ui_machine.specs.Definition.Values as values
@@ -108,3 +108,10 @@ abbrev pub CreatesFloating : Result ObjectId CreateError → Object → Store �
 CreatesFloating (Ok id) o old new = (has_room 0 old ≡ true) × (id.0 ≡ suc (length old.objects)) × (new ≡ with_floating id.0 (with_object o old))
 CreatesFloating (Err ObjectLimit) o old new = (has_room 0 old ≡ false) × (new ≡ old)
 CreatesFloating (Err OutOfMemory) o old new = (has_room 0 old ≡ true) × (new ≡ old)
+
+-- ** which objects live
+
+-- the lowest identity of an object that lives, from an identity on, or there is none
+pub record IsNextLiving (os : Objects) (from : ℕ) (next : Option ℕ) : Type 0 where
+  pub lives : (id : ℕ) → next ≡ Some id → (from ≤ id) × IsSome (living os id)
+  pub lowest : (id : ℕ) → from ≤ id → IsSome (living os id) → (n : ℕ) × (next ≡ Some n) × (n ≤ id)

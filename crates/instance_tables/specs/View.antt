@@ -86,3 +86,8 @@ pub record Replaces (at new : Lookup) (id : ℕ) (instance : Option Instance) : 
 abbrev pub first_unheld : List (ℕ × Instance) → Option ℕ
 first_unheld [] = None
 first_unheld (e ∷ es) = cond (nat_eq e.1.mentions 0) (Some e.0) (first_unheld es)
+
+-- the first key
+abbrev pub first_identity : List (ℕ × Instance) → Option ℕ
+first_identity [] = None
+first_identity (e ∷ es) = Some e.0

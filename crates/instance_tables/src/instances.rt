@@ -17,7 +17,7 @@ ghost use Rattle.instance_tables.specs.Index.{IsIndex};
 ghost use Rattle.instance_tables.specs.Lent.{LendsInstance};
 ghost use Rattle.instance_tables.specs.Names.{forgotten_in};
 ghost use Rattle.instance_tables.specs.Store.{id_of};
-ghost use Rattle.instance_tables.specs.View.{first_unheld, instances_at, Replaces};
+ghost use Rattle.instance_tables.specs.View.{first_identity, first_unheld, instances_at, Replaces};
 
 use crate::instance::Instance;
 use crate::weak::WeakSlots;
@@ -169,6 +169,19 @@ impl Instances {
                 continue;
             };
             if entry.instance.mentions == 0 {
+                return Some(ObjectId(*id));
+            }
+        }
+        None
+    }
+
+    /// Returns the lowest identity, from this one on, that has an instance.
+    pub(crate) fn first_from(&self, from: ObjectId) -> Option<ObjectId>
+        ensures first { id_of result ≡ first_identity (entries_between nat_cmp (Included from.0) Unbounded self.now) }
+        ensures ordered { IsStrictlySortedBy nat_cmp (keys_of self.now) }
+    {
+        for (id, key) in self.keys.range(from.0..) {
+            if self.entries.get(*key).is_some() {
                 return Some(ObjectId(*id));
             }
         }

@@ -131,6 +131,20 @@ impl Object {
         self.children.len() >= MOST_CHILDREN
     }
 
+    /// Returns the children in their order.
+    pub fn children(&self) -> &[ObjectId]
+        ensures { ids_of result.now ≡ self.now.children }
+    {
+        self.children.as_slice()
+    }
+
+    /// Returns the value in a slot, or `None` if the object has no such slot.
+    pub fn value(&self, slot: Slot) -> Option<&Value>
+        ensures { option_map (λ v. value_view v.now) result ≡ slice_get self.now.values slot }
+    {
+        self.values.get(usize::from(slot))
+    }
+
     // States that the object's lists are never longer than memory.
     pub(crate) fn holds_few(&self)
         ensures { HoldsFew self.now }

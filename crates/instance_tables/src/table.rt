@@ -1,13 +1,13 @@
 //! The table of objects by their identities.
 
-ghost use Rattle.std.specs.Prelude.{◌≡◌, ℕ, suc, length, ◌+◌, ◌-◌, ◌<◌, ◌^◌, ◌↔◌, [], IfOk, IfSome, IsOk, IsSome, IsTrue, is_some, None, Ok, reverse, OnErr};
+ghost use Rattle.std.specs.Prelude.{◌≡◌, ℕ, suc, length, ◌+◌, ◌-◌, ◌<◌, ◌^◌, ◌↔◌, [], IfOk, IfSome, IsOk, IsSome, IsTrue, is_some, None, Ok, option_copied, reverse, OnErr};
 ghost use Rattle.ui_machine.specs.State.Objects.{asked, changed, living, most_identities, value_at, with_value};
 ghost use Rattle.ui_machine.specs.State.References.{next_unheld};
 ghost use Rattle.ui_machine.specs.Rules.NotifyQueue.{raised, frozen_more, frozen_less};
 ghost use Rattle.ui_machine.specs.Rules.Sets.{is_disposed};
 ghost use Rattle.ui_machine.specs.Rules.Disposal.{peer_of};
 ghost use Rattle.g_values.specs.View.{value_view};
-ghost use Rattle.instance_tables.specs.Store.{count_of, freezes_in, id_of, with_count, with_object, with_objects, has_room, may_hold, so_often, Creates};
+ghost use Rattle.instance_tables.specs.Store.{IsNextLiving, count_of, freezes_in, id_of, with_count, with_object, with_objects, has_room, may_hold, so_often, Creates};
 
 use crate::error::CreateError;
 use crate::instance::Instance;
@@ -144,6 +144,23 @@ impl Table {
         ensures live { result ≡ is_some (living self.now.objects id.0) }
     {
         self.instances.contains(id)
+    }
+
+    /// Returns an object that lives, or `None` if none of this identity does.
+    pub fn object(&self, id: ObjectId) -> Option<&Object>
+        ensures { option_copied result ≡ living self.now.objects id.0 }
+    {
+        let Some(instance) = self.instances.get(id) else {
+            return None;
+        };
+        Some(&instance.object)
+    }
+
+    /// Returns the lowest identity of an object that lives, from this identity on.
+    pub fn next_live(&self, from: ObjectId) -> Option<ObjectId>
+        ensures { IsNextLiving self.now.objects from.0 (id_of result) }
+    {
+        self.instances.first_from(from)
     }
 
     /// Returns the class of an object that lives.
