@@ -11,3 +11,4 @@ pub mod Statuses
 pub mod UnderWay
 pub mod Unread
 pub mod Verdicts
+pub mod Moments

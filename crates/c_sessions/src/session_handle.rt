@@ -2,6 +2,7 @@
 
 ghost use Rattle.std.specs.Prelude.{◌≡◌, [], IfSome, None, Some, option_map};
 ghost use Rattle.c_sessions.specs.Held.{is_kept};
+ghost use Rattle.c_sessions.specs.Moments.{TellsNext};
 ghost use Rattle.c_sessions.specs.Handles.{AdvancesAs, BeginsAs, Dispatches, FailsAs, KeepsAs, Starts, Takes, status_of_part};
 
 use crate::buffers::write_text;
@@ -12,7 +13,7 @@ use crate::starts::{Started, start};
 use crate::status::Status;
 use std::alloc::Global;
 use std::mem;
-use ui_engine::SessionFault;
+use ui_engine::{NextDue, SessionFault};
 
 /// A handle that holds a session, or none. For C it is a struct of a truth value and an address. C neither reads nor writes them, except
 /// for the zero bytes with which a handle without a session begins.
@@ -126,6 +127,17 @@ impl SessionHandle {
         let goes_on = session.is_under_way();
         self.put(alloc, session);
         status_of_part(result, goes_on)
+    }
+
+    /// Returns when a turn of the session has something to run next, if no event comes before it. A handle without a session has nothing
+    /// to run.
+    pub fn next_due(&mut self, alloc: Global) -> Option<NextDue>
+        ensures { TellsNext self.old.kept.session result self.new.kept.session }
+    {
+        let session = self.take(alloc)?;
+        let due = session.next_due();
+        self.put(alloc, session);
+        Some(due)
     }
 
     /// Takes bytes of the session's lines as `HostedSession::take_lines` does, and returns how many. A handle without a session has none.

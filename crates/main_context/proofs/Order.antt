@@ -1,5 +1,5 @@
 -- Sources of rising numbers: what attaching and removing one keeps, and what a search by halves finds.
-use Rattle.std.proofs.Common.{◌≡◌, ℕ, zero, suc, ◌+◌, ◌<◌, ◌≤◌, Bool, true, false, cond, not, nat_eq, nat_lt, List, [], ◌∷◌, ◌++◌, length, map, get_or, slice_set, pos, Option, None, Some, Result, Ok, Err, refl, sym, ap, subst, ◌∙◌, arith, position, length-append, inl, inr, ◌⊎◌}
+use Rattle.std.proofs.Common.{◌≡◌, ℕ, zero, suc, ◌+◌, ◌<◌, ◌≤◌, Bool, true, false, cond, not, nat_eq, nat_lt, List, [], ◌∷◌, ◌++◌, length, get_or, slice_set, pos, Option, None, Some, Result, Ok, Err, refl, sym, ap, subst, ◌∙◌, arith, position, length-append, inl, inr, ◌⊎◌}
 use Rattle.std.specs.List.{AllByRecursion, position_or_len}
 use Rattle.std.specs.List.Sorted.{IsSearchInRange, IsBinarySearchResult, IsNonDecreasingBy}
 use Rattle.std.specs.Ordering.{nat_cmp, ordering_index}

@@ -2,3 +2,4 @@ pub mod Dues
 pub mod Attached
 pub mod Priorities
 pub mod Order
+pub mod Moments

@@ -1,8 +1,9 @@
 //! The main context.
 
-ghost use Rattle.std.specs.Prelude.{◌≡◌, ◌<◌, ◌≤◌, length, ◌↔◌, ◌&&◌, not, false, [], None, Some, map, option_map, OnOk, OnErr, IfOk};
-ghost use Rattle.std.specs.List.{find};
-ghost use Rattle.ui_machine.specs.Rules.MainLoop.{ready, answered};
+ghost use Rattle.std.specs.Prelude.{◌≡◌, ◌<◌, ◌≤◌, length, ◌↔◌, ◌&&◌, ◌||◌, ◌^◌, ℕ, not, false, [], None, Some, map, option_map, OnOk, OnErr, IfOk};
+ghost use Rattle.std.specs.List.{find, list_any};
+ghost use Rattle.main_context.specs.Moments.{is_from};
+ghost use Rattle.ui_machine.specs.Rules.MainLoop.{is_ready, ready, answered};
 ghost use Rattle.ui_machine.specs.State.Sources.{has_room, source_of, runs_program, without_first};
 
 use crate::batch::Batch;
@@ -56,6 +57,13 @@ impl Context {
         ensures few { length self.now.sources ≤ 256 }
     {
         self.sources.len()
+    }
+
+    /// Returns the latest moment, which is 0 before the first iteration.
+    pub fn moment(&self) -> u64
+        ensures { result ≡ self.now.moment }
+    {
+        self.moment
     }
 
     /// Attaches an idle, which is always ready.
@@ -154,6 +162,18 @@ impl Context {
         Ok(batch)
     }
 
+    /// Returns the first moment from which some source is ready, or `None` if there is none. A host calls the next turn at this moment, or at
+    /// once if it has passed.
+    pub fn next_ready(&self) -> Option<u64>
+        ensures { (moment : ℕ) → moment < 2 ^ 64 → list_any (is_ready moment) self.now.sources ≡ is_from result moment }
+    {
+        let mut first = None;
+        'sources: for source in &self.sources {
+            first = sooner(first, source.first_ready());
+        }
+        first
+    }
+
     /// Returns the next source of a batch, or `None` if none is left. Passes over sources that were removed since.
     pub fn next_of(&self, batch: &mut Batch) -> Option<Due>
         ensures given { result ≡ option_map due_of (next_source self.now.sources batch.old) }
@@ -186,5 +206,18 @@ impl Context {
             return false;
         }
         sources::take(&mut self.sources, source).is_some()
+    }
+}
+
+// Returns the sooner of two moments, if there is one.
+fn sooner(left: Option<u64>, right: Option<u64>) -> Option<u64>
+    ensures { (moment : ℕ) → is_from result moment ≡ (is_from left moment || is_from right moment) }
+{
+    match left {
+        None => right,
+        Some(first) => match right {
+            None => Some(first),
+            Some(second) => Some(first.min(second)),
+        },
     }
 }

@@ -1,6 +1,7 @@
 //! A single source.
 
-ghost use Rattle.std.specs.Prelude.{◌≡◌};
+ghost use Rattle.std.specs.Prelude.{◌≡◌, ◌<◌, ◌^◌, ℕ};
+ghost use Rattle.main_context.specs.Moments.{is_from};
 ghost use Rattle.ui_machine.specs.Rules.MainLoop.{is_ready};
 ghost use Rattle.ui_machine.specs.State.Sources.{runs_program, due_after, new_source};
 
@@ -91,6 +92,16 @@ impl Source {
         match self.interval {
             None => true,
             Some(interval) => { self.since <= moment && u64::from(interval) <= moment - self.since }
+        }
+    }
+
+    /// Returns the first moment from which the source is ready, or `None` if that is past all numbers of 64 bits.
+    pub fn first_ready(&self) -> Option<u64>
+        ensures { (moment : ℕ) → moment < 2 ^ 64 → is_ready moment self.now ≡ is_from result moment }
+    {
+        match self.interval {
+            None => Some(0),
+            Some(interval) => self.since.checked_add(u64::from(interval)),
         }
     }
 

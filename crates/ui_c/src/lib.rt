@@ -7,8 +7,8 @@
 
 ghost use Rattle.std.specs.Prelude.{◌≡◌, None, Option, length};
 ghost use Rattle.ui_engine.specs.declared.next_due.NextDue.{NextDue};
-ghost use Rattle.c_sessions.specs.Handles.{AdvancesAs, BeginsAs, Dispatches, Starts, Takes, TellsNext};
-ghost use Rattle.c_sessions.specs.Moments.{code_of_due, moment_told};
+ghost use Rattle.c_sessions.specs.Handles.{AdvancesAs, BeginsAs, Dispatches, Starts, Takes};
+ghost use Rattle.c_sessions.specs.Moments.{TellsNext, code_of_due, moment_told};
 ghost use Rattle.c_sessions.specs.Statuses.{code_of};
 ghost use Rattle.c_sessions.specs.Verdicts.{Verifies};
 ghost use Rattle.c_sessions.specs.declared.status.Status.{Status};

@@ -4,6 +4,8 @@ pub mod BuildBegins
 pub mod AskedKinds
 pub mod Endings
 pub mod Widths
+pub mod Readings
+pub mod Due
 pub use Rattle.engine_dispatches.specs.Dispatched
 pub use Rattle.engine_dispatches.specs.PoolView
 pub use Rattle.engine_dispatches.specs.Promises
