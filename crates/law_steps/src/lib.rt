@@ -3,6 +3,6 @@
 #![tactic(auto)]
 
 pub mod instructions;
-pub mod kept;
+pub mod kept_worlds;
 pub mod sessions;
 pub mod tasks;

@@ -1,5 +1,0 @@
-use Rattle.law_left_peers.proofs.Names.PlainPlaces.{names_peers_plainly}
-use Rattle.law_left_peers.proofs.names.peer_names.Goals as goal
-
-pub returns : goal.returns
-returns c = names_peers_plainly

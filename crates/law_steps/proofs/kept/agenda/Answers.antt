@@ -1,5 +1,0 @@
-use Rattle.law_steps.proofs.Kept.AgendaProofs.{agenda_served}
-use Rattle.law_steps.proofs.kept.agenda.Goals as goal
-
-pub returns : goal.returns
-returns c = record { served = agenda_served }

@@ -1,5 +1,0 @@
-use Rattle.law_steps.proofs.Kept.AlikeProofs.{whole_stays, build_stays}
-use Rattle.law_steps.proofs.kept.alike.Goals as goal
-
-pub returns : goal.returns
-returns c = record { stays = whole_stays; build = build_stays }

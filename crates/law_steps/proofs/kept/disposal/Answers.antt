@@ -1,5 +1,0 @@
-use Rattle.law_steps.proofs.Kept.DisposedProofs.{dispose_keeps}
-use Rattle.law_steps.proofs.kept.disposal.Goals as goal
-
-pub returns : goal.returns
-returns c = record { keeps = dispose_keeps }

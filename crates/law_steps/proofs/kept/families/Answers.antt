@@ -1,5 +1,0 @@
-use Rattle.law_steps.proofs.Kept.FamilyProofs.{families_keep}
-use Rattle.law_steps.proofs.kept.families.Goals as goal
-
-pub returns : goal.returns
-returns c = record { keep = families_keep }

@@ -1,5 +1,0 @@
-use Rattle.worked.proofs.Laws.PairReads.{pair_met}
-use Rattle.worked.proofs.laws.pair.Goals as goal
-
-pub returns : goal.returns
-returns c = pair_met

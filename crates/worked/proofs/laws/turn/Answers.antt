@@ -1,5 +1,0 @@
-use Rattle.worked.proofs.Laws.TurnProofs.{turn_keeps}
-use Rattle.worked.proofs.laws.turn.Goals as goal
-
-pub returns : goal.returns
-returns c = turn_keeps
