@@ -47,6 +47,8 @@ enum {
   GELVOPAUN_BUSY = 7,
   /* No memory was found for reading the line. Nothing was done, and the session is as it was. */
   GELVOPAUN_NO_MEMORY = 8,
+  /* No event is under way. Nothing was done. */
+  GELVOPAUN_AT_REST = 9,
 };
 
 /* When a turn has something to run next. */
@@ -80,8 +82,7 @@ uint8_t gelvopaun_begin(gelvopaun_ui *ui, const uint8_t *line, size_t length, ui
 
 /* Goes on with the event that is under way, for at most so many counted steps. It answers GELVOPAUN_UNDER_WAY where exactly so many were made
  * and the event has not ended, and GELVOPAUN_DONE where it has. All parts of an event come to what gelvopaun_dispatch comes to, and its lines
- * can be taken between them. Where no event is under way nothing is done, and it answers GELVOPAUN_DONE, or GELVOPAUN_STOPPED where the session
- * has stopped. */
+ * can be taken between them. Where no event is under way nothing is done, and it answers GELVOPAUN_AT_REST. */
 uint8_t gelvopaun_advance(gelvopaun_ui *ui, uint64_t most);
 
 /* Answers when a turn has something to run next, if no event comes before it. Where that is GELVOPAUN_DUE_AT the moment is written to

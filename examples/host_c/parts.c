@@ -40,7 +40,7 @@ static void call_in_all_orders(void) {
   want("without a session: advance", gelvopaun_advance(&ui, 1), GELVOPAUN_NO_SESSION);
   want("start", gelvopaun_start((const uint8_t *)emits, strlen(emits), &ui, (uint8_t *)text, sizeof text), GELVOPAUN_DONE);
   take("build", "build\nconstruct #1 Box\nend 0\n");
-  want("at rest: advance", gelvopaun_advance(&ui, 1), GELVOPAUN_DONE);
+  want("at rest: advance", gelvopaun_advance(&ui, 1), GELVOPAUN_AT_REST);
   want("begin a refused line", begin("{\"emit\":[\"b\",\"u\",[]]}"), GELVOPAUN_LINE_REFUSED);
   want("its reason", strcmp(text, "Unknown"), 0);
   want("begin", begin("{\"emit\":[\"b\",\"s\",[]]}"), GELVOPAUN_UNDER_WAY);
@@ -52,7 +52,7 @@ static void call_in_all_orders(void) {
   take("two steps", "emit #1.s()\nrun c\n");
   want("three more", gelvopaun_advance(&ui, UINT64_MAX), GELVOPAUN_DONE);
   take("three more", "emit #1.t()\nrun e\nend 5\n");
-  want("after it: advance", gelvopaun_advance(&ui, 1), GELVOPAUN_DONE);
+  want("after it: advance", gelvopaun_advance(&ui, 1), GELVOPAUN_AT_REST);
   want("a turn of nothing", begin("{\"turn\":5}"), GELVOPAUN_DONE);
 }
 

@@ -1,0 +1,69 @@
+//! Objects as JSON.
+
+ghost use Rattle.std.specs.Prelude.{◌≡◌, ◌++◌, codes, map, IfOk, OnOk, string_bytes};
+ghost use Rattle.definitions.specs.EntryView.{entry_view};
+ghost use Rattle.instance_tables.specs.Store.{id_of, ids_of};
+ghost use Rattle.object_texts.specs.ObjectTexts.{number_text, numbers_text, object_text};
+
+use crate::values::{push_unsigned, quoted, truth_text};
+use definitions::{Definition, ObjectEntry};
+use instance_tables::Object;
+use std::alloc::{AllocError, Global};
+use ui_machine::ObjectId;
+
+/// Returns an object as JSON: the id of the place that it was made from, whether that is a prototype, and the object's class, parent,
+/// children in their order, and whether it is disposed. Other objects are named by their identities.
+///
+/// # Errors
+///
+/// `AllocError` if memory is refused.
+pub fn object_text(
+    alloc: Global,
+    definition: &Definition,
+    place: &ObjectEntry<'_>,
+    object: &Object,
+) -> Result<String, AllocError>
+    ensures { IfOk result (λ text. string_bytes text ≡ object_text definition.now (entry_view place.now) object.now) }
+{
+    let id = quoted(alloc, place.id)?;
+    let class = quoted(alloc, definition.class_name(object.class()))?;
+    let mut text = String::from_str(alloc, "{\"id\":")?;
+    text.push_str(id.as_str())?;
+    text.push_str(",\"prototype\":")?;
+    text.push_str(truth_text(place.is_prototype))?;
+    text.push_str(",\"class\":")?;
+    text.push_str(class.as_str())?;
+    text.push_str(",\"parent\":")?;
+    push_identity(&mut text, object.parent())?;
+    text.push_str(",\"children\":[")?;
+    push_identities(&mut text, object.children())?;
+    text.push_str("],\"disposed\":")?;
+    text.push_str(truth_text(object.is_disposed()))?;
+    text.push_str("}")?;
+    Ok(text)
+}
+
+// Appends an identity, or null.
+fn push_identity(text: &mut String, id: Option<ObjectId>) -> Result<(), AllocError>
+    ensures { OnOk result (string_bytes text.new ≡ string_bytes text.old ++ number_text (id_of id)) }
+{
+    match id {
+        Some(id) => push_unsigned(text, id.0),
+        None => text.push_str("null"),
+    }
+}
+
+// Appends identities, joined by commas.
+fn push_identities(text: &mut String, ids: &[ObjectId]) -> Result<(), AllocError>
+    ensures { OnOk result (string_bytes text.new ≡ string_bytes text.old ++ numbers_text (ids_of ids.now)) }
+{
+    let mut left = ids;
+    'ids: while let Some((id, others)) = left.split_first() {
+        push_unsigned(text, id.0)?;
+        if !others.is_empty() {
+            text.push_str(",")?;
+        }
+        left = others;
+    }
+    Ok(())
+}
