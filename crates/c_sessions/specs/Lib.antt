@@ -12,3 +12,4 @@ pub mod UnderWay
 pub mod Unread
 pub mod Verdicts
 pub mod Moments
+pub mod Told

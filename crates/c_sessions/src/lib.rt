@@ -12,6 +12,7 @@ mod hosted_session;
 mod kept;
 mod loose;
 mod moments;
+mod readings;
 mod session_handle;
 mod starts;
 mod status;

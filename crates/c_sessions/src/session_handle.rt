@@ -3,17 +3,20 @@
 ghost use Rattle.std.specs.Prelude.{◌≡◌, [], IfSome, None, Some, option_map};
 ghost use Rattle.c_sessions.specs.Held.{is_kept};
 ghost use Rattle.c_sessions.specs.Moments.{TellsNext};
+ghost use Rattle.c_sessions.specs.Told.{Finds, FindsNext, Tells, number_of, object_told, value_told};
 ghost use Rattle.c_sessions.specs.Handles.{AdvancesAs, BeginsAs, Dispatches, FailsAs, KeepsAs, Starts, Takes, status_of_part};
 
 use crate::buffers::write_text;
 use crate::faults::HostedFault;
 use crate::hosted_session::HostedSession;
 use crate::kept::Kept;
+use crate::readings::tell_text;
 use crate::starts::{Started, start};
 use crate::status::Status;
 use std::alloc::Global;
 use std::mem;
 use ui_engine::{NextDue, SessionFault};
+use ui_machine::ObjectId;
 
 /// A handle that holds a session, or none. For C it is a struct of a truth value and an address. C neither reads nor writes them, except
 /// for the zero bytes with which a handle without a session begins.
@@ -152,6 +155,58 @@ impl SessionHandle {
         count
     }
 
+    /// Returns the lowest identity of an object that lives, from this one on, or 0 if there is none. No identity is 0.
+    pub fn next_object(&mut self, alloc: Global, from: u64) -> u64
+        ensures { FindsNext from self.old.kept.session result self.new.kept.session }
+    {
+        let Some(session) = self.take(alloc) else {
+            return 0;
+        };
+        let next = session.next_object(ObjectId(from));
+        self.put(alloc, session);
+        number_of(next)
+    }
+
+    /// Returns the identity of the document's object with this id, while the builder holds it, and otherwise 0.
+    pub fn identity(&mut self, alloc: Global, id: &[u8]) -> u64
+        ensures { Finds id.now self.old.kept.session result self.new.kept.session }
+    {
+        let Some(session) = self.take(alloc) else {
+            return 0;
+        };
+        let identity = session.identity(id);
+        self.put(alloc, session);
+        number_of(identity)
+    }
+
+    /// Writes an object as JSON, as much as there is room for, and returns the whole length. It is 0 if the object does not live, or if memory
+    /// is refused.
+    pub fn describe(&mut self, alloc: Global, object: u64, out: &mut [u8]) -> usize
+        ensures { Tells (object_told object) self.old.kept.session out.old result self.new.kept.session out.new }
+    {
+        let Some(session) = self.take(alloc) else {
+            write_text(out, b"");
+            return 0;
+        };
+        let text = session.object_text(alloc, ObjectId(object));
+        self.put(alloc, session);
+        tell_text(text, out)
+    }
+
+    /// Writes the value of an object's property as JSON, as much as there is room for, and returns the whole length. It is 0 if the object does
+    /// not live or has no such property, or if memory is refused.
+    pub fn get(&mut self, alloc: Global, object: u64, property: &[u8], out: &mut [u8]) -> usize
+        ensures { Tells (value_told object property.now) self.old.kept.session out.old result self.new.kept.session out.new }
+    {
+        let Some(session) = self.take(alloc) else {
+            write_text(out, b"");
+            return 0;
+        };
+        let text = session.value_text(alloc, ObjectId(object), property);
+        self.put(alloc, session);
+        tell_text(text, out)
+    }
+
     /// Ends the session and frees it, if there is one.
     pub fn finish(&mut self, alloc: Global)
         ensures { self.new.kept.session ≡ None }
@@ -212,6 +267,16 @@ fn boxed<T: Drop>(alloc: Global, value: T) -> Option<Box<T>>
     match Box::new(alloc, value) {
         Ok(boxed) => Some(boxed),
         Err(_) => None,
+    }
+}
+
+// Returns the number of an identity, or 0.
+fn number_of(id: Option<ObjectId>) -> u64
+    ensures { result ≡ number_of id }
+{
+    match id {
+        Some(id) => id.0,
+        None => 0,
     }
 }
 

@@ -58,7 +58,7 @@ fn push_identities(text: &mut String, ids: &[ObjectId]) -> Result<(), AllocError
     ensures { OnOk result (string_bytes text.new ≡ string_bytes text.old ++ numbers_text (ids_of ids.now)) }
 {
     let mut left = ids;
-    'ids: while let Some((id, others)) = left.split_first() {
+    'ids: while let [id, others @ ..] = left {
         push_unsigned(text, id.0)?;
         if !others.is_empty() {
             text.push_str(",")?;

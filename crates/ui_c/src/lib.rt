@@ -10,6 +10,7 @@ ghost use Rattle.ui_engine.specs.declared.next_due.NextDue.{NextDue};
 ghost use Rattle.c_sessions.specs.Handles.{AdvancesAs, BeginsAs, Dispatches, Starts, Takes};
 ghost use Rattle.c_sessions.specs.Moments.{TellsNext, code_of_due, moment_told};
 ghost use Rattle.c_sessions.specs.Statuses.{code_of};
+ghost use Rattle.c_sessions.specs.Told.{Finds, FindsNext, Tells, object_told, value_told};
 ghost use Rattle.c_sessions.specs.Verdicts.{Verifies};
 ghost use Rattle.c_sessions.specs.declared.status.Status.{Status};
 
@@ -90,6 +91,49 @@ pub extern "C" fn gelvopaun_take_lines(
     ensures { Takes out.old ui.old.kept.session result ui.new.kept.session out.new }
 {
     ui.take_lines(alloc, out)
+}
+
+/// Returns the lowest identity of an object that lives, from this one on, as `SessionHandle::next_object` does.
+#[unsafe(no_mangle)]
+pub extern "C" fn gelvopaun_next_object(alloc: Global, ui: &mut SessionHandle, from: u64) -> u64
+    ensures { FindsNext from ui.old.kept.session result ui.new.kept.session }
+{
+    ui.next_object(alloc, from)
+}
+
+/// Returns the identity of the document's object with this id, as `SessionHandle::identity` does.
+#[unsafe(no_mangle)]
+pub extern "C" fn gelvopaun_object(alloc: Global, ui: &mut SessionHandle, id: &[u8]) -> u64
+    ensures { Finds id.now ui.old.kept.session result ui.new.kept.session }
+{
+    ui.identity(alloc, id)
+}
+
+/// Writes an object as JSON, as `SessionHandle::describe` does, and returns the whole length.
+#[unsafe(no_mangle)]
+pub extern "C" fn gelvopaun_describe(
+    alloc: Global,
+    ui: &mut SessionHandle,
+    object: u64,
+    out: &mut [u8],
+) -> usize
+    ensures { Tells (object_told object) ui.old.kept.session out.old result ui.new.kept.session out.new }
+{
+    ui.describe(alloc, object, out)
+}
+
+/// Writes the value of an object's property as JSON, as `SessionHandle::get` does, and returns the whole length.
+#[unsafe(no_mangle)]
+pub extern "C" fn gelvopaun_get(
+    alloc: Global,
+    ui: &mut SessionHandle,
+    object: u64,
+    property: &[u8],
+    out: &mut [u8],
+) -> usize
+    ensures { Tells (value_told object property.now) ui.old.kept.session out.old result ui.new.kept.session out.new }
+{
+    ui.get(alloc, object, property, out)
 }
 
 /// Ends the session and frees it, if there is one.
