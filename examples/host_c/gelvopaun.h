@@ -93,6 +93,28 @@ uint8_t gelvopaun_next_due(gelvopaun_ui *ui, uint64_t *moment);
  * written to `out`: `room`, or fewer where no more are left. */
 size_t gelvopaun_take_lines(gelvopaun_ui *ui, uint8_t *out, size_t room);
 
+/* Reading. The next four functions tell what there is of a session, at any time, also between the parts of an event. They change nothing, and a
+ * session that has stopped can be read too. Objects are numbered in the order in which they are made, from 1 on, as in the lines (`#1`); a
+ * number is never used again. Where a text is answered, as much of it as there is room for is written to `out`, and a zero byte follows where
+ * there is room for it; the answer is the whole length of the text, so a host can come again with more room. The answer is 0 where there is
+ * nothing to tell, and where no memory was found. */
+
+/* Answers the lowest number, from `from` on, of an object that lives, or 0 where there is none. A host goes through all objects by beginning
+ * with 1, and going on with one more than each answer. */
+uint64_t gelvopaun_next_object(gelvopaun_ui *ui, uint64_t from);
+
+/* Answers the number of the definition's object with this id, or 0 where there is no such object, or it was released. */
+uint64_t gelvopaun_object(gelvopaun_ui *ui, const uint8_t *id, size_t length);
+
+/* Tells an object that lives, as JSON:
+ *   {"id":"row","prototype":true,"class":"Row","parent":3,"children":[8,9],"disposed":false}
+ * `id` is that of the object or prototype of the definition from which it was made; `parent` is null where it has none. */
+size_t gelvopaun_describe(gelvopaun_ui *ui, uint64_t object, uint8_t *out, size_t room);
+
+/* Tells the value of a property of an object that lives, as JSON: true or false, a number, a text or null, an enum's nick as a text, the
+ * number of flags, and an object as {"object":14} or null. */
+size_t gelvopaun_get(gelvopaun_ui *ui, uint64_t object, const uint8_t *property, size_t length, uint8_t *out, size_t room);
+
 /* Ends the session and frees it, if there is one. The gelvopaun_ui can be started again. */
 void gelvopaun_finish(gelvopaun_ui *ui);
 

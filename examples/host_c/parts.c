@@ -70,6 +70,41 @@ static void wait_for_turns(void) {
   want("an idle", gelvopaun_next_due(&ui, &moment), GELVOPAUN_DUE_NOW);
 }
 
+static void tell(const char *what, size_t length, const char *wanted) {
+  if (length == strlen(wanted) && strcmp(text, wanted) == 0) return;
+  printf("%s: %s, and not %s\n", what, text, wanted);
+  failed = 1;
+}
+
+static size_t describe(uint64_t object) { return gelvopaun_describe(&ui, object, (uint8_t *)text, sizeof text); }
+static size_t get(uint64_t object, const char *property) { return gelvopaun_get(&ui, object, (const uint8_t *)property, strlen(property), (uint8_t *)text, sizeof text); }
+
+/* What there is of a session, also while an event is under way. */
+static void read_objects(void) {
+  static const char *panel =
+      "{\"format\":1,\"enums\":[{\"name\":\"Mode\",\"members\":[[\"MODE_NULL\",\"null\",0]]}],"
+      "\"classes\":[{\"name\":\"Box\",\"properties\":[{\"name\":\"on\",\"kind\":\"bool\"},{\"name\":\"label\",\"kind\":\"text\",\"default\":\"a\\\"b\"},"
+      "{\"name\":\"mode\",\"kind\":\"enum:Mode\"},{\"name\":\"to\",\"kind\":\"object:Box\"}]}],"
+      "\"objects\":[{\"id\":\"a\",\"class\":\"Box\",\"properties\":[{\"name\":\"to\",\"value\":\"b\"}],\"children\":[{\"id\":\"b\",\"class\":\"Box\"}]}]}";
+  want("without a session: next", gelvopaun_next_object(&ui, 1), 0);
+  tell("without a session: describe", describe(1), "");
+  want("start", gelvopaun_start((const uint8_t *)panel, strlen(panel), &ui, (uint8_t *)text, sizeof text), GELVOPAUN_DONE);
+  want("the first", gelvopaun_next_object(&ui, 0), 1);
+  want("the second", gelvopaun_next_object(&ui, 2), 2);
+  want("no third", gelvopaun_next_object(&ui, 3), 0);
+  want("by id", gelvopaun_object(&ui, (const uint8_t *)"b", 1), 2);
+  want("by no id", gelvopaun_object(&ui, (const uint8_t *)"c", 1), 0);
+  tell("a", describe(1), "{\"id\":\"a\",\"prototype\":false,\"class\":\"Box\",\"parent\":null,\"children\":[2],\"disposed\":false}");
+  tell("b", describe(2), "{\"id\":\"b\",\"prototype\":false,\"class\":\"Box\",\"parent\":1,\"children\":[],\"disposed\":false}");
+  tell("on", get(1, "on"), "false");
+  tell("label", get(1, "label"), "\"a\\\"b\"");
+  tell("mode", get(1, "mode"), "\"null\"");
+  tell("to", get(1, "to"), "{\"object\":2}");
+  tell("no such property", get(1, "off"), "");
+  want("no room", gelvopaun_get(&ui, 1, (const uint8_t *)"on", 2, (uint8_t *)text, 0), 5);
+  gelvopaun_finish(&ui);
+}
+
 /* A session can be ended while an event is under way. */
 static void end_midway(void) {
   want("begin", begin("{\"emit\":[\"b\",\"s\",[]]}"), GELVOPAUN_UNDER_WAY);
@@ -82,5 +117,6 @@ int main(void) {
   call_in_all_orders();
   wait_for_turns();
   end_midway();
+  read_objects();
   return failed;
 }

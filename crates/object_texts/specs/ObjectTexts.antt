@@ -13,7 +13,7 @@ use Rattle.ui_machine.specs.Output.Text.{members_of, nick_of}
 use Rattle.ui_machine.specs.State.Objects.{Object}
 
 -- a text as a JSON string
-abbrev pub quoted : List ℕ → List ℕ
+unfoldable pub quoted : List ℕ → List ℕ
 quoted text = compact_text (string text)
 
 -- a value as an event gives it; an object by its identity
@@ -44,10 +44,15 @@ abbrev pub truth_text : Bool → List ℕ
 truth_text true = codes "true"
 truth_text false = codes "false"
 
--- an object that was made from a place: the place's id, whether the place is a prototype, and the object's class, parent, children, and
--- whether it is disposed
+-- which object it is: the id of the place from which it was made, whether that is a prototype, and the class
+abbrev pub origin_text : Definition → Place → Object → List ℕ
+origin_text d place o =
+    codes "{\"id\":" ++ (quoted place.id ++ (codes ",\"prototype\":" ++ (truth_text place.is_prototype ++ (codes ",\"class\":" ++ quoted (type_of d o.class).name))))
+
+-- its parent and its children
+abbrev pub family_text : Object → List ℕ
+family_text o = codes ",\"parent\":" ++ (number_text o.parent ++ (codes ",\"children\":[" ++ (numbers_text o.children ++ codes "]")))
+
+-- an object that was made from a place: which it is, its family, and whether it is disposed
 abbrev pub object_text : Definition → Place → Object → List ℕ
-object_text d place o =
-    codes "{\"id\":" ++ (quoted place.id ++ (codes ",\"prototype\":" ++ (truth_text place.is_prototype
-    ++ (codes ",\"class\":" ++ (quoted (type_of d o.class).name ++ (codes ",\"parent\":" ++ (number_text o.parent
-    ++ (codes ",\"children\":[" ++ (numbers_text o.children ++ (codes "],\"disposed\":" ++ (truth_text o.disposed ++ codes "}")))))))))))
+object_text d place o = origin_text d place o ++ (family_text o ++ (codes ",\"disposed\":" ++ (truth_text o.disposed ++ codes "}")))

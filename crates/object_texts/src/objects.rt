@@ -3,7 +3,7 @@
 ghost use Rattle.std.specs.Prelude.{◌≡◌, ◌++◌, codes, map, IfOk, OnOk, string_bytes};
 ghost use Rattle.definitions.specs.EntryView.{entry_view};
 ghost use Rattle.instance_tables.specs.Store.{id_of, ids_of};
-ghost use Rattle.object_texts.specs.ObjectTexts.{number_text, numbers_text, object_text};
+ghost use Rattle.object_texts.specs.ObjectTexts.{family_text, number_text, numbers_text, object_text, origin_text};
 
 use crate::values::{push_unsigned, quoted, truth_text};
 use definitions::{Definition, ObjectEntry};
@@ -25,6 +25,23 @@ pub fn object_text(
 ) -> Result<String, AllocError>
     ensures { IfOk result (λ text. string_bytes text ≡ object_text definition.now (entry_view place.now) object.now) }
 {
+    let mut text = origin_text(alloc, definition, place, object)?;
+    push_family(&mut text, object)?;
+    text.push_str(",\"disposed\":")?;
+    text.push_str(truth_text(object.is_disposed()))?;
+    text.push_str("}")?;
+    Ok(text)
+}
+
+// Returns the beginning of an object's text, which says from which place it was made, and its class.
+fn origin_text(
+    alloc: Global,
+    definition: &Definition,
+    place: &ObjectEntry<'_>,
+    object: &Object,
+) -> Result<String, AllocError>
+    ensures { IfOk result (λ text. string_bytes text ≡ origin_text definition.now (entry_view place.now) object.now) }
+{
     let id = quoted(alloc, place.id)?;
     let class = quoted(alloc, definition.class_name(object.class()))?;
     let mut text = String::from_str(alloc, "{\"id\":")?;
@@ -33,14 +50,18 @@ pub fn object_text(
     text.push_str(truth_text(place.is_prototype))?;
     text.push_str(",\"class\":")?;
     text.push_str(class.as_str())?;
-    text.push_str(",\"parent\":")?;
-    push_identity(&mut text, object.parent())?;
-    text.push_str(",\"children\":[")?;
-    push_identities(&mut text, object.children())?;
-    text.push_str("],\"disposed\":")?;
-    text.push_str(truth_text(object.is_disposed()))?;
-    text.push_str("}")?;
     Ok(text)
+}
+
+// Appends the parent and the children of an object.
+fn push_family(text: &mut String, object: &Object) -> Result<(), AllocError>
+    ensures { OnOk result (string_bytes text.new ≡ string_bytes text.old ++ family_text object.now) }
+{
+    text.push_str(",\"parent\":")?;
+    push_identity(text, object.parent())?;
+    text.push_str(",\"children\":[")?;
+    push_identities(text, object.children())?;
+    text.push_str("]")
 }
 
 // Appends an identity, or null.
