@@ -6,7 +6,7 @@ ghost use Rattle.ui_machine.specs.Definition.Names.{same_name};
 ghost use Rattle.law_peers.specs.Needs.{first_unused, first_wrong, is_shaped, mismatch_with, peer_named, wrong_with};
 ghost use Rattle.peer_shapes.specs.MethodViews.{method_view};
 ghost use Rattle.native_peers.specs.Matching.{as_peer, as_peers, mismatch_of, mismatch_view, need_view};
-ghost use Rattle.native_peers.specs.Pool.{entries, seen, seen_one};
+ghost use Rattle.native_peers.specs.Pool.{entries, number_of, seen, seen_one};
 
 use crate::entries::NamedPeer;
 use crate::faults::MatchFault;
@@ -93,23 +93,44 @@ fn used<'a>(peer: &'a NamedPeer, needs: &[Need<'_>], likely: usize) -> Result<us
 }
 
 impl PeerPool {
-    // Checks that the pool has the peer of a need, open and of the right shape.
-    fn serves<'a>(&self, need: &Need<'a>) -> Result<(), MatchFault<'a>>
+    // Returns whether the peer with this number has this name, which no other peer has then.
+    fn is_named(&self, number: usize, name: &str) -> bool
+        ensures { IsTrue result → number_of (entries self.now) name.now ≡ Some number }
+    {
+        match self.peers.get(number) {
+            Some(peer) => peer.name.as_str() == name,
+            None => false,
+        }
+    }
+
+    // Returns the number of the peer with this name. Looks at the peer with number `likely` first.
+    fn find_near(&self, name: &str, likely: usize) -> Option<usize>
+        ensures { result ≡ number_of (entries self.now) name.now }
+    {
+        if self.is_named(likely, name) {
+            return Some(likely);
+        }
+        self.find(name)
+    }
+
+    // Checks that the pool has the peer of a need, open and of the right shape. Looks at the peer with number `likely` first.
+    fn serves<'a>(&self, need: &Need<'a>, likely: usize) -> Result<(), MatchFault<'a>>
         ensures { mismatch_of result ≡ wrong_with (need_view need.now)
             (peer_named (as_peers (seen (λ p. state p.peer) (entries self.now))) need.now.name.now) }
     {
-        match self.find(need.name) {
+        match self.find_near(need.name, likely) {
             Some(k) => fits(&self.peers[k], need),
             None => Err(MatchFault::PeerMissing(need.name)),
         }
     }
 
-    // Checks that the pool has the peer of each need, open and of the right shape.
+    // Checks that the pool has the peer of each need, open and of the right shape. Looks for the peer of each need at the number of the need
+    // first, so that in a pool that was made from the needs, each is found at once.
     fn serves_all<'a>(&self, needs: &[Need<'a>]) -> Result<(), MatchFault<'a>>
         ensures { mismatch_of result ≡ first_wrong (as_peers (seen (λ p. state p.peer) (entries self.now))) (map need_view needs.now) }
     {
-        'needs: for need in needs {
-            self.serves(need)?;
+        'needs: for (number, need) in needs.iter().enumerate() {
+            self.serves(need, number)?;
         }
         Ok(())
     }

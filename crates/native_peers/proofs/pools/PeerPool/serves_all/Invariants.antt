@@ -7,4 +7,4 @@ use Rattle.native_peers.proofs.pools.PeerPool.serves_all.Given as goal
 abbrev pub invariant-needs : goal.invariant-needs
 invariant-needs g l =
     let pool = as_peers (seen (λ p. (g.dyn-1.0.entry p.peer.vtable).1.state p.peer.value) (entries l.self)) in
-    first_wrong pool (map need_view (drop l.need-index l.needs)) ≡ first_wrong pool (map need_view l.needs)
+    first_wrong pool (map need_view (drop l.number l.needs)) ≡ first_wrong pool (map need_view l.needs)
