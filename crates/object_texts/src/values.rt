@@ -42,7 +42,7 @@ pub fn value_text(alloc: Global, types: &TypeTree, value: &Value) -> Result<Stri
 /// # Errors
 ///
 /// `AllocError` if memory is refused.
-#[tactic(auto, unfolding(object_texts::specs::ObjectTexts::quoted))]
+#[tactic(auto, unfolding(crate::specs::ObjectTexts::quoted))]
 pub(crate) fn quoted(alloc: Global, text: &str) -> Result<String, AllocError>
     ensures { IfOk result (λ written. string_bytes written ≡ quoted text.now) }
 {
