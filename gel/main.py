@@ -24,7 +24,7 @@ USAGE = """usage:
     gel FILE.gel                    writes the definition of a source, once the program has judged it
     gel --unjudged FILE.gel         writes it without that
     gel --from DEF                  writes the source of a definition that the program accepts
-    gel --bounds FILE.gel           writes the bound beside each way in and each handler, and the steps of each program
+    gel --bounds FILE.gel           writes the bound beside each property, signal and handler, and the steps of each program
     gel --bounds --most N FILE.gel  fails where a bound is above N, with the path that costs most
     gel --layout [--write] FILE.gel writes the source laid out, or writes it into the file
     gel --check [--all]             runs the tests of the language"""
