@@ -80,7 +80,7 @@ class Bodies(Reader):
             raise Fault(self.at, f"write `a = a {self.token.text} b`: there is no `{self.token.text}=`")
         if not self.take("="):
             if target["sort"] not in ("call", "emit", "adopt", "connect", "idle", "timeout", "new", "object"):
-                raise Fault(self.at if target["sort"] in ("name", "get") else at,
+                raise Fault(self.gap if target["sort"] in ("name", "get") else at,
                             "this does nothing: `=` is wanted here, or a call, `emit`, `adopt`, `connect`, `idle` or `timeout`"
                             + (hint(target["name"]) if target["sort"] == "name" else ""))
             self.want(";")
@@ -146,7 +146,10 @@ class Bodies(Reader):
 
     def read_return(self, at, word):
         """return VALUE;"""
+        gap, is_apart = self.gap, self.gap != self.at
         value = None if self.is_at(";") else self.value()
+        if is_apart and not self.is_at(";"):
+            raise Fault(gap, "`;` is wanted here, or a value")
         self.want(";")
         return node(at, sort="return", value=value)
 
@@ -388,7 +391,7 @@ class Bodies(Reader):
             raise Fault(at, f"an instruction is wanted here, not {self.shown()}{nearest(self.token.text, OPERANDS)}")
         made = node(at, word=word, operands=[(sort, self.at, self.operand(sort)) for sort in OPERANDS[word]])
         if not self.is_at(";"):
-            raise Fault(self.at, f"`;` is wanted here, not {self.shown()}: `{word}` has no more operands")
+            raise Fault(self.gap, f"`;` is wanted here, not {self.shown()}: `{word}` has no more operands")
         self.next += 1
         return made
 

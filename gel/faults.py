@@ -8,7 +8,7 @@ class Fault(Exception):
 
     def __init__(self, at, text):
         super().__init__(text)
-        self.at, self.text = at, re.sub("`\\?; ([a-z])", lambda found: f"`? {found[1].upper()}", text)
+        self.at, self.text = at, re.sub("`\\?; (.)", lambda found: f"`? {found[1].upper()}", text)
 
 
 def place(source, at):

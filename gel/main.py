@@ -1,6 +1,7 @@
 """The words of the command line of scripts/gel."""
 import json
 import os
+import shutil
 import subprocess
 import sys
 import tempfile
@@ -15,12 +16,15 @@ from .numbers import check_most, table
 from .refusals import Told
 from .syntax import Syntax
 
-PROGRAM = os.environ.get("PROGRAM") or str(TOP / "crates/ui_runner/out/ui_runner")
+sys.path.insert(0, str(TOP / "scripts" / "modules"))
+from common import ready_program  # noqa: E402
+
+NO_PROGRAM = "there is no program to ask: `./ui verify DEF` builds one within minutes, and PROGRAM names another"
 USAGE = """usage:
     gel FILE.gel                    writes the definition of a source, once the program has judged it
     gel --unjudged FILE.gel         writes it without that
     gel --from DEF                  writes the source of a definition that the program accepts
-    gel --bounds FILE.gel           writes the bound beside each way in and each handler, and the steps of each program
+    gel --bounds FILE.gel           writes the bound beside each property, signal and handler, and the steps of each program
     gel --bounds --most N FILE.gel  fails where a bound is above N, with the path that costs most
     gel --layout [--write] FILE.gel writes the source laid out, or writes it into the file
     gel --check [--all]             runs the tests of the language"""
@@ -32,6 +36,15 @@ class Ended(Exception):
     def __init__(self, status, text):
         super().__init__(text)
         self.status, self.text = status, text
+
+
+def program_words():
+    """The words that call the program which judges: PROGRAM, or else one that is built. None where there is no such program."""
+    words = (os.environ.get("PROGRAM") or ready_program() or "").split()
+    return words if words and shutil.which(words[0]) else []
+
+
+PROGRAM = program_words()
 
 
 def text_of(file):
@@ -46,9 +59,9 @@ def text_of(file):
 
 def verdict(file):
     """What the program says of a definition: its status and its first line. None where no program is built."""
-    if not Path(PROGRAM.split()[0]).exists():
+    if not PROGRAM:
         return None
-    ran = subprocess.run([*PROGRAM.split(), "verify", str(file)], stdout=subprocess.PIPE, stderr=subprocess.DEVNULL)
+    ran = subprocess.run([*PROGRAM, "verify", str(file)], stdout=subprocess.PIPE, stderr=subprocess.DEVNULL, env={**os.environ, "HINTS": "no"})
     return ran.returncode, ran.stdout.decode("utf-8", "replace").partition("\n")[0]
 
 
@@ -59,12 +72,11 @@ def judge(made, is_needed):
         file.write_text(json.dumps(made.definition), encoding="utf-8")
         said = verdict(file)
     if said is None:
-        text = f"there is no built program ({PROGRAM}), so the definition is not judged; `./ui prove` builds it, and PROGRAM names another"
         if is_needed:
-            raise Ended(2, text)
-        print(text, file=sys.stderr)
+            raise Ended(2, NO_PROGRAM)
+        print(f"the definition is not judged, because {NO_PROGRAM}", file=sys.stderr)
     elif said[0] and not said[1].startswith("refused: "):
-        raise Ended(said[0], f"the program ({PROGRAM}) did not judge the definition: its status is {said[0]}")
+        raise Ended(said[0], f"the program ({' '.join(PROGRAM)}) did not judge the definition: its status is {said[0]}")
     elif said[0]:
         raise Told(made).fault(said[1])
 
@@ -97,7 +109,7 @@ def show_source(file):
     text_of(file)
     said = verdict(file)
     if said is None:
-        raise Ended(2, f"there is no built program ({PROGRAM}), and only a definition that it accepts has a source")
+        raise Ended(2, f"{NO_PROGRAM}; only a definition that it accepts has a source")
     if said[0]:
         raise Ended(1, f"{file}: {said[1]}\nonly a definition that is accepted has a source; `scripts/explain {file}` says what is wrong")
     print(source_of(json.loads(text_of(file))), end="")

@@ -23,6 +23,12 @@ class Reader:
         return self.token.at
 
     @property
+    def gap(self):
+        """Where a sign is missing: at the next token, or behind the last one where that ends its line."""
+        is_apart = self.next and "\n" in self.source[self.last.end:self.at]
+        return self.last.end if is_apart else self.at
+
+    @property
     def last(self):
         """The token before the next one."""
         return self.tokens[max(self.next - 1, 0)]
@@ -43,9 +49,7 @@ class Reader:
         """Steps over the sign. Fails where something else is there."""
         if self.take(sign):
             return
-        at = self.at
-        if sign == ";" and self.next and "\n" in self.source[self.last.end:at]:
-            at = self.last.end
+        at = self.at if sign.isalpha() else self.gap
         more = why if why.startswith(" or ") else ""
         raise Fault(at, f"`{sign}`{more} is wanted here{why[len(more):]}, not {self.shown()}")
 

@@ -177,7 +177,7 @@ class Syntax(Bodies):
             word = self.take(*PROPERTY_WORDS)
             if word is None:
                 near = nearest(self.token.text, PROPERTY_WORDS)
-                raise Fault(self.at, f"`;` is wanted here, not {self.shown()}{near}; a property is written "
+                raise Fault(self.gap, f"`;` is wanted here, not {self.shown()}{near}; a property is written "
                                      "`NAME: KIND in LEAST..MOST = DEFAULT WORDS;`")
             words.append(word)
         if words:

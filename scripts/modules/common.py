@@ -35,6 +35,11 @@ def loaded(name):
     return module
 
 
+def has_unknown(words, *known):
+    """Whether a word begins with `-` and is none of those that a script knows: then its usage is printed."""
+    return any(word.startswith("-") and word not in known for word in words)
+
+
 def usage(text):
     """Prints what a script's first comment says of its words, and returns the status of wrong words."""
     print(text.partition("\n\n")[2], file=sys.stderr)

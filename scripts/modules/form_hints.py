@@ -80,8 +80,8 @@ def member_hint(tree, holder, of, last):
     known = of.get("properties", {})
     if last not in known:
         absent = [name for name in of.get("required", []) if name not in holder]
-        more = f"; `{absent[0]}` is absent" if absent else ""
-        return f"the format has no member `{last}` here{nearest(last, known)}{more}. The members are {listed(known)}"
+        more = f" The member `{absent[0]}` is absent." if absent else ""
+        return f"{sentence(f'the format has no member `{last}` here{nearest(last, known)}')}{more} The members are {listed(known)}"
     if last not in holder:
         if last == "value" and "bind" in known:
             return "there is neither `value` nor `bind`"
@@ -150,7 +150,8 @@ def sort_hint(of, name):
 def unknown_hint(tree, path, name):
     """Which name is not declared, and the nearest that is."""
     what, words = declared(tree, path)
-    return f"there is no {what} `{name}`{nearest(name, words)}"
+    what, of, holder = what.partition(" of ")
+    return f"there is no {what} `{name}`{of}{holder}{nearest(name, words)}"
 
 
 def declared(tree, path):

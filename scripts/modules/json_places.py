@@ -33,11 +33,11 @@ class Reader:
         """Goes past blanks."""
         self.at = self.BLANK.match(self.text, self.at).end()
 
-    def expect(self, char, what):
+    def expect(self, char, what, more=""):
         """Goes past a character. Raises a Fault where there is another."""
         self.blanks()
         if self.text[self.at:self.at + 1] != char:
-            raise Fault(self.at, f"{what} is expected here")
+            raise Fault(self.at, f"{what} is expected here{more}")
         self.at += 1
 
     def value(self, path, depth):
@@ -101,7 +101,7 @@ class Reader:
     def members(self, path, depth):
         """Reads the members of an object, and notes where their names begin."""
         self.at += 1
-        members = {}
+        members, before = {}, None
         self.blanks()
         if self.text[self.at:self.at + 1] == "}":
             self.at += 1
@@ -114,8 +114,10 @@ class Reader:
             name = self.string()
             under = f"{path}/{name.replace('~', '~0').replace('/', '~1')}"
             self.names[under] = begin
-            self.expect(":", "a colon")
-            members[name] = self.value(under, depth + 1)
+            self.blanks()
+            is_entry = before and self.text[self.at:self.at + 1] in (",", "]")
+            self.expect(":", "a colon", f"; is a `[` missing before the value of `{before}`?" if is_entry else "")
+            members[name], before = self.value(under, depth + 1), name
             self.blanks()
             if self.text[self.at:self.at + 1] == "}":
                 self.at += 1

@@ -57,7 +57,7 @@ def wanted_hint(tree, kinds, code):
     if word in ("emit", "call"):
         return arguments_hint(tree, kinds, code)
     if word == "convert":
-        return f", and no value of this kind becomes a `{code[3]}`: {CONVERSIONS}"
+        return f", and nothing makes `{code[3]}` of it: {CONVERSIONS}"
     if word in ("add", "sub", "mul", "cmp"):
         return f", and `{word}` takes two whole numbers of one kind: `convert` makes a number of another kind"
     if word in ("not", "and", "or", "if"):
