@@ -18,8 +18,7 @@ use Rattle.event_lines.specs.OpeningView.{IsOpening, Opened}
 use Rattle.event_lines.specs.Texts.{lines_text}
 use Rattle.event_lines.specs.declared.session_start.Opening.TheVariants as code
 use Rattle.event_lines.proofs.EventLemmas.{answers_fault, answers_reply}
-use Rattle.c_sessions.specs.Nobody.{nobody}
-use Rattle.c_sessions.specs.Reached.{held}
+use Rattle.c_sessions.specs.Nobody.{held, nobody}
 use Rattle.c_sessions.specs.Starting.{IsBuilt, IsRefused, IsStopped}
 use Rattle.c_sessions.specs.Unread.{lines_since, unread}
 use Rattle.c_sessions.specs.declared.hosted_session.HostedSession.{HostedSession}

@@ -1,18 +1,16 @@
--- How calls with a handle end, by how its session is kept.
-use Rattle.std.proofs.Common.{◌≡◌, ◌++◌, ℕ, true, false, List, [], Option, Some, Result, sym, subst, inl, inr}
+-- How a start ends, by how its session is kept.
+use Rattle.std.proofs.Common.{◌≡◌, ◌++◌, ℕ, List, [], Option, Some, Result, Err, sym, subst, inl, inr}
 use Rattle.event_lines.specs.EventFileRun.{Outcome}
 use Rattle.event_lines.specs.Events.{event_replies}
+use Rattle.event_lines.specs.LineOutcome.{outcome_of}
 use Rattle.event_lines.specs.Texts.{lines_text}
-use Rattle.c_sessions.specs.Buffers.{with_text}
-use Rattle.c_sessions.specs.Courses.{is_under_way}
-use Rattle.c_sessions.specs.Faults.{outcome_here}
-use Rattle.c_sessions.specs.Handles.{BeginsAs, Dispatches, Fails, FailsAs, Hears, KeepsAs, KeepsHearing, Starts, Takes, TakesFrom}
-use Rattle.c_sessions.specs.Nobody.{nobody}
-use Rattle.c_sessions.specs.Reached.{held}
-use Rattle.c_sessions.specs.Starting.{IsBuilt, IsStopped}
+use Rattle.event_lines.specs.declared.line_handler.LineFault.{LineFault}
+use Rattle.event_lines.specs.declared.line_handler.LineFault.TheVariants as faults
+use Rattle.c_sessions.specs.Nobody.{held, nobody}
 use Rattle.c_sessions.specs.Unread.{lines_since, unread}
-use Rattle.c_sessions.specs.declared.faults.HostedFault.{HostedFault}
-use Rattle.c_sessions.specs.declared.faults.HostedFault.TheVariants as hosted
+use Rattle.c_sessions.specs.Buffers.{with_text}
+use Rattle.c_sessions.specs.Handles.{Dispatches, FailsAs, Hears, KeepsAs, KeepsHearing, Starts, Takes, TakesFrom}
+use Rattle.c_sessions.specs.Starting.{IsBuilt, IsStopped}
 use Rattle.c_sessions.specs.declared.hosted_session.HostedSession.{HostedSession}
 use Rattle.c_sessions.specs.declared.status.Status.{Status}
 use Rattle.c_sessions.specs.declared.status.Status.TheVariants as statuses
@@ -30,43 +28,26 @@ module _ (bytes : List ℕ) (buffer : List ℕ) (session : HostedSession) (resul
   starts_stopped is (inr (keeps, so)) = subst Ends (sym so) (inr keeps, blank)
 
 -- how a session that is kept hears a line, where it is lent as it was held
-pub keeps_hearing : (line : List ℕ) (outcome : List (List ℕ) → Outcome) (P : HostedSession → HostedSession → Type 0) (before after : Option HostedSession) (session lent new : HostedSession) → lent ≡ session → Some session ≡ before → after ≡ Some new
-    → is_under_way lent ≡ false → is_under_way new ≡ false → Hears line outcome lent new → P lent new → KeepsHearing line outcome P before after
-keeps_hearing line outcome P before after session lent new same taken put rests still hears is = (
-  session,
-  sym taken,
-  subst (λ (h : HostedSession). is_under_way h ≡ false) same rests,
-  new,
-  put,
-  still,
-  subst (λ (h : HostedSession). Hears line outcome h new) same hears,
-  subst (λ (h : HostedSession). P h new) same is,
-)
+pub keeps_hearing : (line : List ℕ) (outcome : List (List ℕ) → Outcome) (before after : Option HostedSession) (session lent new : HostedSession) → lent ≡ session → Some session ≡ before → after ≡ Some new
+    → Hears line outcome lent new → KeepsHearing line outcome before after
+keeps_hearing line outcome before after session lent new same taken put hears =
+    (session, sym taken, new, put, subst (λ (h : HostedSession). Hears line outcome h new) same hears)
 
 -- how it hears one by the answer of the code
-pub hears_by : (line : List ℕ) (result answer : Result (Unit {0}) HostedFault) (old new : HostedSession) → result ≡ answer
-    → event_replies nobody (held old) line (outcome_here result (lines_since (held old) (held new))) (held new)
+pub hears_by : (line : List ℕ) (result answer : Result (Unit {0}) LineFault) (old new : HostedSession) → result ≡ answer
+    → event_replies nobody (held old) line (outcome_of result (lines_since (held old) (held new))) (held new)
     → unread new ≡ unread old ++ lines_text (lines_since (held old) (held new))
-    → ((held old).stopped ≡ true → held new ≡ held old)
-    → Hears line (outcome_here answer) old new
-hears_by line result answer old new same replies left stays =
-    (subst (λ (r : Result (Unit {0}) HostedFault). event_replies nobody (held old) line (outcome_here r (lines_since (held old) (held new))) (held new)) same replies, left, stays)
+    → Hears line (outcome_of answer) old new
+hears_by line result answer old new same replies left =
+    (subst (λ (r : Result (Unit {0}) LineFault). event_replies nobody (held old) line (outcome_of r (lines_since (held old) (held new))) (held new)) same replies, left)
 
 -- how the dispatch of a line ends that fails
-pub dispatches_failed : (line : List ℕ) (buffer : List ℕ) (fault : HostedFault) (before after : Option HostedSession) (status : Status) (written : List ℕ)
-    → Fails line fault before after → FailsAs fault buffer status written → Dispatches line buffer before status after written
-dispatches_failed line buffer (hosted.Refused why) before after status written fails how =
-    subst (λ (s : Status). Dispatches line buffer before s after written) (sym how.0) (why, fails, how.1)
-dispatches_failed line buffer hosted.NoMemory before after status written fails how = subst (λ (s : Status). Dispatches line buffer before s after written) (sym how.0) (fails, how.1)
-dispatches_failed line buffer hosted.Stopped before after status written fails how = subst (λ (s : Status). Dispatches line buffer before s after written) (sym how.0) (fails, how.1)
-
--- and so the beginning of one
-pub begins_failed : (line : List ℕ) (buffer : List ℕ) (fault : HostedFault) (before after : Option HostedSession) (status : Status) (written : List ℕ)
-    → Fails line fault before after → FailsAs fault buffer status written → BeginsAs line buffer before status after written
-begins_failed line buffer (hosted.Refused why) before after status written fails how =
-    subst (λ (s : Status). BeginsAs line buffer before s after written) (sym how.0) (why, fails, how.1)
-begins_failed line buffer hosted.NoMemory before after status written fails how = subst (λ (s : Status). BeginsAs line buffer before s after written) (sym how.0) (fails, how.1)
-begins_failed line buffer hosted.Stopped before after status written fails how = subst (λ (s : Status). BeginsAs line buffer before s after written) (sym how.0) (fails, how.1)
+pub dispatches_failed : (line : List ℕ) (buffer : List ℕ) (fault : LineFault) (before after : Option HostedSession) (status : Status) (written : List ℕ)
+    → KeepsHearing line (outcome_of {T = Unit {0}} (Err fault)) before after → FailsAs fault buffer status written → Dispatches line buffer before status after written
+dispatches_failed line buffer (faults.Refused why) before after status written hears fails =
+    subst (λ (s : Status). Dispatches line buffer before s after written) (sym fails.0) (why, hears, fails.1)
+dispatches_failed line buffer faults.Stopped before after status written hears fails =
+    subst (λ (s : Status). Dispatches line buffer before s after written) (sym fails.0) (hears, fails.1)
 
 -- how bytes are taken of it
 pub keeps_taking : (bytes : List ℕ) (before after : Option HostedSession) (session lent new : HostedSession) (count : ℕ) (written : List ℕ) → lent ≡ session → Some session ≡ before → after ≡ Some new

@@ -5,4 +5,3 @@ pub mod KeptValues
 pub mod LooseValues
 pub mod Padding
 pub mod Streams
-pub mod Parts

@@ -1,15 +1,9 @@
 pub mod Buffers
-pub mod Courses
-pub mod Faults
 pub mod Handles
 pub mod Held
 pub mod Nobody
 pub mod Places
-pub mod Reached
 pub mod Starting
 pub mod Statuses
-pub mod UnderWay
 pub mod Unread
 pub mod Verdicts
-pub mod Moments
-pub mod Told

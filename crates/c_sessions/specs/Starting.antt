@@ -7,8 +7,7 @@ use Rattle.builder_defs.specs.Denoted.{denoted}
 use Rattle.event_lines.specs.CheckView.{IsRejected, IsUnread}
 use Rattle.event_lines.specs.Opening.{Opens, built, stopped}
 use Rattle.event_lines.specs.Texts.{lines_text, mismatch_text}
-use Rattle.c_sessions.specs.Nobody.{nobody}
-use Rattle.c_sessions.specs.Reached.{held}
+use Rattle.c_sessions.specs.Nobody.{held, nobody}
 use Rattle.c_sessions.specs.Unread.{unread}
 use Rattle.c_sessions.specs.declared.hosted_session.HostedSession.{HostedSession}
 use Rattle.c_sessions.specs.declared.starts.Started.{Started}

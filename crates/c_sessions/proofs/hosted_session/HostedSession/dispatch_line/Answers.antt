@@ -7,8 +7,7 @@ use Rattle.builder_defs.specs.EventMeaning.{Fails, event_denoted}
 use Rattle.event_lines.proofs.EventLemmas.{unread}
 use Rattle.native_peers.specs.StandIns.{stand_ins}
 use Rattle.ui_engine.specs.SessionView.{state_at}
-use Rattle.c_sessions.specs.Nobody.{nobody}
-use Rattle.c_sessions.specs.Reached.{held}
+use Rattle.c_sessions.specs.Nobody.{held, nobody}
 use Rattle.c_sessions.proofs.Alone.{halts, says}
 use Rattle.c_sessions.proofs.Streams.{left_after, place_after}
 use Rattle.c_sessions.proofs.hosted_session.HostedSession.dispatch_line.Goals as goal
