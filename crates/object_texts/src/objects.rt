@@ -1,9 +1,10 @@
 //! Objects as JSON.
 
 ghost use Rattle.std.specs.Prelude.{◌≡◌, ◌++◌, codes, map, IfOk, OnOk, string_bytes};
+ghost use Rattle.ui_machine.specs.Definition.Lookups.{type_of};
 ghost use Rattle.definitions.specs.EntryView.{entry_view};
 ghost use Rattle.instance_tables.specs.Store.{id_of, ids_of};
-ghost use Rattle.object_texts.specs.ObjectTexts.{family_text, number_text, numbers_text, object_text, origin_text};
+ghost use Rattle.object_texts.specs.ObjectTexts.{family_text, number_text, numbers_text, object_text, origin_text, quoted, truth_text};
 
 use crate::values::{push_unsigned, quoted, truth_text};
 use definitions::{Definition, ObjectEntry};
@@ -43,13 +44,32 @@ fn origin_text(
     ensures { IfOk result (λ text. string_bytes text ≡ origin_text definition.now (entry_view place.now) object.now) }
 {
     let id = quoted(alloc, place.id)?;
-    let class = quoted(alloc, definition.class_name(object.class()))?;
+    let class = class_text(alloc, definition, object)?;
+    named_text(alloc, id.as_str(), place.is_prototype, class.as_str())
+}
+
+// Returns the name of an object's class as a JSON string.
+fn class_text(alloc: Global, definition: &Definition, object: &Object) -> Result<String, AllocError>
+    ensures { IfOk result (λ text. string_bytes text ≡ quoted (type_of definition.now object.now.class).name) }
+{
+    quoted(alloc, definition.class_name(object.class()))
+}
+
+// Returns the beginning of an object's text, of an id and the name of a class that are JSON strings already.
+fn named_text(
+    alloc: Global,
+    id: &str,
+    is_prototype: bool,
+    class: &str,
+) -> Result<String, AllocError>
+    ensures { IfOk result (λ text. string_bytes text ≡ codes "{\"id\":" ++ (id.now ++ (codes ",\"prototype\":" ++ (truth_text is_prototype ++ (codes ",\"class\":" ++ class.now))))) }
+{
     let mut text = String::from_str(alloc, "{\"id\":")?;
-    text.push_str(id.as_str())?;
+    text.push_str(id)?;
     text.push_str(",\"prototype\":")?;
-    text.push_str(truth_text(place.is_prototype))?;
+    text.push_str(truth_text(is_prototype))?;
     text.push_str(",\"class\":")?;
-    text.push_str(class.as_str())?;
+    text.push_str(class)?;
     Ok(text)
 }
 
