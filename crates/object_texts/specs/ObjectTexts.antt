@@ -47,7 +47,7 @@ truth_text false = codes "false"
 -- which object it is: the id of the place from which it was made, whether that is a prototype, and the class
 abbrev pub origin_text : Definition → Place → Object → List ℕ
 origin_text d place o =
-    codes "{\"id\":" ++ (quoted place.id ++ (codes ",\"prototype\":" ++ (truth_text place.is_prototype ++ (codes ",\"class\":" ++ quoted (type_of d o.class).name))))
+    codes "{\"id\":" ++ quoted place.id ++ codes ",\"prototype\":" ++ truth_text place.is_prototype ++ codes ",\"class\":" ++ quoted (type_of d o.class).name
 
 -- its parent and its children
 abbrev pub family_text : Object → List ℕ

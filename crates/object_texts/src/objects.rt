@@ -62,7 +62,7 @@ fn named_text(
     is_prototype: bool,
     class: &str,
 ) -> Result<String, AllocError>
-    ensures { IfOk result (λ text. string_bytes text ≡ codes "{\"id\":" ++ (id.now ++ (codes ",\"prototype\":" ++ (truth_text is_prototype ++ (codes ",\"class\":" ++ class.now))))) }
+    ensures { IfOk result (λ text. string_bytes text ≡ codes "{\"id\":" ++ id.now ++ codes ",\"prototype\":" ++ truth_text is_prototype ++ codes ",\"class\":" ++ class.now) }
 {
     let mut text = String::from_str(alloc, "{\"id\":")?;
     text.push_str(id)?;
