@@ -1,1 +1,1 @@
-mod RunPeersProofs
+pub mod RunPeersProofs

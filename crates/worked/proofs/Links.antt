@@ -1,2 +1,2 @@
-mod CallsMet
-mod GatheringMet
+pub mod CallsMet
+pub mod GatheringMet

@@ -1,1 +1,1 @@
-mod TurnMet
+pub mod TurnMet
