@@ -7,11 +7,11 @@ use Rattle.std.proofs.lemmas.List.{length-map, map-append, map-set}
 use Rattle.ui_machine.specs.Definition.Names.{same_name}
 use Rattle.ui_machine.specs.Rules.EmissionPlan.{or_else}
 use Rattle.ui_machine.specs.Seq.{read}
-use Rattle.name_tables.specs.Names.{Named, place_of}
+use Rattle.name_tables.specs.Names.{Named, number_in, place_of}
 use Rattle.name_tables.specs.Steps.{with_name}
 use Rattle.name_tables.proofs.Lookups.{place_of-last, place_of-more, place_of-one, place_of-within, same-equal, same-self, with_name-new, with_name-there}
-use Rattle.name_tables.proofs.Numbers.{read-get_or, read-more, read-set}
-use Rattle.engine_links.specs.Linked.{method_by, number_in, numbers_by}
+use Rattle.engine_links.proofs.Places.{read-get_or, read-more, read-set}
+use Rattle.engine_links.specs.Linked.{method_by, numbers_by}
 use Rattle.engine_links.specs.Rows.{AreLevel, row_by, row_of, with_row}
 use Rattle.engine_links.proofs.Reading.{read-past}
 

@@ -4,4 +4,5 @@ mod Handling
 mod Interning
 mod Linking
 mod Naming
+mod Places
 mod Reading

@@ -8,9 +8,8 @@ use Rattle.ui_machine.specs.Definition.Names.{place_named, same_name}
 use Rattle.ui_machine.specs.Definition.Signals.{Method, Shape}
 use Rattle.ui_machine.specs.State.Bindings.{is_name}
 use Rattle.law_typing.specs.Good.Meanings.{binding_name, shape_methods}
-use Rattle.name_tables.specs.Names.{Named, place_of, with_number}
+use Rattle.name_tables.specs.Names.{Named, number_in, place_of, with_number}
 use Rattle.name_tables.proofs.Numbers.{unchanged}
-use Rattle.engine_links.specs.Linked.{number_in}
 use Rattle.engine_links.specs.Rows.{NamedRows, method_of, numbers_of, row_of}
 use Rattle.engine_links.specs.Steps.{AddsBinding, AddsMethod, method_called}
 use Rattle.engine_links.proofs.Interning.{Interned, is_row, method_by-row, numbers_by-row, was_row}

@@ -1,8 +1,5 @@
 -- What the names in programs mean.
-use Rattle.std.specs.BTreeMap.{is_at}
 use Rattle.std.specs.List.{list_any}
-use Rattle.std.specs.Map.{lookup}
-use Rattle.std.specs.Ordering.{nat_cmp}
 use Rattle.std.specs.Prelude.{◌≡◌, ℕ, nat_eq, List, [], Option, None, Some, IfSome, option_and_then, option_map, slice_get}
 use Rattle.ui_machine.specs.Definition.{Definition}
 use Rattle.ui_machine.specs.Definition.Programs.{Block, Connect, Instruction, Program}
@@ -16,7 +13,7 @@ use Rattle.ui_machine.specs.Seq.{read}
 use Rattle.ui_machine.specs.State.Bindings.{is_name}
 use Rattle.law_typing.specs.Good.Meanings.{binding_name, shape_methods}
 use Rattle.definitions.specs.ClassNames.{AreSignals}
-use Rattle.name_tables.specs.Names.{Named, number_by, number_of}
+use Rattle.name_tables.specs.Names.{Named, number_by, number_in, number_of}
 use Rattle.engine_links.specs.declared.link.Link.{Link}
 use Rattle.ui_machine.specs.declared.ids.Place.{Place}
 use Rattle.engine_links.specs.declared.link.Link.TheVariants as links
@@ -35,10 +32,6 @@ pub record Linked : Type 0 where
 -- the names of properties are those of a definition, with their slots
 abbrev pub AreSlots : Definition → List Named → Type 0
 AreSlots d names = (class : ℕ) (name : List ℕ) → number_of names class (canonical name) ≡ slot_of d class name
-
--- the number that a row has for a shape
-abbrev pub number_in : List (ℕ × ℕ) → (shape : ℕ) → Option ℕ
-number_in row shape = lookup (is_at (nat_cmp shape)) row
 
 -- the number of the method of a shape, by the place of the method's name
 abbrev pub method_by : List (List (ℕ × ℕ)) → (shape : ℕ) → Option ℕ → Option ℕ

@@ -2,8 +2,8 @@
 
 ghost use Rattle.std.specs.Prelude.{◌≡◌, ℕ, [], IfOk, OnOk, Some, nat_eq};
 ghost use Rattle.ui_machine.specs.Definition.Names.{place_named};
-ghost use Rattle.name_tables.specs.Names.{place_of, with_number};
-ghost use Rattle.engine_links.specs.Linked.{method_by, number_in};
+ghost use Rattle.name_tables.specs.Names.{number_in, place_of, with_number};
+ghost use Rattle.engine_links.specs.Linked.{method_by};
 ghost use Rattle.engine_links.specs.Rows.{method_of};
 ghost use Rattle.name_tables.specs.Steps.{AddsAll};
 ghost use Rattle.engine_links.specs.Steps.{AddsMethod, AreMethods};

@@ -97,21 +97,21 @@ numbers_changed numbers ss k v w at same are n = are n ∙ sym (kept_numbers 0 s
 
 -- ** plain shapes
 
-pub plain_changed : (ss : List Seat) (n : ℕ) (v w : Seat) → slice_get ss n ≡ Some v → w.shape ≡ v.shape
+pub plain_changed : (ss : List Seat) (n : ℕ) (v w : Seat) → slice_get ss n ≡ Some v → w.shape.value ≡ v.shape.value
     → AllByRecursion HasPlainShape (map seated ss) → AllByRecursion HasPlainShape (map seated (slice_set ss n w))
 plain_changed [] n v w at same plain = tt
 plain_changed (s ∷ ss) zero v w at same plain =
     let here : s ≡ v = cc at in
-    (subst (λ (l : List Method). IsTrue (is_plain_shape l)) (ap (λ (t : Seat). t.shape) here ∙ sym same) plain.0, plain.1)
+    (subst (λ (l : List Method). IsTrue (is_plain_shape l)) (ap (λ (t : Seat). t.shape.value) here ∙ sym same) plain.0, plain.1)
 plain_changed (s ∷ ss) (suc n) v w at same plain = (plain.0, plain_changed ss n v w at same plain.1)
 
 pub plain_more : (ps : List Peer) (p : Peer) → AllByRecursion HasPlainShape ps → HasPlainShape p → AllByRecursion HasPlainShape (ps ++ p ∷ [])
 plain_more [] p plain one = (one, tt)
 plain_more (q ∷ ps) p plain one = (plain.0, plain_more ps p plain.1 one)
 
-pub plain_seat : (ss : List Seat) (n : ℕ) (s : Seat) → slice_get ss n ≡ Some s → AllByRecursion HasPlainShape (map seated ss) → IsTrue (is_plain_shape s.shape)
+pub plain_seat : (ss : List Seat) (n : ℕ) (s : Seat) → slice_get ss n ≡ Some s → AllByRecursion HasPlainShape (map seated ss) → IsTrue (is_plain_shape s.shape.value)
 plain_seat [] n s at plain = cc at
-plain_seat (x ∷ ss) zero s at plain = let here : x ≡ s = cc at in subst (λ (y : Seat). IsTrue (is_plain_shape y.shape)) here plain.0
+plain_seat (x ∷ ss) zero s at plain = let here : x ≡ s = cc at in subst (λ (y : Seat). IsTrue (is_plain_shape y.shape.value)) here plain.0
 plain_seat (x ∷ ss) (suc n) s at plain = plain_seat ss n s at plain.1
 
 -- ** who is left

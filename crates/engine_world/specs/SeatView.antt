@@ -25,7 +25,7 @@ new_peer name shape is_open = record { name = name; state = known_state shape is
 
 -- a seat as a peer
 abbrev pub seated : Seat → Peer
-seated s = record { name = string_bytes s.name; state = known_state s.shape s.is_open; holder = id_of s.holder }
+seated s = record { name = string_bytes s.name; state = known_state s.shape.value s.is_open; holder = id_of s.holder }
 
 -- what is kept gives each name the number of its peer
 abbrev pub AreNumbers : BTreeMap (String Global) ℕ → List Peer → Type 0

@@ -14,13 +14,15 @@ use peer_shapes::{MethodRef, Shape};
 use std::alloc::{AllocError, Global};
 use std::collections::BTreeMap;
 use std::marker::Model;
+use std::rc::Rc;
 use ui_machine::ObjectId;
 
 // A peer of the pool, as far as the engine knows it.
 #[derive(Drop)]
 pub(crate) struct Seat {
     pub(crate) name: String,
-    pub(crate) shape: Shape,
+    // The peers of one shape share it.
+    pub(crate) shape: Rc<Shape>,
     // Whether the peer may be called.
     pub(crate) is_open: bool,
     // The object that has got the peer.
@@ -81,10 +83,10 @@ impl Seats {
     /// # Errors
     ///
     /// `AllocError` if memory is refused. The peers are unchanged then.
-    pub fn add(&mut self, name: String, shape: Shape, is_open: bool) -> Result<(), AllocError>
+    pub fn add(&mut self, name: String, shape: Rc<Shape>, is_open: bool) -> Result<(), AllocError>
         requires fresh { peer_number self.old (string_bytes name) ≡ None }
-        requires plain { IsTrue (is_plain_shape shape) }
-        ensures ok { OnOk result (self.new ≡ self.old ++ new_peer (string_bytes name) shape is_open ∷ []) }
+        requires plain { IsTrue (is_plain_shape shape.value) }
+        ensures ok { OnOk result (self.new ≡ self.old ++ new_peer (string_bytes name) shape.value is_open ∷ []) }
         ensures err { OnErr result (self.new ≡ self.old) }
     {
         let alloc = *self.seats.allocator();
@@ -120,7 +122,7 @@ impl Seats {
         let seat = self.seats.get(number)?;
         Some(SeatRef {
             name: seat.name.as_str(),
-            shape: &seat.shape,
+            shape: seat.shape.as_ref(),
             is_open: seat.is_open,
             holder: seat.holder,
         })

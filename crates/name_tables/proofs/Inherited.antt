@@ -7,11 +7,10 @@ use Rattle.ui_machine.specs.Definition.Types.{GType}
 use Rattle.ui_machine.specs.Output.Text.{no_type}
 use Rattle.ui_machine.specs.Rules.Ancestry.{lineage, parent_of}
 use Rattle.ui_machine.specs.Rules.EmissionPlan.{first_given, or_else}
-use Rattle.ui_machine.specs.Seq.{read}
 use Rattle.type_tree.specs.Tree.{IsTree}
 use Rattle.type_tree.proofs.Entries.{read-past}
 use Rattle.type_tree.proofs.Lines.{line_from-parent, line_from-root}
-use Rattle.name_tables.specs.Names.{Named, Inherits, number_of}
+use Rattle.name_tables.specs.Names.{Named, Inherits, number_in, number_of}
 use Rattle.name_tables.specs.Steps.{InheritsNumber, InheritsNumbers, parent_number}
 use Rattle.name_tables.proofs.Lookups.{found, number_of-found, numbers_of, set_numbers}
 
@@ -40,9 +39,9 @@ or_else-none (Some n) = refl
 -- ** the classes of a name
 
 -- the classes before one have what they inherit, and the others what they had
-pub record InheritsBefore (types : List GType) (old new : List (Option ℕ)) (class : ℕ) : Type 0 where
-  pub done : (c : ℕ) → c < class → read None new c ≡ first_given (read None old) (lineage types c)
-  pub rest : (c : ℕ) → class ≤ c → read None new c ≡ read None old c
+pub record InheritsBefore (types : List GType) (old new : List (ℕ × ℕ)) (class : ℕ) : Type 0 where
+  pub done : (c : ℕ) → c < class → number_in new c ≡ first_given (number_in old) (lineage types c)
+  pub rest : (c : ℕ) → class ≤ c → number_in new c ≡ number_in old c
 
 module _ (types : List GType) (tree : IsTree types) where
   -- what a line gives first is what the class gives, or else the line of its parent
@@ -59,19 +58,19 @@ module _ (types : List GType) (tree : IsTree types) where
       by (Some p) child =
           ap (λ o. or_else (f t) (option_and_then above o)) child ∙ ap (λ line. or_else (f t) (first_given f line)) (sym (line_from-parent types tree t p child))
 
-  module _ (old : List (Option ℕ)) where
+  module _ (old : List (ℕ × ℕ)) where
     -- a parent comes before its children, so it has what it inherits
-    parent_number-before : (new : List (Option ℕ)) (class : ℕ) → InheritsBefore types old new class
-        → parent_number types new class ≡ option_and_then (λ p. first_given (read None old) (lineage types p)) (parent_of types class)
+    parent_number-before : (new : List (ℕ × ℕ)) (class : ℕ) → InheritsBefore types old new class
+        → parent_number types new class ≡ option_and_then (λ p. first_given (number_in old) (lineage types p)) (parent_of types class)
     parent_number-before new class before = by (parent_of types class) refl
       where
         by : (o : Option ℕ) → parent_of types class ≡ o
-            → option_and_then (read None new) o ≡ option_and_then (λ p. first_given (read None old) (lineage types p)) o
+            → option_and_then (number_in new) o ≡ option_and_then (λ p. first_given (number_in old) (lineage types p)) o
         by None is = refl
         by (Some p) is = before.done p (tree.parents_first class p is)
 
     -- one class more
-    pub before-more : (new next : List (Option ℕ)) (class : ℕ) → InheritsBefore types old new class → InheritsNumber types new next class
+    pub before-more : (new next : List (ℕ × ℕ)) (class : ℕ) → InheritsBefore types old new class → InheritsNumber types new next class
         → InheritsBefore types old next (class + 1)
     before-more new next class before step = record {
       done = λ c small. elim (cases_lt c class) [
@@ -81,30 +80,30 @@ module _ (types : List GType) (tree : IsTree types) where
       rest = λ c large. past c (omega arith) ∙ before.rest c (omega arith);
     }
       where
-        past : (c : ℕ) → (c ≡ class → ⊥) → read None next c ≡ read None new c
+        past : (c : ℕ) → (c ≡ class → ⊥) → number_in next c ≡ number_in new c
         past c other =
             let no : nat_eq c class ≡ false = grind (arith, nat_tests) in
-            step c ∙ ap (λ b. cond b (or_else (read None new class) (parent_number types new class)) (read None new c)) no
+            step c ∙ ap (λ b. cond b (or_else (number_in new class) (parent_number types new class)) (number_in new c)) no
 
-        here : (c : ℕ) → c ≡ class → read None next c ≡ first_given (read None old) (lineage types c)
+        here : (c : ℕ) → c ≡ class → number_in next c ≡ first_given (number_in old) (lineage types c)
         here c is =
             let yes : nat_eq c class ≡ true = grind (arith, nat_tests) in
-            step c ∙ ap (λ b. cond b (or_else (read None new class) (parent_number types new class)) (read None new c)) yes
+            step c ∙ ap (λ b. cond b (or_else (number_in new class) (parent_number types new class)) (number_in new c)) yes
             ∙ ap (λ o. or_else o (parent_number types new class)) (before.rest class (omega arith))
-            ∙ ap (or_else (read None old class)) (parent_number-before new class before)
-            ∙ first_given-child (read None old) class
-            ∙ ap (λ t. first_given (read None old) (lineage types t)) (sym is)
+            ∙ ap (or_else (number_in old class)) (parent_number-before new class before)
+            ∙ first_given-child (number_in old) class
+            ∙ ap (λ t. first_given (number_in old) (lineage types t)) (sym is)
 
     -- past the tree there are no parents, so all classes have what they inherit
-    pub before-all : (new : List (Option ℕ)) (class : ℕ) → InheritsBefore types old new class → length types ≤ class → InheritsNumbers types old new
+    pub before-all : (new : List (ℕ × ℕ)) (class : ℕ) → InheritsBefore types old new class → length types ≤ class → InheritsNumbers types old new
     before-all new class before all c = elim (cases_lt c class) [
       | inl less ↦ before.done c less
       | inr more ↦ before.rest c more ∙ alone (ap (λ (g : GType). g.parent) (read-past no_type types c (omega arith)))
     ]
       where
-        alone : parent_of types c ≡ None → read None old c ≡ first_given (read None old) (lineage types c)
+        alone : parent_of types c ≡ None → number_in old c ≡ first_given (number_in old) (lineage types c)
         alone root =
-            or_else-none (read None old c) ∙ ap (λ line. or_else (read None old c) (first_given (read None old) line)) (sym (line_from-root types tree c root))
+            or_else-none (number_in old c) ∙ ap (λ line. or_else (number_in old c) (first_given (number_in old) line)) (sym (line_from-root types tree c root))
 
 -- ** the names of a table
 
@@ -124,7 +123,7 @@ module _ (types : List GType) where
   first-length (suc n) (x ∷ xs) (y ∷ ys) h = ap suc (first-length n xs ys h.2)
 
   -- one name more
-  pub first-more : (n : ℕ) (xs ys : List Named) (before numbers : List (Option ℕ)) → InheritsFirst types n xs ys → numbers_of ys n ≡ Some before
+  pub first-more : (n : ℕ) (xs ys : List Named) (before numbers : List (ℕ × ℕ)) → InheritsFirst types n xs ys → numbers_of ys n ≡ Some before
       → InheritsNumbers types before numbers → InheritsFirst types (suc n) xs (set_numbers ys n numbers)
   first-more zero [] ys before numbers same at inherits = ap (λ l. set_numbers l 0 numbers) same
   first-more zero (x ∷ xs) [] before numbers same at inherits = absurd (cc)
@@ -143,10 +142,10 @@ module _ (types : List GType) where
   found-first (suc n) [] ys c name all same = ap (λ l. found l c name) same ∙ sym (first_given-none (lineage types c))
   found-first (suc n) (x ∷ xs) [] c name all h = absurd h
   found-first (suc n) (x ∷ xs) (y ∷ ys) c name all h =
-      ap (λ m. cond (same_name m name) (read None y.numbers c) (found ys c name)) h.0
+      ap (λ m. cond (same_name m name) (number_in y.numbers c) (found ys c name)) h.0
       ∙ ap (λ o. cond (same_name x.name name) o (found ys c name)) (h.1 c)
-      ∙ ap (cond (same_name x.name name) (first_given (read None x.numbers) (lineage types c))) (found-first n xs ys c name (omega arith) h.2)
-      ∙ first_given-cond (same_name x.name name) (read None x.numbers) (λ t. found xs t name) (lineage types c)
+      ∙ ap (cond (same_name x.name name) (first_given (number_in x.numbers) (lineage types c))) (found-first n xs ys c name (omega arith) h.2)
+      ∙ first_given-cond (same_name x.name name) (number_in x.numbers) (λ t. found xs t name) (lineage types c)
 
   -- once there are no others, each class has what it inherits
   pub first-all : (n : ℕ) (xs ys : List Named) → length xs ≤ n → InheritsFirst types n xs ys → Inherits types xs ys

@@ -4,9 +4,8 @@ use Rattle.std.proofs.lemmas.Option.{none-some, slice_get_within}
 use Rattle.std.proofs.lemmas.Slice.Eq.{bytes_eq-Decides}
 use Rattle.ui_machine.specs.Definition.Names.{same_name, place_from}
 use Rattle.ui_machine.specs.Rules.EmissionPlan.{or_else}
-use Rattle.ui_machine.specs.Seq.{read}
 use Rattle.type_tree.proofs.Lookups.{same_name-bytes_eq}
-use Rattle.name_tables.specs.Names.{Named, Adds, SameNumbers, number_by, number_of, place_of, with_number}
+use Rattle.name_tables.specs.Names.{Named, Adds, SameNumbers, number_by, number_in, number_of, place_of, with_number}
 use Rattle.name_tables.specs.Steps.{with_name, ReadsSame, GivesNumber}
 use Rattle.name_tables.proofs.Numbers.{unchanged}
 
@@ -24,7 +23,7 @@ same-self a = same_name-bytes_eq a a ∙ (bytes_eq-Decides a a).1 refl
 -- the number that a name has in a class: that of the first entry that is called so
 abbrev pub found : List Named → ℕ → List ℕ → Option ℕ
 found [] class name = None
-found (x ∷ xs) class name = cond (same_name x.name name) (read None x.numbers class) (found xs class name)
+found (x ∷ xs) class name = cond (same_name x.name name) (number_in x.numbers class) (found xs class name)
 
 -- one entry before shifts each place by one
 place_from-suc : (i : ℕ) (xs : List Named) (name : List ℕ) → place_from (λ n. n.name) (suc i) xs name ≡ option_map suc (place_from (λ n. n.name) i xs name)
@@ -56,7 +55,7 @@ number_of-found (x ∷ xs) class name =
     next = place_from (λ n. n.name) 1 xs name
 
     by : (b : Bool) → number_by (x ∷ xs) class next ≡ found xs class name
-        → number_by (x ∷ xs) class (cond b (Some 0) next) ≡ cond b (read None x.numbers class) (found xs class name)
+        → number_by (x ∷ xs) class (cond b (Some 0) next) ≡ cond b (number_in x.numbers class) (found xs class name)
     by true r = refl
     by false r = r
 
@@ -100,21 +99,21 @@ called_at (x ∷ xs) name at h = by (same_name x.name name) refl (called_at xs n
 -- ** new numbers
 
 -- the names, of which one got other numbers
-abbrev pub set_numbers : List Named → ℕ → List (Option ℕ) → List Named
+abbrev pub set_numbers : List Named → ℕ → List (ℕ × ℕ) → List Named
 set_numbers [] at numbers = []
 set_numbers (x ∷ xs) zero numbers = record { name = x.name; numbers = numbers } ∷ xs
 set_numbers (x ∷ xs) (suc at) numbers = x ∷ set_numbers xs at numbers
 
-module _ (name : List ℕ) (numbers : List (Option ℕ)) (c : ℕ) (n : List ℕ) where
+module _ (name : List ℕ) (numbers : List (ℕ × ℕ)) (c : ℕ) (n : List ℕ) where
   -- where the name of an entry is the name
   at_name : (x : Named) (b : Bool) (rest : Option ℕ)
-      → cond b (read None numbers c) rest ≡ cond b (read None numbers c) (cond b (read None x.numbers c) rest)
+      → cond b (number_in numbers c) rest ≡ cond b (number_in numbers c) (cond b (number_in x.numbers c) rest)
   at_name x true rest = refl
   at_name x false rest = refl
 
   -- where it is another
   past_name : (x : Named) → same_name x.name name ≡ false → (p q : Bool) (rest : Option ℕ) → same_name x.name n ≡ p → same_name name n ≡ q
-      → cond p (read None x.numbers c) (cond q (read None numbers c) rest) ≡ cond q (read None numbers c) (cond p (read None x.numbers c) rest)
+      → cond p (number_in x.numbers c) (cond q (number_in numbers c) rest) ≡ cond q (number_in numbers c) (cond p (number_in x.numbers c) rest)
   past_name x other true true rest is too =
       let one : x.name ≡ name = same-equal x.name n is ∙ sym (same-equal name n too) in
       absurd (true≢false (sym (same-self name) ∙ ap (λ m. same_name m name) (sym one) ∙ other))
@@ -123,45 +122,45 @@ module _ (name : List ℕ) (numbers : List (Option ℕ)) (c : ℕ) (n : List ℕ
   past_name x other false false rest is too = refl
 
   -- they are read under that name alone
-  pub found-set : (xs : List Named) (at : ℕ) → place_of xs name ≡ Some at → found (set_numbers xs at numbers) c n ≡ cond (same_name name n) (read None numbers c) (found xs c n)
+  pub found-set : (xs : List Named) (at : ℕ) → place_of xs name ≡ Some at → found (set_numbers xs at numbers) c n ≡ cond (same_name name n) (number_in numbers c) (found xs c n)
   found-set [] at h = absurd (none-some at h)
   found-set (x ∷ xs) at h = by (same_name x.name name) refl (found-set xs)
     where
       by : (b : Bool) → same_name x.name name ≡ b
-          → ((k : ℕ) → place_of xs name ≡ Some k → found (set_numbers xs k numbers) c n ≡ cond (same_name name n) (read None numbers c) (found xs c n))
-          → found (set_numbers (x ∷ xs) at numbers) c n ≡ cond (same_name name n) (read None numbers c) (found (x ∷ xs) c n)
+          → ((k : ℕ) → place_of xs name ≡ Some k → found (set_numbers xs k numbers) c n ≡ cond (same_name name n) (number_in numbers c) (found xs c n))
+          → found (set_numbers (x ∷ xs) at numbers) c n ≡ cond (same_name name n) (number_in numbers c) (found (x ∷ xs) c n)
       by true is rest =
           ap (λ i. found (set_numbers (x ∷ xs) i numbers) c n) (place-first x xs name at is h)
           ∙ at_name x (same_name x.name n) (found xs c n)
-          ∙ ap (λ m. cond (same_name m n) (read None numbers c) (found (x ∷ xs) c n)) (same-equal x.name name is)
+          ∙ ap (λ m. cond (same_name m n) (number_in numbers c) (found (x ∷ xs) c n)) (same-equal x.name name is)
       by false is rest =
           let b = place-behind x xs name at is h in
           ap (λ i. found (set_numbers (x ∷ xs) i numbers) c n) b.is
-          ∙ ap (cond (same_name x.name n) (read None x.numbers c)) (rest b.before b.place)
+          ∙ ap (cond (same_name x.name n) (number_in x.numbers c)) (rest b.before b.place)
           ∙ past_name x is (same_name x.name n) (same_name name n) (found xs c n) refl refl
 
 -- the numbers of the entry at a place
-abbrev pub numbers_of : List Named → ℕ → Option (List (Option ℕ))
+abbrev pub numbers_of : List Named → ℕ → Option (List (ℕ × ℕ))
 numbers_of xs at = option_map (λ n. n.numbers) (slice_get xs at)
 
 -- the numbers of the entry at the place of a name are the name's
-pub found_at : (xs : List Named) (name : List ℕ) (at : ℕ) (numbers : List (Option ℕ)) (c : ℕ) → place_of xs name ≡ Some at → numbers_of xs at ≡ Some numbers
-    → found xs c name ≡ read None numbers c
+pub found_at : (xs : List Named) (name : List ℕ) (at : ℕ) (numbers : List (ℕ × ℕ)) (c : ℕ) → place_of xs name ≡ Some at → numbers_of xs at ≡ Some numbers
+    → found xs c name ≡ number_in numbers c
 found_at xs name at numbers c place is =
-    sym (number_of-found xs c name) ∙ ap (number_by xs c) place ∙ through (slice_get xs at) ∙ ap (option_and_then (λ (ns : List (Option ℕ)). read None ns c)) is
+    sym (number_of-found xs c name) ∙ ap (number_by xs c) place ∙ through (slice_get xs at) ∙ ap (option_and_then (λ (ns : List (ℕ × ℕ)). number_in ns c)) is
   where
-    through : (o : Option Named) → option_and_then (λ (n : Named). read None n.numbers c) o
-        ≡ option_and_then (λ (ns : List (Option ℕ)). read None ns c) (option_map (λ (n : Named). n.numbers) o)
+    through : (o : Option Named) → option_and_then (λ (n : Named). number_in n.numbers c) o
+        ≡ option_and_then (λ (ns : List (ℕ × ℕ)). number_in ns c) (option_map (λ (n : Named). n.numbers) o)
     through None = refl
     through (Some n) = refl
 
-module _ (xs : List Named) (name : List ℕ) (at : ℕ) (before numbers : List (Option ℕ)) (place : place_of xs name ≡ Some at) (is : numbers_of xs at ≡ Some before) where
+module _ (xs : List Named) (name : List ℕ) (at : ℕ) (before numbers : List (ℕ × ℕ)) (place : place_of xs name ≡ Some at) (is : numbers_of xs at ≡ Some before) where
   -- numbers that read the same change no name's number
   pub set_numbers-same : ReadsSame before numbers → SameNumbers xs (set_numbers xs at numbers)
   set_numbers-same same c n =
       number_of-found (set_numbers xs at numbers) c n ∙ found-set name numbers c n xs at place ∙ by (same_name name n) refl ∙ sym (number_of-found xs c n)
     where
-      by : (b : Bool) → same_name name n ≡ b → cond b (read None numbers c) (found xs c n) ≡ found xs c n
+      by : (b : Bool) → same_name name n ≡ b → cond b (number_in numbers c) (found xs c n) ≡ found xs c n
       by true one = same c ∙ sym (found_at xs name at before c place is) ∙ ap (found xs c) (same-equal name n one)
       by false one = refl
 
@@ -179,7 +178,7 @@ module _ (xs : List Named) (name : List ℕ) (at : ℕ) (before numbers : List (
       and_false true = refl
       and_false false = refl
 
-      by : (b : Bool) → same_name name n ≡ b → cond b (read None numbers c) (found xs c n) ≡ with_number (nat_eq c class && b) number (found xs c n)
+      by : (b : Bool) → same_name name n ≡ b → cond b (number_in numbers c) (found xs c n) ≡ with_number (nat_eq c class && b) number (found xs c n)
       by true one =
           gives c ∙ ap (with_number (nat_eq c class) number) (sym (found_at xs name at before c place is) ∙ ap (found xs c) (same-equal name n one))
           ∙ ap (λ b. with_number b number (found xs c n)) (and_true (nat_eq c class))
@@ -194,7 +193,7 @@ found-more [] name c n = by (same_name name n)
     by : (b : Bool) → ◌≡◌ {A = Option ℕ} (cond b None None) None
     by true = refl
     by false = refl
-found-more (x ∷ xs) name c n = ap (cond (same_name x.name n) (read None x.numbers c)) (found-more xs name c n)
+found-more (x ∷ xs) name c n = ap (cond (same_name x.name n) (number_in x.numbers c)) (found-more xs name c n)
 
 -- a name that is there leaves the names as they are
 pub with_name-there : (xs : List Named) (name : List ℕ) (at : ℕ) → place_of xs name ≡ Some at → with_name xs name ≡ xs

@@ -1,19 +1,25 @@
 -- Names, each with the numbers that it has in classes.
+use Rattle.std.specs.BTreeMap.{is_at}
+use Rattle.std.specs.Map.{lookup}
+use Rattle.std.specs.Ordering.{nat_cmp}
 use Rattle.std.specs.Prelude.{◌≡◌, ℕ, Bool, cond, nat_eq, ◌&&◌, List, Option, None, Some, option_and_then, slice_get}
 use Rattle.ui_machine.specs.Definition.Names.{place_named, same_name}
 use Rattle.ui_machine.specs.Definition.Types.{GType}
 use Rattle.ui_machine.specs.Rules.Ancestry.{lineage}
 use Rattle.ui_machine.specs.Rules.EmissionPlan.{first_given}
-use Rattle.ui_machine.specs.Seq.{read}
 
--- a name, and the number that it has in each class, by class
+-- a name, and the number that it has in each class that has it, with the class
 pub record Named : Type 0 where
   pub name : List ℕ
-  pub numbers : List (Option ℕ)
+  pub numbers : List (ℕ × ℕ)
+
+-- the number that a class has
+abbrev pub number_in : List (ℕ × ℕ) → (class : ℕ) → Option ℕ
+number_in numbers class = lookup (is_at (nat_cmp class)) numbers
 
 -- the number that a name has in a class, by the name's place in the table
 abbrev pub number_at : List Named → ℕ → ℕ → Option ℕ
-number_at names class place = option_and_then (λ n. read None n.numbers class) (slice_get names place)
+number_at names class place = option_and_then (λ n. number_in n.numbers class) (slice_get names place)
 
 -- the same, where a name may have no place
 abbrev pub number_by : List Named → ℕ → Option ℕ → Option ℕ

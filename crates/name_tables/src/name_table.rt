@@ -6,6 +6,7 @@ ghost use Rattle.name_tables.specs.Steps.{GivesNumber, InheritsNumber, InheritsN
 
 use indexmap::IndexMap;
 use std::alloc::{AllocError, Global};
+use std::collections::BTreeMap;
 use std::marker::Model;
 use type_tree::{TypeId, TypeTree};
 
@@ -14,11 +15,14 @@ pub type NameId = usize;
 
 /// Names in the canonical spelling, with the number that each has in the classes that have it.
 ///
-/// Takes memory for each name once, and for one number for each class up to the last that has the name.
+/// Takes memory for each name once, and for the number of each class that has the name.
 #[derive(Drop)]
 pub struct NameTable {
-    names: IndexMap<String, Vec<Option<u16>>>,
+    names: IndexMap<String, Numbers>,
 }
+
+/// The number that a name has in each class that has it, by the index of the class.
+type Numbers = BTreeMap<usize, u16>;
 
 impl Model for NameTable {
     ghost use Rattle.std.specs.Prelude.{List, map, string_bytes};
@@ -26,7 +30,7 @@ impl Model for NameTable {
 
     ghost Value = { List Named };
 
-    ghost view = { λ t. map (λ e. record { name = string_bytes e.0; numbers = e.1.items }) t.names.entries };
+    ghost view = { λ t. map (λ e. record { name = string_bytes e.0; numbers = e.1.entries }) t.names.entries };
 }
 
 impl NameTable {
@@ -55,7 +59,7 @@ impl NameTable {
         let place = self.names.len();
         let alloc = *self.names.allocator();
         let key = String::from_str(alloc, name)?;
-        self.names.insert(key, Vec::new(alloc))?;
+        self.names.insert(key, BTreeMap::new(alloc))?;
         Ok(place)
     }
 
@@ -99,7 +103,7 @@ impl NameTable {
         ensures { result ≡ number_at self.now class name }
     {
         let (_, numbers) = self.names.get_index(name)?;
-        *numbers.get(class.index())?
+        numbers.get(&class.index()).copied()
     }
 
     /// Returns the text of a name.
@@ -111,23 +115,20 @@ impl NameTable {
     }
 }
 
-// Sets the number at an index of a list, which grows if needed, unless a number is there already.
-fn give_number(numbers: &mut Vec<Option<u16>>, place: usize, number: u16) -> Result<(), AllocError>
-    ensures ok { OnOk result (GivesNumber numbers.old.items numbers.new.items place number) }
-    ensures err { OnErr result (ReadsSame numbers.old.items numbers.new.items) }
+// Sets the number of a class, unless it has one already.
+fn give_number(numbers: &mut Numbers, class: usize, number: u16) -> Result<(), AllocError>
+    ensures ok { OnOk result (GivesNumber numbers.old.entries numbers.new.entries class number) }
+    ensures err { OnErr result (ReadsSame numbers.old.entries numbers.new.entries) }
 {
-    'grow: while numbers.len() <= place {
-        numbers.push(None)?;
-    }
-    if numbers[place].is_none() {
-        numbers[place] = Some(number);
+    if !numbers.contains_key(&class) {
+        numbers.insert(class, number)?;
     }
     Ok(())
 }
 
 // Lets each class without a number inherit the number of its parent, if the parent has one, from the root down.
-fn inherit_numbers(numbers: &mut Vec<Option<u16>>, tree: &TypeTree) -> Result<(), AllocError>
-    ensures { OnOk result (InheritsNumbers tree.now numbers.old.items numbers.new.items) }
+fn inherit_numbers(numbers: &mut Numbers, tree: &TypeTree) -> Result<(), AllocError>
+    ensures { OnOk result (InheritsNumbers tree.now numbers.old.entries numbers.new.entries) }
 {
     // For the proof: a tree has few types, and parents come before their children.
     let _root = tree.parent(TypeId::new(0));
@@ -138,12 +139,8 @@ fn inherit_numbers(numbers: &mut Vec<Option<u16>>, tree: &TypeTree) -> Result<()
 }
 
 // Lets a class without a number inherit the number of its parent, if the parent has one.
-fn inherit_number(
-    numbers: &mut Vec<Option<u16>>,
-    tree: &TypeTree,
-    class: TypeId,
-) -> Result<(), AllocError>
-    ensures { OnOk result (InheritsNumber tree.now numbers.old.items numbers.new.items class) }
+fn inherit_number(numbers: &mut Numbers, tree: &TypeTree, class: TypeId) -> Result<(), AllocError>
+    ensures { OnOk result (InheritsNumber tree.now numbers.old.entries numbers.new.entries class) }
 {
     match parent_number(numbers, tree, class) {
         Some(number) => give_number(numbers, class.index(), number),
@@ -152,9 +149,9 @@ fn inherit_number(
 }
 
 // Returns the number of a class's parent.
-fn parent_number(numbers: &[Option<u16>], tree: &TypeTree, class: TypeId) -> Option<u16>
-    ensures { result ≡ parent_number tree.now numbers.now class }
+fn parent_number(numbers: &Numbers, tree: &TypeTree, class: TypeId) -> Option<u16>
+    ensures { result ≡ parent_number tree.now numbers.now.entries class }
 {
     let parent = tree.parent(class)?;
-    *numbers.get(parent.index())?
+    numbers.get(&parent.index()).copied()
 }

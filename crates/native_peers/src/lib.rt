@@ -32,5 +32,6 @@ pub use peer_shapes::{Method, Shape};
 pub use peers::Peer;
 pub use pooled_peers::Peers;
 pub use pools::PeerPool;
+pub use shapes::is_same_shape;
 pub use stand_ins::StandIn;
 pub use vacancies::Vacant;

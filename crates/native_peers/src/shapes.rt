@@ -19,8 +19,8 @@ fn is_method(name: &str, params: &[Kind], answer: Kind, method: &Method) -> bool
         && is_same_kind(answer, method.result)
 }
 
-// Returns whether a shape has exactly these methods, in this order.
-pub(crate) fn is_same_shape(left: &Shape, right: &[Method]) -> bool
+/// Returns whether a shape has exactly these methods, in this order.
+pub fn is_same_shape(left: &Shape, right: &[Method]) -> bool
     ensures { result ≡ same_shape left.now (map method_view right.now) }
 {
     if left.len() != right.len() {

@@ -24,7 +24,8 @@ methods_equal m n same =
     ∙ ap (λ x. record n { params = x; result = m.result }) (kinds_equal m.params n.params rest.0)
     ∙ ap (λ x. record n { result = x }) (kind_same m.result n.result rest.1)
 
-shapes_equal : (ms ns : List Method) → same_shape ms ns ≡ true → ms ≡ ns
+-- so are shapes
+pub shapes_equal : (ms ns : List Method) → same_shape ms ns ≡ true → ms ≡ ns
 shapes_equal [] [] same = refl
 shapes_equal [] (n ∷ ns) same = absurd (cc same)
 shapes_equal (m ∷ ms) [] same = absurd (cc same)

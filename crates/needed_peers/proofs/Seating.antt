@@ -46,18 +46,12 @@ names_same (x ∷ xs) = ap (λ ns. x.name ∷ ns) (names_same xs)
 module _ (items : List Seen) (k : ℕ) (x : Seen) (at : slice_get items k ≡ Some x) where
   -- a need of its name has its methods
   module _ (needs : List Need) (apart : no_two same_name (map (λ (x : Seen). x.name) items) ≡ true) (matches : mismatch_with needs (as_peers items) ≡ None) (name : List ℕ) (named : name ≡ x.name) (likely : ℕ) where
-    needed : shape_likely needs likely name ≡ Some x.state.shape
+    pub needed : shape_likely needs likely name ≡ Some x.state.shape
     needed =
         ap (shape_likely needs likely) named
         ∙ shape_of_need needs (as_peers items) k (as_peer x)
         (slice_get-map as_peer items k ∙ ap (option_map as_peer) at)
         (ap (λ ns. no_two same_name ns) (names_same items) ∙ apart) matches likely
-
-    pub needed_shape : (shape : List Method) → Some shape ≡ shape_likely needs likely name → shape ≡ x.state.shape
-    needed_shape shape is = let same : ◌≡◌ {A = Option (List Method)} (Some shape) (Some x.state.shape) = is ∙ needed in cc same
-
-    pub never_none : None ≡ shape_likely needs likely name → ⊥
-    never_none is = let never : ◌≡◌ {A = Option (List Method)} None (Some x.state.shape) = is ∙ needed in cc never
 
   -- none of those before it has its name
   pub new_name : (seats : List Peer) (name : List ℕ) → seats ≡ known (take k items) → name ≡ x.name → no_two same_name (map (λ (x : Seen). x.name) items) ≡ true → peer_number seats name ≡ None

@@ -1,14 +1,28 @@
 -- The links of a definition in which a pair is followed are its own.
-use Rattle.std.proofs.Common.{◌≡◌, ℕ, zero, suc, Bool, true, false, cond, List, Option, None, Some, refl}
+use Rattle.std.proofs.Common.{◌≡◌, ℕ, zero, suc, ◌<◌, Bool, true, false, cond, is_eq, Greater, List, [], ◌∷◌, Option, None, Some, refl, sym, ap, ◌∙◌, arith}
+use Rattle.std.specs.Cmp.{nat_cmp_is}
+use Rattle.std.specs.Ordering.{nat_cmp}
 use Rattle.std.specs.Prelude.{IfSome, codes}
 use Rattle.ui_machine.specs.Definition.Lookups.{slot_of}
 use Rattle.ui_machine.specs.Definition.Names.{canonical, same_name}
 use Rattle.ui_machine.specs.Rules.Connections.{signal_number}
 use Rattle.ui_machine.specs.Rules.EmissionPlan.{class_handler_of, signal_of}
 use Rattle.worked.specs.Laws.Gathering.{definition}
-use Rattle.name_tables.specs.Names.{number_by, number_of}
+use Rattle.law_typing.specs.Verdict.Accepted.{Each}
+use Rattle.name_tables.specs.Names.{number_by, number_in, number_of}
 use Rattle.engine_links.specs.Linked.{IsLink, IsProperty, handler_at, instruction_at, link_at}
 use Rattle.worked.specs.Links.LinkedGathering.{GatheringLinked, linked}
+
+-- ** numbers
+
+-- numbers that differ are told apart
+above : (c k : ℕ) → k < c → is_eq (nat_cmp c k) ≡ false
+above c k more = ap is_eq (sym (nat_cmp_is c k Greater more))
+
+-- a class above all that have a number has none
+above_all : (numbers : List (ℕ × ℕ)) (c : ℕ) → Each (λ (n : ℕ × ℕ). n.0 < c) numbers → number_in numbers c ≡ None
+above_all [] c all = refl
+above_all (n ∷ numbers) c all = ap (λ b. cond b (Some n.1) (number_in numbers c)) (above c n.0 all.0) ∙ above_all numbers c all.1
 
 -- ** names
 
@@ -32,8 +46,8 @@ in_second false true = refl
 in_second false false = refl
 
 past_third : (class : ℕ) (first second : Bool) → number_by linked.slots (suc (suc (suc class))) (of_two first second) ≡ None
-past_third class true second = refl
-past_third class false true = refl
+past_third class true second = above_all ((2, 0) ∷ []) (suc (suc (suc class))) (omega arith, tt)
+past_third class false true = above_all ((2, 1) ∷ []) (suc (suc (suc class))) (omega arith, tt)
 past_third class false false = refl
 
 abbrev is_on : List ℕ → Bool
@@ -72,7 +86,7 @@ notified_3 true = refl
 notified_3 false = refl
 
 past_fourth : (class : ℕ) (b : Bool) → number_by linked.signals (suc (suc (suc (suc class)))) (of_one b) ≡ None
-past_fourth class true = refl
+past_fourth class true = above_all ((0, 0) ∷ (1, 0) ∷ (2, 0) ∷ (3, 0) ∷ []) (suc (suc (suc (suc class)))) (omega arith, (omega arith, (omega arith, (omega arith, tt))))
 past_fourth class false = refl
 
 pub signals : (class : ℕ) (name : List ℕ) → number_of linked.signals class (canonical name) ≡ signal_number definition class name
@@ -102,7 +116,7 @@ sets_amount zero = refl
 sets_amount (suc zero) = refl
 sets_amount (suc (suc zero)) = refl
 sets_amount (suc (suc (suc zero))) = refl
-sets_amount (suc (suc (suc (suc class)))) = refl
+sets_amount (suc (suc (suc (suc class)))) = above_all ((2, 1) ∷ []) (suc (suc (suc (suc class)))) (omega arith, tt)
 
 at : (program block at : ℕ) → IfSome (instruction_at definition program block at) (λ i. IsLink definition linked i (link_at linked.programs program block at))
 at zero zero zero = refl

@@ -1,6 +1,6 @@
 -- The links of a definition in which a pair is followed: the names of its properties and signals, and what its two programs name. It has no
 -- shapes, its bindings have no names, and no class names a program for a signal.
-use Rattle.std.specs.Prelude.{[], ◌∷◌, codes, None, Some}
+use Rattle.std.specs.Prelude.{[], ◌∷◌, codes, Some}
 use Rattle.worked.specs.Laws.Gathering.{definition}
 use Rattle.engine_links.specs.Linked.{AreLinked, Linked}
 use Rattle.engine_links.specs.declared.link.Link.TheVariants as links
@@ -8,13 +8,13 @@ use Rattle.name_tables.specs.Names.{Named}
 
 -- the properties of the third class, and the signal that each of the four has
 abbrev pub on : Named
-on = record { name = codes "on"; numbers = None ∷ None ∷ Some 0 ∷ [] }
+on = record { name = codes "on"; numbers = (2, 0) ∷ [] }
 
 abbrev pub amount : Named
-amount = record { name = codes "amount"; numbers = None ∷ None ∷ Some 1 ∷ [] }
+amount = record { name = codes "amount"; numbers = (2, 1) ∷ [] }
 
 abbrev pub notify : Named
-notify = record { name = codes "notify"; numbers = Some 0 ∷ Some 0 ∷ Some 0 ∷ Some 0 ∷ [] }
+notify = record { name = codes "notify"; numbers = (0, 0) ∷ (1, 0) ∷ (2, 0) ∷ (3, 0) ∷ [] }
 
 -- what each instruction names: in the first program the object `b`, and the amount that is set; in the second the prototype
 abbrev pub linked : Linked

@@ -11,10 +11,10 @@ classes-init c = record {
 
 pub classes-preserved : goal.classes-preserved
 classes-preserved c =
-    before-more c.args.tree.now c.parent-root.ensures.tree c.args.numbers.now.items c.classes.numbers.items c.inherit_number.new.numbers.items c.classes.class c.classes.invariant
-    (subst (InheritsNumber c.args.tree.now c.classes.numbers.items c.inherit_number.new.numbers.items) c.new-in-classes.ensures c.in_ok-inherit_number.ensures)
+    before-more c.args.tree.now c.parent-root.ensures.tree c.args.numbers.now.entries c.classes.numbers.entries c.inherit_number.new.numbers.entries c.classes.class c.classes.invariant
+    (subst (InheritsNumber c.args.tree.now c.classes.numbers.entries c.inherit_number.new.numbers.entries) c.new-in-classes.ensures c.in_ok-inherit_number.ensures)
 
 pub returns : goal.returns
 returns c =
     let all : length c.args.tree.now ≤ c.classes.class = omega arith in
-    before-all c.args.tree.now c.parent-root.ensures.tree c.args.numbers.now.items c.classes.numbers.items c.classes.class c.classes.invariant all
+    before-all c.args.tree.now c.parent-root.ensures.tree c.args.numbers.now.entries c.classes.numbers.entries c.classes.class c.classes.invariant all

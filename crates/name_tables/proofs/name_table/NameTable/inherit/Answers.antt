@@ -27,7 +27,7 @@ names-preserved c =
     let numbers = c.inherit_numbers.new.numbers in
     subst (λ n. InheritsFirst c.args.tree.now n c.args.self.now (map named (set_value_at entries c.names.at numbers))) (sym (add-one c.names.at))
     (subst (InheritsFirst c.args.tree.now (suc c.names.at) c.args.self.now) (sym (named-set_value_at entries c.names.at numbers))
-    (first-more c.args.tree.now c.names.at c.args.self.now (map named entries) c.index_mut.result.now.items numbers.items c.names.invariant
+    (first-more c.args.tree.now c.names.at c.args.self.now (map named entries) c.index_mut.result.now.entries numbers.entries c.names.invariant
     (numbers-value entries c.names.at c.index_mut.result.now c.index_mut.ensures.value) c.in_ok-inherit_numbers.ensures))
 
 pub returns : goal.returns

@@ -24,7 +24,7 @@ pub returns-clause-ok : goal.returns-clause-ok
 returns-clause-ok c =
     let absent = placed c.self.inside.names.entries c.args.self.now c.args.name.now c.get_index_of.result None c.self.view_is c.get_index_of.ensures.index c.in_default.is in
     named-insert c.self.inside.names c.insert.new.self.entries c.in_ok-key.key c.new.result c.args.name.now (none-of _ (sym c.in_default.ensures.found)) c.in_ok-key.ensures.ok
-    c.new.ensures.items c.in_ok-insert.ensures.entries
+    c.new.ensures.empty c.in_ok-insert.ensures.entries
     ∙ ap (λ xs. xs ++ record { name = c.args.name.now; numbers = [] } ∷ []) c.self.view_is
     ∙ sym (with_name-new c.args.self.now c.args.name.now absent)
 
