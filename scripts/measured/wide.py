@@ -291,8 +291,16 @@ def unknown_member(value):
     return '{"format":1,"objects":[],"zoo":' + value + "}", []
 
 
+def deep_lists():
+    return "[" + ",".join(["[" * 120 + "]" * 120] * 17_000) + "]"
+
+
 def deep_unknown_member():
-    return unknown_member("[" + ",".join(["[" * 120 + "]" * 120] * 17_000) + "]")
+    return unknown_member(deep_lists())
+
+
+def deep_known_member():
+    return '{"format":1,"objects":[' + deep_lists() + "]}", []
 
 
 def wide_unknown_member():
@@ -301,6 +309,18 @@ def wide_unknown_member():
 
 def deep_unknown_objects():
     return unknown_member("[" + ",".join(['{"":' * 120 + "0" + "}" * 120] * 6_900) + "]")
+
+
+def small_unknown_objects():
+    return unknown_member("[" + ",".join(['{"":0}'] * 590_000) + "]")
+
+
+def empty_unknown_lists():
+    return unknown_member("[" + ",".join(["[]"] * 1_380_000) + "]")
+
+
+def short_unknown_texts():
+    return unknown_member("[" + ",".join(['"a"'] * 1_040_000) + "]")
 
 
 def many_unknown_members():
@@ -374,6 +394,10 @@ ROWS = {
     "an unknown member that is deep": deep_unknown_member,
     "an unknown member that is wide": wide_unknown_member,
     "an unknown member of deep objects": deep_unknown_objects,
+    "an unknown member of small objects": small_unknown_objects,
+    "an unknown member of empty lists": empty_unknown_lists,
+    "an unknown member of short texts": short_unknown_texts,
+    "objects that are deep lists": deep_known_member,
     "many unknown members": many_unknown_members,
     "a member that is given many times": member_given_many_times,
     "turns with 256 idles": turns_with_idles,
@@ -381,4 +405,13 @@ ROWS = {
 }
 
 # The rows whose definitions are refused: that has to be as cheap as anything else.
-REFUSED = {"an unknown member that is deep", "an unknown member that is wide", "an unknown member of deep objects", "many unknown members"}
+REFUSED = {
+    "an unknown member that is deep",
+    "an unknown member that is wide",
+    "an unknown member of deep objects",
+    "an unknown member of small objects",
+    "an unknown member of empty lists",
+    "an unknown member of short texts",
+    "objects that are deep lists",
+    "many unknown members",
+}

@@ -1,9 +1,10 @@
 -- Values of some kinds, one after the other, as a loop reads them.
 use Rattle.std.proofs.Common.{◌≡◌, ℕ, zero, suc, ◌+◌, ◌≤◌, ◌<◌, List, [], ◌∷◌, map, length, drop, get_or, slice_get, None, Some, Result, Ok, refl, sym, ap, subst, ◌∙◌, arith, add-one}
 use Rattle.std.specs.List.{AllByRecursion}
+use Rattle.std.proofs.Math.Seq.{drop-cons}
 use Rattle.std.proofs.lemmas.List.{nil_from_length, length-drop, length-map}
 use Rattle.serde_json.specs.declared.value.Value.{Value}
-use Rattle.serde_json.specs.Data.{Data, no_items}
+use Rattle.serde_json.specs.Data.{Data, item, no_items}
 use Rattle.serde_json.specs.View.{view, items_view}
 use Rattle.ui_machine.specs.Outcome.{◌>>=◌}
 use Rattle.ui_machine.specs.Definition.Kinds as kinds
@@ -15,7 +16,9 @@ use Rattle.definition_format.specs.declared.event_faults.EventError.{EventError}
 use Rattle.definition_format.specs.declared.event_faults.EventError.TheVariants as errors
 use Rattle.definition_format.specs.Meaning.{IsKnownKind}
 use Rattle.definition_format.specs.EventMeaning.{EventRefusal, Fails, count, each_of}
-use Rattle.read_parts.proofs.Each.{one_more}
+
+one_more : (vs : List Value) (i : ℕ) (v : Value) → i < length vs → v ≡ get_or vs i v → items_view (drop i vs) ≡ item (view v) (items_view (drop (i + 1) vs))
+one_more vs i v lt is = let e : drop i vs ≡ get_or vs i v ∷ drop (suc i) vs = drop-cons vs i v lt in rw (add-one, e, ← is) refl
 
 pub params_are : (ks : List Kind) → length (map kind_view ks) ≡ length ks
 params_are ks = length-map ks kind_view

@@ -1,4 +1,5 @@
 pub mod Words
+pub mod OneMember
 pub mod EachOf
 pub mod CodeNames
 pub mod PlaceLists

@@ -79,7 +79,7 @@ fn parsed_line(alloc: Global, bytes: &[u8]) -> Result<Value, EventError>
 }
 
 // Returns whether a value is an object with exactly one member.
-#[tactic(auto, using(read_parts::proofs::Values::one_member_is))]
+#[tactic(auto, using(crate::proofs::OneMember::one_member_is))]
 fn has_one_member(value: &Value) -> bool
     ensures { result ≡ has_one_member (view value.now) }
 {
@@ -320,7 +320,7 @@ pub(crate) fn object_named(
 ) -> Result<Option<Place>, EventError>
     ensures { Gives (option_map (λ p. p.0)) result (object_named definition.now (reference (kind_view kind) (as_str (view value.now)))) }
 {
-    let Some((_, id)) = reference(&kind, value) else {
+    let Some((_, id)) = reference(&kind, value.as_str()) else {
         return Ok(None);
     };
     match definition.object_place(id) {

@@ -1,7 +1,7 @@
 //! Reads the limits that a definition sets for its sessions.
 
 ghost use Rattle.std.specs.Prelude.{◌≡◌, ◌≤◌, [], pos, codes, IfOk};
-ghost use Rattle.serde_json.specs.View.{view};
+ghost use Rattle.json_trees.specs.View.{view};
 ghost use Rattle.serde_json.specs.Find.{get};
 ghost use Rattle.g_values.specs.Reading.{whole_number};
 ghost use Rattle.definition_format.specs.Meaning.{AreLimits, default_limits};
@@ -10,9 +10,9 @@ ghost use Rattle.definition_format.specs.Document.{path_of, under};
 ghost use Rattle.definition_format.specs.Denoted.SessionLimits.{limit_within, given_limit, limit_or, given_limits, limits_in};
 
 use definition_format::{DefinitionFault, DefinitionLimit, Path, ReadError};
+use json_trees::Value;
 use read_parts::document::{Part, bad_shape};
 use read_parts::numbers::whole_number;
-use serde_json::Value;
 use ui_machine::{LEAST_OBJECTS, Limits, MOST_HANDLERS, MOST_OBJECTS};
 
 const MEMBERS: [&str; 2] = ["objects", "handlers"];

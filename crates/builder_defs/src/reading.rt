@@ -2,7 +2,7 @@
 
 ghost use Rattle.std.specs.Prelude.{◌≡◌, ◌≤◌, [], None, length, map, IfOk};
 ghost use Rattle.std.specs.List.{AllByRecursion};
-ghost use Rattle.serde_json.specs.View.{view};
+ghost use Rattle.json_trees.specs.View.{view};
 ghost use Rattle.ui_machine.specs.Definition.Types.{predeclared};
 ghost use Rattle.definition_format.specs.Meaning.{ArePlain, HasOwnName, IsSound, IsSoundProgram, meaning, plain_program, plain_prototype, plain_shape};
 ghost use Rattle.definitions.specs.PartsView.{parts_of};
@@ -26,6 +26,7 @@ use definitions::programs::Programs;
 use definitions::shapes::Shapes;
 use definitions::{Definition, Parts};
 use handler_code::{Format, Names};
+use json_trees::Value;
 use param_specs::SpecTable;
 use read_objects::{
     Classes, ReadObjects, ReadPrototypes, read_objects, read_places, read_programs, read_prototypes,
@@ -35,7 +36,6 @@ use read_parts::entries::{ProgramNames, TypeNames};
 use read_types::{
     ClassDraft, Draft, read_classes, read_enums, read_flags_types, read_interfaces, read_shapes,
 };
-use serde_json::Value;
 use signal_core::SignalTable;
 use std::alloc::Global;
 use type_tree::TypeTree;

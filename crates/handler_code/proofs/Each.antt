@@ -2,9 +2,10 @@
 use Rattle.std.proofs.Common.{◌≡◌, ℕ, suc, ◌+◌, ◌≤◌, ◌<◌, List, [], ◌∷◌, ◌++◌, map, length, drop, get_or, Result, Ok, Err, refl, sym, ap, ◌∙◌, arith, add-one}
 use Rattle.std.proofs.Math.Seq.{drop-cons}
 use Rattle.std.proofs.lemmas.List.{nil_from_length, length-drop, map-append}
-use Rattle.serde_json.specs.declared.value.Value.{Value}
+use Rattle.json_trees.specs.declared.value.Value.{Value}
 use Rattle.serde_json.specs.Data.{Data}
-use Rattle.serde_json.specs.View.{items_of, view, items_view}
+use Rattle.serde_json.specs.View.{items_of}
+use Rattle.json_trees.specs.View.{view, items_view}
 use Rattle.ui_machine.specs.Outcome.{◌>>=◌}
 use Rattle.bytecode.specs.Reading.Each.{entries_of, each}
 

@@ -1,8 +1,8 @@
 -- Options that a list names, one entry after the other.
 use Rattle.std.proofs.Common.{◌≡◌, ℕ, ◌||◌, ◌&&◌, List, [], ◌∷◌, refl, ap}
 use Rattle.std.specs.List.{list_any, list_all}
-use Rattle.serde_json.specs.declared.value.Value.{Value}
-use Rattle.serde_json.specs.View.{view, items_view}
+use Rattle.json_trees.specs.declared.value.Value.{Value}
+use Rattle.json_trees.specs.View.{view, items_view}
 use Rattle.serde_json.specs.Find.{as_str}
 use Rattle.bytecode.specs.Reading.Operands.{is_word, has_word, is_option, are_options}
 

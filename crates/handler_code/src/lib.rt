@@ -14,4 +14,4 @@ pub use bytecode::{
 pub use frames::{
     Frame, MOST_TEXT_BYTES, compute, copy_values, identity_at, text_at, truth_at, value_at,
 };
-pub use reading::{Names, Scope, check_outline, read_instruction, read_program};
+pub use reading::{Names, Scope, check_outline, read_instruction, read_json_program, read_program};

@@ -26,5 +26,5 @@ mod source_rows;
 pub use instructions::read_instruction;
 pub use names::Names;
 pub use outlines::check_outline;
-pub use programs::read_program;
+pub use programs::{read_json_program, read_program};
 pub use scope::Scope;

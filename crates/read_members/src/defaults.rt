@@ -1,7 +1,7 @@
 //! Reads the defaults of properties.
 
 ghost use Rattle.std.specs.Prelude.{◌≡◌, codes};
-ghost use Rattle.serde_json.specs.View.{view};
+ghost use Rattle.json_trees.specs.View.{view};
 ghost use Rattle.g_values.specs.View.{kind_view, value_view, IsKnown};
 ghost use Rattle.g_values.specs.Reading.{json_value};
 ghost use Rattle.param_specs.specs.View.{spec_view};
@@ -10,11 +10,11 @@ ghost use Rattle.definition_format.specs.Document.{under, path_of};
 ghost use Rattle.definition_format.specs.Denoted.Defaults.{default_at, check_default, check_unranged};
 
 use definition_format::{DefinitionFault, ReadError, SpecCause};
-use g_values::{JsonError, Kind, from_json, zero_of};
+use g_values::{JsonError, Kind, zero_of};
+use json_trees::{Value, from_json};
 use param_specs::{Spec, SpecFault, is_valid_default};
 use read_parts::document::{Part, bad_value, path_under};
 use read_parts::kinds::is_whole;
-use serde_json::Value;
 use type_tree::TypeTree;
 
 /// Reads `value`, the member `key` of `part`, as a value of this kind.

@@ -1,7 +1,7 @@
 //! The types of a definition with their properties and signals while they are read.
 
 ghost use Rattle.std.specs.Prelude.{◌≡◌, ◌<◌, codes, length};
-ghost use Rattle.serde_json.specs.View.{view};
+ghost use Rattle.json_trees.specs.View.{view};
 ghost use Rattle.param_specs.specs.Table.{own_of};
 ghost use Rattle.signal_core.specs.Sources as declared;
 ghost use Rattle.definition_format.specs.Refusals.{Leads};

@@ -1,17 +1,17 @@
 //! Reads the flags of properties.
 
 ghost use Rattle.std.specs.Prelude.{◌≡◌, codes, option_map};
-ghost use Rattle.serde_json.specs.View.{view, items_view};
+ghost use Rattle.json_trees.specs.View.{view, items_view};
 ghost use Rattle.serde_json.specs.Find.{get, as_str};
 ghost use Rattle.definition_format.specs.Refusals.{Gives};
 ghost use Rattle.definition_format.specs.Document.{under, path_of, each, at_entry};
 ghost use Rattle.definition_format.specs.Denoted.PropertyFlags.{flag_named, flag_if, flag_at, check_flags, listed_flags, flags_at};
 
 use definition_format::{DefinitionFault, ReadError, SpecCause};
+use json_trees::Value;
 use param_specs::{PropertyFlags, SpecFault};
 use read_parts::document::{Entries, Part, bad_shape, path_text, path_under};
 use read_parts::reads::{Reads, read_each};
-use serde_json::Value;
 
 // Returns the flag that a word names.
 fn flag_named(word: &str) -> Option<PropertyFlags>

@@ -1,7 +1,7 @@
 //! Reads the ranges of properties, which are their least and greatest numbers.
 
 ghost use Rattle.std.specs.Prelude.{◌≡◌, codes};
-ghost use Rattle.serde_json.specs.View.{view};
+ghost use Rattle.json_trees.specs.View.{view};
 ghost use Rattle.serde_json.specs.Find.{get};
 ghost use Rattle.g_values.specs.View.{kind_view};
 ghost use Rattle.g_values.specs.Reading.{whole_number, number_between};
@@ -12,11 +12,11 @@ ghost use Rattle.definition_format.specs.Denoted.Ranges.{whole_range, end_given,
 
 use definition_format::{DefinitionFault, ReadError, SpecCause};
 use g_values::{JsonFault, Kind};
+use json_trees::Value;
 use param_specs::SpecFault;
 use read_parts::document::{Part, bad_shape, bad_value, path_under};
 use read_parts::kinds::{highest, is_whole, lowest};
 use read_parts::numbers::whole_number;
-use serde_json::Value;
 
 // The least and the greatest number of a property.
 #[derive(Clone, Copy)]

@@ -1,16 +1,16 @@
 //! Reads the flags of signals.
 
 ghost use Rattle.std.specs.Prelude.{◌≡◌, codes, option_map};
-ghost use Rattle.serde_json.specs.View.{view};
+ghost use Rattle.json_trees.specs.View.{view};
 ghost use Rattle.serde_json.specs.Find.{as_str};
 ghost use Rattle.definition_format.specs.Refusals.{Gives};
 ghost use Rattle.definition_format.specs.Document.{under, path_of};
 ghost use Rattle.definition_format.specs.Denoted.Signals.{flag_named, flag_if, listed_flags, flags_at};
 
 use definition_format::{DefinitionFault, ReadError};
+use json_trees::Value;
 use read_parts::document::{Entries, Part, bad_shape, path_text, path_under};
 use read_parts::reads::{Reads, read_each};
-use serde_json::Value;
 use signal_core::SignalFlags;
 
 // Returns the flag that a word names.

@@ -1,7 +1,7 @@
 //! Reads the signals of classes and interfaces.
 
 ghost use Rattle.std.specs.Prelude.{◌≡◌, ◌<◌, [], codes, length, is_some, false, true, map, option_map, string_bytes, nat_le, None, Some, Ok, IfOk};
-ghost use Rattle.serde_json.specs.View.{view, items_view};
+ghost use Rattle.json_trees.specs.View.{view, items_view};
 ghost use Rattle.type_tree.specs.Adding.{sort_of};
 ghost use Rattle.type_tree.specs.Entry.{view_of_sort};
 ghost use Rattle.type_tree.specs.PropertyName.{is_property_name};
@@ -20,11 +20,11 @@ ghost use Rattle.definition_format.specs.Denoted.Signals.{param_at, params_at, r
 use crate::signal_flags::signal_flags_of;
 use definition_format::{DefinitionFault, DefinitionLimit, ReadError, SpecCause};
 use g_values::Kind;
+use json_trees::Value;
 use read_parts::document::{Entries, Part, bad_shape, entry_name, path_under};
 use read_parts::entries::TypeNames;
 use read_parts::kinds::kind_of_word;
 use read_parts::reads::{Reads, read_each};
-use serde_json::Value;
 use signal_core::{Accumulator, MOST_SIGNALS, Signal, SignalError, SignalFault, SignalTable};
 use type_tree::{TypeId, TypeSort, TypeTree, is_property_name};
 

@@ -3,7 +3,7 @@
 ghost use Rattle.std.specs.Prelude.{◌≡◌, ◌≤◌, codes, length, map, option_map, string_bytes};
 ghost use Rattle.std.specs.List.{AllByRecursion};
 ghost use Rattle.serde_json.specs.Find.{as_str, get};
-ghost use Rattle.serde_json.specs.View.{view, items_view};
+ghost use Rattle.json_trees.specs.View.{view, items_view};
 ghost use Rattle.definition_format.specs.Meaning.{HasOwnName, attached_view, place_number, plain_program};
 ghost use Rattle.definition_format.specs.Refusals.{Gives, Leads};
 ghost use Rattle.definition_format.specs.Document.{under, path_of};
@@ -11,11 +11,11 @@ ghost use Rattle.definition_format.specs.Denoted.Attached.{name_of, program_unde
 
 use definition_format::{Attached, ReadError};
 use definitions::programs::{Programs, number_of};
+use json_trees::Value;
 use read_parts::document::{Entries, Part, bad_shape, path_under, unknown_name};
 use read_parts::entries::{ObjectNames, at_most};
 use read_parts::names::is_name;
 use read_parts::reads::{Reads, read_each};
-use serde_json::Value;
 use ui_machine::{Place, ProgramId};
 
 const MEMBERS: [&str; 6] = ["name", "handler", "detail", "after", "swapped", "object"];

@@ -1,7 +1,7 @@
 //! Reads the bindings between properties of objects.
 
 ghost use Rattle.std.specs.Prelude.{◌≡◌, codes, option_map, string_bytes};
-ghost use Rattle.serde_json.specs.View.{view};
+ghost use Rattle.json_trees.specs.View.{view};
 ghost use Rattle.serde_json.specs.Find.{as_str, get};
 ghost use Rattle.param_specs.specs.View.{spec_view};
 ghost use Rattle.param_specs.specs.Table.{own_of};
@@ -19,10 +19,10 @@ use crate::given::{Property, class_ahead, property_named};
 use crate::targets::Target;
 use bindings::BindingFlags;
 use definition_format::{Bind, DefinitionFault, ReadError};
+use json_trees::Value;
 use read_parts::document::{Entries, Part, bad_shape, path_text, path_under, unknown_name};
 use read_parts::entries::{ObjectNames, at_most};
 use read_parts::reads::{Reads, read_each};
-use serde_json::Value;
 use type_tree::TypeId;
 use ui_machine::{Place, Slot};
 

@@ -1,7 +1,7 @@
 //! Reads what the entries of an object's properties give it, which are values and bindings.
 
 ghost use Rattle.std.specs.Prelude.{◌≡◌, codes, nat_eq, slice_get, Some, option_map};
-ghost use Rattle.serde_json.specs.View.{view, items_view};
+ghost use Rattle.json_trees.specs.View.{view, items_view};
 ghost use Rattle.serde_json.specs.Find.{get};
 ghost use Rattle.g_values.specs.View.{IsKnown};
 ghost use Rattle.param_specs.specs.View.{spec_view};
@@ -16,8 +16,8 @@ use crate::binds::read_bind;
 use crate::given::{Property, check_in_time, check_writable, given_by, property_named, spec_ahead};
 use crate::targets::Target;
 use definition_format::{DefinitionFault, GivenValue, Path, ReadError};
+use json_trees::Value;
 use read_parts::document::{Entries, Part, bad_shape, path_under};
-use serde_json::Value;
 use std::alloc::Global;
 use ui_machine::Slot;
 

@@ -3,7 +3,7 @@
 ghost use Rattle.std.specs.Prelude.{◌≡◌, codes, map, nat_eq, slice_get, Some, option_map, IfOk};
 ghost use Rattle.std.specs.List.{list_any};
 ghost use Rattle.serde_json.specs.Find.{get, as_str};
-ghost use Rattle.serde_json.specs.View.{view};
+ghost use Rattle.json_trees.specs.View.{view};
 ghost use Rattle.g_values.specs.View.{kind_view, IsKnown};
 ghost use Rattle.param_specs.specs.View.{spec_view};
 ghost use Rattle.param_specs.specs.Table.{specs_of};
@@ -15,6 +15,7 @@ ghost use Rattle.definition_format.specs.Denoted.Given.{property_named, is_given
 
 use definition_format::{DefinitionFault, Given, GivenValue, ReadError, SpecCause};
 use g_values::{JsonFault, Kind};
+use json_trees::Value;
 use param_specs::{Spec, SpecTable};
 use read_parts::document::{Part, bad_shape, bad_value, path_text, path_under, unknown_name};
 use read_parts::entries::{ObjectNames, at_most, name_under};
@@ -141,11 +142,11 @@ fn object_of_type(
 }
 
 /// Returns the type and the id if a kind is one of objects and the value is a text.
-pub fn reference<'a>(kind: &Kind, value: &'a serde_json::Value) -> Option<(TypeId, &'a str)>
-    ensures { option_map (λ r. (r.0, r.1.now)) result ≡ reference (kind_view kind.now) (as_str (view value.now)) }
+pub fn reference<'a>(kind: &Kind, text: Option<&'a str>) -> Option<(TypeId, &'a str)>
+    ensures { option_map (λ r. (r.0, r.1.now)) result ≡ reference (kind_view kind.now) (option_map (λ s. s.now) text.entry) }
 {
     match kind {
-        Kind::Object(t) => Some((*t, value.as_str()?)),
+        Kind::Object(t) => Some((*t, text?)),
         _ => None,
     }
 }
@@ -172,12 +173,12 @@ pub(crate) fn given_by(
     types: &TypeTree,
     objects: &ObjectNames<'_>,
     kind: Kind,
-    value: &serde_json::Value,
+    value: &Value,
 ) -> Result<Given, ReadError>
     requires { IsKnown types.now kind }
     ensures { Gives given_view result (given_by (under (path_of part.entry.path) (codes "value")) types.now objects.now (kind_view kind) (view value.now) (reference (kind_view kind) (as_str (view value.now)))) }
 {
-    if let Some((t, id)) = reference(&kind, value) {
+    if let Some((t, id)) = reference(&kind, value.as_str()) {
         return referred(part, types, objects, t, id);
     }
     let value = value_of(part, "value", types, kind, value)?;
@@ -186,7 +187,7 @@ pub(crate) fn given_by(
 
 // Returns the property that an entry names, or `None` if it names none of the class.
 pub(crate) fn spec_ahead<'a>(
-    value: &serde_json::Value,
+    value: &Value,
     types: &TypeTree,
     specs: &'a SpecTable,
     class: TypeId,
@@ -201,17 +202,17 @@ pub(crate) fn spec_ahead<'a>(
 }
 
 // Returns the reference to an object that an entry gives, if it gives one.
-fn reference_under<'a>(entry: &'a serde_json::Value, kind: &Kind) -> Option<(TypeId, &'a str)>
+fn reference_under<'a>(entry: &'a Value, kind: &Kind) -> Option<(TypeId, &'a str)>
     ensures { option_map (λ r. (r.0, r.1.now)) result ≡ reference (kind_view kind.now) (name_under (codes "value") (view entry.now)) }
 {
     match entry.get("value") {
-        Some(value) => reference(kind, value),
+        Some(value) => reference(kind, value.as_str()),
         None => None,
     }
 }
 
 // Returns the place of the object that an entry gives, if it gives one.
-fn place_ahead(value: &serde_json::Value, objects: &ObjectNames<'_>, kind: &Kind) -> Option<usize>
+fn place_ahead(value: &Value, objects: &ObjectNames<'_>, kind: &Kind) -> Option<usize>
     ensures { result ≡ place_ahead objects.now (reference (kind_view kind.now) (name_under (codes "value") (view value.now))) }
 {
     match reference_under(value, kind) {
@@ -221,12 +222,7 @@ fn place_ahead(value: &serde_json::Value, objects: &ObjectNames<'_>, kind: &Kind
 }
 
 // Returns whether an entry gives an object that is not built yet to a property that only constructions set.
-fn is_too_late(
-    value: &serde_json::Value,
-    objects: &ObjectNames<'_>,
-    place: usize,
-    spec: &Spec,
-) -> bool
+fn is_too_late(value: &Value, objects: &ObjectNames<'_>, place: usize, spec: &Spec) -> bool
     ensures { result ≡ is_too_late place objects.now (view value.now) (spec_view spec.now) }
 {
     if !spec.is_construct_only() {

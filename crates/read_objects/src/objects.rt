@@ -2,7 +2,7 @@
 
 ghost use Rattle.std.specs.Prelude.{◌≡◌, ◌+◌, ◌<◌, ◌≤◌, ◌++◌, false, [], codes, map, length, is_some, string_bytes, None, IfOk};
 ghost use Rattle.serde_json.specs.Find.{get};
-ghost use Rattle.serde_json.specs.View.{view, items_view};
+ghost use Rattle.json_trees.specs.View.{view, items_view};
 ghost use Rattle.ui_machine.specs.Definition.Names.{place_named};
 ghost use Rattle.std.specs.List.{AllByRecursion, list_any};
 ghost use Rattle.std.specs.Str.{bytes_eq};
@@ -34,10 +34,10 @@ use definition_format::{
 use definitions::places::{MOST_PLACES, Objects, Prototypes, place_in};
 use definitions::programs::Programs;
 use indexmap::IndexMap;
+use json_trees::Value;
 use read_parts::document::{Entries, Part, bad_shape, path_text, path_under, unknown_name};
 use read_parts::entries::{MOST_LEVELS, ObjectNames};
 use read_parts::names::{is_name, name_under};
-use serde_json::Value;
 use type_tree::{TypeId, TypeTree};
 use ui_machine::Place;
 

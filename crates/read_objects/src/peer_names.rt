@@ -2,7 +2,7 @@
 
 ghost use Rattle.std.specs.Prelude.{◌≡◌, ℕ, List, codes, false, string_bytes, OnOk};
 ghost use Rattle.serde_json.specs.Find.{get, as_array};
-ghost use Rattle.serde_json.specs.View.{view, items_view};
+ghost use Rattle.json_trees.specs.View.{view, items_view};
 ghost use Rattle.definition_format.specs.Refusals.{Gives, Leads, or_refused, shape};
 ghost use Rattle.definition_format.specs.Document.{path_of, under, each, at_entry};
 ghost use Rattle.definition_format.specs.Denoted.Enums.{unless_there};
@@ -10,10 +10,10 @@ ghost use Rattle.read_objects.specs.PeerDrafts.{no_peers, own_peer_at, own_peers
 ghost use Rattle.read_objects.specs.PeerViews.{is_named_in, own_seen};
 
 use definition_format::{DefinitionFault, ReadError};
+use json_trees::Value;
 use read_parts::document::{Entries, Part, bad_shape, path_text, path_under};
 use read_parts::names::name_of_entry;
 use read_parts::reads::{Reads, read_each};
-use serde_json::Value;
 use std::alloc::{AllocError, Global};
 use std::collections::BTreeSet;
 

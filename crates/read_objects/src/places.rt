@@ -2,13 +2,13 @@
 
 ghost use Rattle.std.specs.Prelude.{◌≡◌, List, ℕ, None, Some, codes, map, option_map, if◌then◌else◌, IfOk, OnOk};
 ghost use Rattle.std.specs.BTreeMap.{get_by_text};
-ghost use Rattle.serde_json.specs.View.{view};
+ghost use Rattle.json_trees.specs.View.{view};
 ghost use Rattle.bytecode.specs.Reading.RegisterKinds.{number_of_place};
 ghost use Rattle.definition_format.specs.Denoted.Entries.{at_most, is_called, name_under, number_from, place_with_id};
 ghost use Rattle.read_parts.specs.EntryViews.{views};
 
+use json_trees::Value;
 use read_parts::entries::{MOST_LEVELS, add_objects, at_most, name_under, section};
-use serde_json::Value;
 use std::alloc::{AllocError, Global};
 use std::collections::BTreeMap;
 use ui_machine::Place;

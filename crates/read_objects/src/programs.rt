@@ -2,7 +2,7 @@
 
 ghost use Rattle.std.specs.Prelude.{◌≡◌, ◌<◌, ◌≤◌, [], None, Ok, codes, is_some, length, map, option_map, string_bytes, IfOk, OnOk};
 ghost use Rattle.std.specs.List.{AllByRecursion};
-ghost use Rattle.serde_json.specs.View.{view, items_view};
+ghost use Rattle.json_trees.specs.View.{view, items_view};
 ghost use Rattle.ui_machine.specs.Definition.Names.{place_named};
 ghost use Rattle.bytecode.specs.Known.{HasKnownBlocks};
 ghost use Rattle.bytecode.specs.Reading.Outline.{IsWellFormed, outline_in};

@@ -2,7 +2,7 @@
 
 ghost use Rattle.std.specs.Prelude.{◌≡◌, [], None, codes, is_some, length, map, string_bytes, IfOk};
 ghost use Rattle.serde_json.specs.Find.{get};
-ghost use Rattle.serde_json.specs.View.{view, items_view};
+ghost use Rattle.json_trees.specs.View.{view, items_view};
 ghost use Rattle.ui_machine.specs.Definition.Names.{place_named};
 ghost use Rattle.g_values.specs.View.{kind_view, IsKnown};
 ghost use Rattle.param_specs.specs.View.{spec_view};

@@ -1,9 +1,9 @@
 -- The objects of a list in document order, one entry after the other.
 use Rattle.std.proofs.Common.{◌≡◌, ℕ, suc, ◌+◌, ◌≤◌, ◌<◌, List, [], ◌∷◌, ◌++◌, codes, length, drop, get_or, sym, ap, ◌∙◌, arith}
 use Rattle.std.proofs.lemmas.List.{append_assoc, append-nil, nil_from_length, length-drop}
-use Rattle.serde_json.specs.declared.value.Value.{Value}
+use Rattle.json_trees.specs.declared.value.Value.{Value}
 use Rattle.serde_json.specs.Data.{Data, Items}
-use Rattle.serde_json.specs.View.{view, items_view}
+use Rattle.json_trees.specs.View.{view, items_view}
 use Rattle.definition_format.specs.Denoted.Entries.{section, with_all, in_order}
 use Rattle.read_parts.proofs.Each.{one_more}
 

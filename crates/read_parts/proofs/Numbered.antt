@@ -5,8 +5,8 @@ use Rattle.std.specs.Option.{option_or}
 use Rattle.std.proofs.lemmas.Option.{slice_get_within, get_or_from_slice_get}
 use Rattle.std.proofs.Math.Seq.{drop-cons}
 use Rattle.serde_json.specs.Data.{Data}
-use Rattle.serde_json.specs.declared.value.Value.{Value}
-use Rattle.serde_json.specs.View.{view, items_view}
+use Rattle.json_trees.specs.declared.value.Value.{Value}
+use Rattle.json_trees.specs.View.{view, items_view}
 use Rattle.ui_machine.specs.Seq.{read}
 use Rattle.read_parts.specs.EntryViews.{views}
 use Rattle.definition_format.specs.Denoted.Entries.{is_called, name_under, names_under, number_from, at_most, TypeNames, later_type}

@@ -2,8 +2,8 @@
 use Rattle.std.proofs.Common.{◌≡◌, ◌≤◌, ℕ, List, [], ◌∷◌, codes, length, Option, None, Some, option_and_then, Result, Ok, refl, sym, ap, ◌∙◌, arith}
 use Rattle.serde_json.specs.Data.{Data, Items}
 use Rattle.serde_json.specs.Find.{get, as_array}
-use Rattle.serde_json.specs.declared.value.Value.{Value}
-use Rattle.serde_json.specs.View.{items_view}
+use Rattle.json_trees.specs.declared.value.Value.{Value}
+use Rattle.json_trees.specs.View.{items_view}
 use Rattle.ui_machine.specs.Outcome.{◌>>=◌}
 use Rattle.ui_machine.specs.Definition.Types.{GType, predeclared}
 use Rattle.ui_machine.specs.Definition.Properties.{Spec}

@@ -2,8 +2,8 @@
 use Rattle.std.specs.Prelude.{List, map}
 use Rattle.std.specs.Borrow.{Bor}
 use Rattle.serde_json.specs.Data.{Data}
-use Rattle.serde_json.specs.View.{view}
-use Rattle.serde_json.specs.declared.value.Value.{Value}
+use Rattle.json_trees.specs.View.{view}
+use Rattle.json_trees.specs.declared.value.Value.{Value}
 
 abbrev pub views : List (Bor Value) → List Data
 views entries = map (λ (v : Bor Value). view v.now) entries

@@ -4,15 +4,14 @@ ghost use Rattle.std.specs.Prelude.{◌≡◌, ◌∷◌, [], map, not, is_some,
 ghost use Rattle.std.specs.Char.{encode_utf8};
 ghost use Rattle.std.specs.List.{find, list_any};
 ghost use Rattle.std.specs.Str.{bytes_eq};
-ghost use Rattle.std.specs.BTreeMap.{keys};
-ghost use Rattle.serde_json.specs.View.{view, items_view, members_view};
+ghost use Rattle.json_trees.specs.View.{view, items_view, members_view};
 ghost use Rattle.serde_json.specs.Find.{as_str, get};
 ghost use Rattle.definition_format.specs.Refusals.{Gives, IsRefusal, or_refused, shape, unknown, value_fault};
 ghost use Rattle.definition_format.specs.Document.{under, nth, path_of, at_key, members_at, text_at, truth_at, entries_at, listed_ahead, escaped, only_at, document};
 
 use definition_format::{DefinitionFault, Path, ReadError};
 use g_values::JsonFault;
-use serde_json::{Map, Value};
+use json_trees::{ReadFault, Value};
 use std::alloc::{AllocError, Global};
 
 /// The greatest number of bytes of a definition.
@@ -35,8 +34,8 @@ pub fn parsed(alloc: Global, bytes: &[u8]) -> Result<Value, ReadError>
     };
     match Value::from_str(alloc, text) {
         Ok(value) => Ok(value),
-        Err(error) if error.is_memory() => Err(ReadError::OutOfMemory),
-        Err(_) => Err(ReadError::Refused(DefinitionFault::NotJson)),
+        Err(ReadFault::OutOfMemory) => Err(ReadError::OutOfMemory),
+        Err(ReadFault::NotJson) => Err(ReadError::Refused(DefinitionFault::NotJson)),
     }
 }
 
@@ -208,11 +207,11 @@ impl<'a> Part<'a> {
     /// # Errors
     ///
     /// Returns `Shape` at the value if it is no object, or `OutOfMemory` if memory is refused.
-    pub fn members(self) -> Result<&'a Map<String, Value>, ReadError>
-        ensures { Gives (λ m. members_view m.now.entries) result (members_at (path_of self.entry.path) (view self.entry.value.now)) }
+    pub fn members(self) -> Result<&'a [(String, Value)], ReadError>
+        ensures { Gives (λ m. members_view m.now) result (members_at (path_of self.entry.path) (view self.entry.value.now)) }
     {
         match self.value.as_object() {
-            Some(members) => Ok(members),
+            Some(members) => Ok(members.as_slice()),
             None => Err(ReadError::Refused(DefinitionFault::Shape(path_text(
                 self.alloc, self.path,
             )?))),
@@ -273,12 +272,12 @@ impl<'a> Part<'a> {
     ///
     /// Returns `Shape` at the first member that has another key, or `OutOfMemory` if memory is refused.
     #[tactic(auto, using(crate::proofs::Members::first_other_is))]
-    pub fn check_only(self, members: &Map<String, Value>, keys: &[&str]) -> Result<(), ReadError>
-        ensures { Gives (λ _. tt) result (only_at (path_of self.entry.path) (members_view members.now.entries) (map (λ k. k.now) keys.now)) }
+    pub fn check_only(self, members: &[(String, Value)], keys: &[&str]) -> Result<(), ReadError>
+        ensures { Gives (λ _. tt) result (only_at (path_of self.entry.path) (members_view members.now) (map (λ k. k.now) keys.now)) }
     {
         match first_other(members, keys) {
             None => Ok(()),
-            Some(key) => {
+            Some((key, _)) => {
                 let key = escaped(self.alloc, key.as_str())?;
                 Err(bad_shape(self.alloc, self.path, key.as_str())?)
             }
@@ -293,11 +292,13 @@ fn is_among(keys: &[&str], key: &str) -> bool
     keys.iter().any(|known| *known == key)
 }
 
-// Returns the first key that is not in `known`.
-fn first_other<'a>(members: &'a Map<String, Value>, known: &[&str]) -> Option<&'a String>
-    ensures { option_copied result ≡ find (λ key. not (list_any (λ k. bytes_eq k.now (string_bytes key)) known.now)) (keys members.now) }
+// Returns the first member whose key is not in `known`.
+fn first_other<'a>(members: &'a [(String, Value)], known: &[&str]) -> Option<&'a (String, Value)>
+    ensures { option_copied result ≡ find (λ m. not (list_any (λ k. bytes_eq k.now (string_bytes m.0)) known.now)) members.now }
 {
-    members.keys().find(|key| !is_among(known, key.as_str()))
+    members
+        .iter()
+        .find(|member| !is_among(known, member.0.as_str()))
 }
 
 // Appends a character in the form that it has in a path.

@@ -2,13 +2,13 @@
 
 ghost use Rattle.std.specs.Prelude.{◌≡◌, ◌+◌, ◌++◌, List, ℕ, None, Some, codes, length, map, option_map, slice_get, if◌then◌else◌, IfOk, OnOk};
 ghost use Rattle.std.specs.BTreeMap.{get_by_text};
-ghost use Rattle.serde_json.specs.View.{view, items_view};
+ghost use Rattle.json_trees.specs.View.{view, items_view};
 ghost use Rattle.ui_machine.specs.Seq.{read};
 ghost use Rattle.ui_machine.specs.Definition.Types.{GType};
 ghost use Rattle.definition_format.specs.Denoted.Entries.{is_called, name_under, names_under, number_from, section, at_most, type_names, later_type, program_names, program_named, in_order, object_names};
 ghost use Rattle.read_parts.specs.EntryViews.{views};
 
-use serde_json::Value;
+use json_trees::Value;
 use std::alloc::{AllocError, Global};
 use std::collections::BTreeMap;
 use std::marker::Model;
@@ -147,7 +147,7 @@ pub struct TypeNames<'a> {
 impl<'a> Model for TypeNames<'a> {
     ghost use Rattle.std.specs.Prelude.{codes};
     ghost use Rattle.std.specs.BTreeMap.{get_by_text};
-    ghost use Rattle.serde_json.specs.View.{items_view};
+    ghost use Rattle.json_trees.specs.View.{items_view};
     ghost use Rattle.definition_format.specs.Denoted.Entries as denoted;
 
     ghost Value = { denoted.TypeNames };
@@ -201,7 +201,7 @@ pub struct ProgramNames<'a> {
 impl<'a> Model for ProgramNames<'a> {
     ghost use Rattle.std.specs.Prelude.{codes};
     ghost use Rattle.std.specs.BTreeMap.{get_by_text};
-    ghost use Rattle.serde_json.specs.View.{items_view};
+    ghost use Rattle.json_trees.specs.View.{items_view};
     ghost use Rattle.definition_format.specs.Denoted.Entries as denoted;
 
     ghost Value = { denoted.ProgramNames };

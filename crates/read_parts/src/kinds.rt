@@ -1,7 +1,7 @@
 //! Reads kinds of properties, arguments and results from their words.
 
 ghost use Rattle.std.specs.Prelude.{◌≡◌, List, option_map, IfOk, IfSome};
-ghost use Rattle.serde_json.specs.View.{view};
+ghost use Rattle.json_trees.specs.View.{view};
 ghost use Rattle.ui_machine.specs.Definition.Types.{GType, enum, flags};
 ghost use Rattle.type_tree.specs.Adding.{sort_of};
 ghost use Rattle.g_values.specs.View.{kind_view, is_whole_kind, IsKnown};

@@ -2,7 +2,7 @@
 
 ghost use Rattle.std.specs.Prelude.{◌≡◌, option_map};
 ghost use Rattle.serde_json.specs.Find.{as_str};
-ghost use Rattle.serde_json.specs.View.{view};
+ghost use Rattle.json_trees.specs.View.{view};
 ghost use Rattle.std.specs.List.{list_all};
 ghost use Rattle.type_tree.specs.TypeName.{is_within};
 ghost use Rattle.definition_format.specs.Denoted.Enums.{name_at, name_if};
@@ -12,7 +12,7 @@ ghost use Rattle.definition_format.specs.Refusals.{Gives};
 
 use crate::document::{Part, bad_shape, bad_shape_at};
 use definition_format::ReadError;
-use serde_json::Value;
+use json_trees::Value;
 
 // Returns whether a byte is an ASCII letter, a digit, `-` or `_`.
 fn is_name_byte(byte: u8) -> bool

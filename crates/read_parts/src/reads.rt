@@ -2,7 +2,7 @@
 
 ghost use Rattle.std.specs.Prelude.{◌≡◌, ℕ, List, Result};
 ghost use Rattle.serde_json.specs.Data.{Data};
-ghost use Rattle.serde_json.specs.View.{view, items_view};
+ghost use Rattle.json_trees.specs.View.{view, items_view};
 ghost use Rattle.definition_format.specs.Refusals.{Refusal, Leads};
 ghost use Rattle.definition_format.specs.Document.{path_of, each, at_entry};
 

@@ -3,8 +3,8 @@ use Rattle.std.proofs.Common.{◌≡◌, ◌∙◌, ℕ, nat_eq, false, not, ◌
 use Rattle.std.specs.List.{find, list_any}
 use Rattle.std.proofs.Math.Path.{fun_ext}
 use Rattle.serde_json.specs.Data.{Data, Items}
-use Rattle.serde_json.specs.declared.value.Value.{Value}
-use Rattle.serde_json.specs.View.{items_view}
+use Rattle.json_trees.specs.declared.value.Value.{Value}
+use Rattle.json_trees.specs.View.{items_view}
 use Rattle.ui_machine.specs.Outcome.{◌>>=◌}
 use Rattle.ui_machine.specs.Definition.Properties.{Spec}
 use Rattle.param_specs.specs.Table.{own_of, specs_of}

@@ -1,8 +1,8 @@
 -- Names of classes, found among their entries.
 use Rattle.std.proofs.Common.{◌≡◌, ℕ, ◌||◌, List, [], ◌∷◌, codes, refl, ap}
 use Rattle.std.specs.List.{list_any}
-use Rattle.serde_json.specs.declared.value.Value.{Value}
-use Rattle.serde_json.specs.View.{view, items_view}
+use Rattle.json_trees.specs.declared.value.Value.{Value}
+use Rattle.json_trees.specs.View.{view, items_view}
 use Rattle.definition_format.specs.Denoted.Entries.{is_called, name_under}
 use Rattle.definition_format.specs.Denoted.Types.{is_declared}
 

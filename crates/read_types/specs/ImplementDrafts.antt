@@ -1,4 +1,4 @@
--- The interfaces of a class while they are read, with the names of the signals that they bring.
+-- The interfaces of a class while they are read, with the names of the signals that its parent has or that they bring.
 use Rattle.std.specs.Prelude.{ℕ, Bool, ◌&&◌, ◌||◌, not, nat_eq, List, [], ◌∷◌, ◌++◌, if◌then◌else◌, is_some, Result, Ok, Err}
 use Rattle.std.specs.Borrow.{Bor}
 use Rattle.std.specs.BTreeSet.{BTreeSet, contains_by}
@@ -11,7 +11,6 @@ use Rattle.ui_machine.specs.Outcome.{◌>>=◌}
 use Rattle.ui_machine.specs.Definition.Names.{canonical, place_named}
 use Rattle.ui_machine.specs.Definition.Signals.{Signal}
 use Rattle.ui_machine.specs.Rules.Ancestry.{is_a}
-use Rattle.signal_core.specs.Sources.{number_named}
 use Rattle.definition_format.specs.Refusals.{Refusal, duplicate}
 use Rattle.definition_format.specs.Denoted.Signals.{signals_by}
 use Rattle.definition_format.specs.Denoted.Implements.{Heir, check_prerequisites, check_overrides, interface_at_entry}
@@ -19,23 +18,23 @@ use Rattle.read_types.specs.declared.implement_drafts.ImplementDraft.{ImplementD
 
 pub record ImplementParts : Type 0 where
   pub types : List ℕ
-  pub has : List ℕ → Bool  -- whether they bring a signal of a canonical name
+  pub has : List ℕ → Bool  -- whether the parent or one of them has a signal of a canonical name
 
--- interfaces, with the names of the signals that they bring, where each type has these
-abbrev pub parts_of : (ℕ → List Signal) → List ℕ → ImplementParts
-parts_of signals ts = record { types = ts; has = λ name. list_any (λ t. is_some (place_named (λ s. s.name) (signals t) name)) ts }
+-- interfaces of a class with this parent, with the names of the signals that it has or that they bring, where each type has these
+abbrev pub parts_of : (ℕ → List Signal) → ℕ → List ℕ → ImplementParts
+parts_of signals parent ts = record { types = ts; has = λ name. list_any (λ t. is_some (place_named (λ s. s.name) (signals t) name)) (parent ∷ ts) }
 
 -- one interface more
 abbrev pub with_interface : (ℕ → List Signal) → ℕ → ImplementParts → ImplementParts
 with_interface signals i p = record { types = p.types ++ i ∷ []; has = λ name. p.has name || is_some (place_named (λ s. s.name) (signals i) name) }
 
--- whether the parent has the signal's name, or it is among the names that were brought; a name that the class declares itself is looked at where it declares it
-abbrev pub is_again_in : (ℕ → List Signal) → List (List ℕ) → ℕ → (List ℕ → Bool) → Signal → Bool
-is_again_in signals own parent has s = not (list_any (bytes_eq s.name) own) && (is_some (number_named (signals parent) s.name) || has (canonical s.name))
+-- whether the signal's name is there already; a name that the class declares itself is looked at where it declares it
+abbrev pub is_again_in : List (List ℕ) → (List ℕ → Bool) → Signal → Bool
+is_again_in own has s = not (list_any (bytes_eq s.name) own) && has (canonical s.name)
 
 -- whether an interface brings such a signal
 abbrev pub brings_again_in : Heir → ℕ → (List ℕ → Bool) → Bool
-brings_again_in heir i has = list_any (is_again_in (signals_by heir.types heir.signals) heir.own_signals heir.parent has) (heir.signals i)
+brings_again_in heir i has = list_any (is_again_in heir.own_signals has) (heir.signals i)
 
 -- an interface brings no signal again; one that an ancestor implements brings nothing
 abbrev pub check_brought_in : List ℕ → Heir → ℕ → (List ℕ → Bool) → Result (Unit {0}) Refusal

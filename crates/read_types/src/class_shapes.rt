@@ -2,7 +2,7 @@
 
 ghost use Rattle.std.specs.Prelude.{◌≡◌, None, Ok, Some, codes, is_some, map};
 ghost use Rattle.serde_json.specs.Find.{get};
-ghost use Rattle.serde_json.specs.View.{view};
+ghost use Rattle.json_trees.specs.View.{view};
 ghost use Rattle.ui_machine.specs.Seq.{read};
 ghost use Rattle.definition_format.specs.Meaning.{plain_shape};
 ghost use Rattle.definition_format.specs.Refusals.{Gives, Leads};
@@ -14,9 +14,9 @@ ghost use Rattle.definition_format.specs.Denoted.Shapes.{is_shaped_by, named_sha
 use crate::by_type::set_named;
 use definition_format::{DefinitionFault, ReadError};
 use definitions::shapes::{Shapes, shape_number, shape_of};
+use json_trees::Value;
 use read_parts::document::{Part, path_under, unknown_name};
 use read_parts::names::name_under;
-use serde_json::Value;
 use type_tree::{TypeId, TypeTree};
 
 const MEMBER: &str = "shape";

@@ -1,7 +1,7 @@
 //! Reads the classes of a definition.
 
 ghost use Rattle.std.specs.Prelude.{◌≡◌, ◌<◌, codes, length, map, IfOk};
-ghost use Rattle.serde_json.specs.View.{view, items_view};
+ghost use Rattle.json_trees.specs.View.{view, items_view};
 ghost use Rattle.serde_json.specs.Find.{get};
 ghost use Rattle.definition_format.specs.Causes.{cause_view};
 ghost use Rattle.definition_format.specs.Meaning.{plain_shape};
@@ -18,12 +18,12 @@ use crate::implements::read_implements;
 use crate::types::{check_room, check_type_name, is_declared};
 use definition_format::{DefinitionFault, DefinitionLimit, ReadError, TypeCause};
 use definitions::shapes::Shapes;
+use json_trees::Value;
 use param_specs::SpecTable;
 use read_members::drafts::give_members;
 use read_parts::document::{Entries, Part, bad_shape, path_under, unknown_name};
 use read_parts::entries::{ProgramNames, TypeNames};
 use read_parts::reads::{Reads, read_each};
-use serde_json::Value;
 use signal_core::SignalTable;
 use type_tree::{MOST_DEPTH, TypeFlags, TypeId, TypeTree};
 use ui_machine::ProgramId;
@@ -229,7 +229,7 @@ struct ClassEntries<'a> {
 }
 
 impl<'a> Reads<ClassDraft> for ClassEntries<'a> {
-    ghost use Rattle.serde_json.specs.View.{items_view};
+    ghost use Rattle.json_trees.specs.View.{items_view};
     ghost use Rattle.definition_format.specs.Denoted.Classes as denoted;
     ghost use Rattle.definition_format.specs.Denoted.Drafts as drafts;
     ghost use Rattle.definition_format.specs.Meaning.{plain_shape};

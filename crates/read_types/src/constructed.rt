@@ -2,7 +2,7 @@
 
 ghost use Rattle.std.specs.Prelude.{None, Ok, codes};
 ghost use Rattle.serde_json.specs.Find.{get};
-ghost use Rattle.serde_json.specs.View.{view};
+ghost use Rattle.json_trees.specs.View.{view};
 ghost use Rattle.ui_machine.specs.Seq.{read};
 ghost use Rattle.definition_format.specs.Refusals.{Gives, Leads};
 ghost use Rattle.definition_format.specs.Document.{path_of, under};
@@ -11,10 +11,10 @@ ghost use Rattle.definition_format.specs.Denoted.Constructed.{add_program, const
 
 use crate::by_type::set_named;
 use definition_format::ReadError;
+use json_trees::Value;
 use read_parts::document::{Part, unknown_name};
 use read_parts::entries::ProgramNames;
 use read_parts::names::name_under;
-use serde_json::Value;
 use type_tree::TypeId;
 use ui_machine::ProgramId;
 

@@ -1,7 +1,7 @@
 //! Reads the enums and flags types of a definition.
 
 ghost use Rattle.std.specs.Prelude.{◌≡◌, ◌≤ℤ◌, ◌∷◌, ◌++◌, [], codes, pos, map, length, option_and_then, option_map, None, IfOk, IfSome};
-ghost use Rattle.serde_json.specs.View.{view, items_view};
+ghost use Rattle.json_trees.specs.View.{view, items_view};
 ghost use Rattle.serde_json.specs.Find.{get, as_array, as_str};
 ghost use Rattle.type_tree.specs.Adding.{new_enum, new_flags};
 ghost use Rattle.type_tree.specs.Entry.{enum_member, flags_member};
@@ -14,11 +14,11 @@ ghost use Rattle.definition_format.specs.Denoted.Enums.{three_in, parts_at, name
 use crate::enum_drafts::EnumDraft;
 use crate::types::{check_room, check_type_name};
 use definition_format::{DefinitionFault, ReadError};
+use json_trees::Value;
 use read_parts::document::{Entries, Part, bad_shape, path_text, path_under, path_within};
 use read_parts::names::name_in;
 use read_parts::numbers::whole_number;
 use read_parts::reads::{Reads, read_each};
-use serde_json::Value;
 use type_tree::{EnumMember, FlagsMember, TypeTree};
 
 const MEMBERS: [&str; 2] = ["name", "members"];

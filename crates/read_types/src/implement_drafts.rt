@@ -1,11 +1,11 @@
-//! The interfaces of a class while they are read. The names of the signals that they bring are also kept in a set, so that a further name
-//! is found without a search of the interfaces.
+//! The interfaces of a class while they are read. The names of the signals of the parent, and of those that the interfaces bring, are also
+//! kept in a set, so that a further name is found without a search of all these types.
 
-ghost use Rattle.std.specs.Prelude.{◌≡◌, ◌||◌, [], List, ℕ, false, is_some, OnOk};
+ghost use Rattle.std.specs.Prelude.{◌≡◌, ◌||◌, [], IfOk, List, ℕ, is_some, OnOk};
 ghost use Rattle.std.specs.List.{list_any};
 ghost use Rattle.ui_machine.specs.Definition.Names.{canonical, place_named, same_name};
 ghost use Rattle.signal_core.specs.Sources.{signals_of};
-ghost use Rattle.read_types.specs.ImplementDrafts.{has_name, parts_seen, with_interface};
+ghost use Rattle.read_types.specs.ImplementDrafts.{has_name, parts_of, parts_seen, with_interface};
 
 use signal_core::SignalTable;
 use std::alloc::{AllocError, Global};
@@ -13,7 +13,7 @@ use std::collections::BTreeSet;
 use type_tree::{TypeId, TypeTree, has_canonical_bytes, is_spelling};
 use ui_machine::SignalId;
 
-/// The interfaces of a class, and the names of all signals that they bring.
+/// The interfaces of a class, and the names of all signals that its parent has or that they bring.
 #[derive(Drop)]
 pub(crate) struct ImplementDraft<'a> {
     pub(crate) types: Vec<TypeId>,
@@ -21,15 +21,25 @@ pub(crate) struct ImplementDraft<'a> {
 }
 
 impl<'a> ImplementDraft<'a> {
-    /// Creates a draft without interfaces.
-    pub(crate) fn new(alloc: Global) -> Self
-        ensures types { result.types.items ≡ [] }
-        ensures names { (name : List ℕ) → has_name result.names name ≡ false }
+    /// Creates a draft without interfaces, of a class with this parent.
+    ///
+    /// # Errors
+    ///
+    /// `AllocError` if memory is refused.
+    pub(crate) fn new(
+        alloc: Global,
+        types: &TypeTree,
+        signals: &'a SignalTable,
+        parent: TypeId,
+    ) -> Result<Self, AllocError>
+        ensures { IfOk result (λ draft. parts_seen draft ≡ parts_of (signals_of types.now signals.now.signals) parent []) }
     {
-        ImplementDraft {
+        let mut names = BTreeSet::new(alloc);
+        add_names(&mut names, types, signals, parent)?;
+        Ok(ImplementDraft {
             types: Vec::new(alloc),
-            names: BTreeSet::new(alloc),
-        }
+            names,
+        })
     }
 
     // Returns whether one of the signals is called `name`, by a search through all names.

@@ -2,11 +2,10 @@
 
 ghost use Rattle.std.specs.Prelude.{◌≡◌, [], nat_eq, Some, OnOk};
 ghost use Rattle.std.specs.List.{list_any};
-ghost use Rattle.serde_json.specs.View.{view, items_view};
+ghost use Rattle.json_trees.specs.View.{view, items_view};
 ghost use Rattle.serde_json.specs.Find.{as_str};
 ghost use Rattle.type_tree.specs.Adding.{interface_named};
 ghost use Rattle.signal_core.specs.SignalView.{signal_view};
-ghost use Rattle.signal_core.specs.Sources.{signals_of};
 ghost use Rattle.definition_format.specs.Refusals.{Gives, Leads, IsRefusal, shape, unknown, or_refused};
 ghost use Rattle.definition_format.specs.Document.{path_of, each, at_entry};
 ghost use Rattle.read_types.specs.OverrideView.{heir_of, names_of};
@@ -16,14 +15,14 @@ ghost use Rattle.definition_format.specs.Denoted.Implements.{type_with, named_at
 
 use crate::implement_drafts::ImplementDraft;
 use crate::overrides::{Heir, read_own};
-use crate::own_signals::{has_own_signal, read_own_signals};
+use crate::own_signals::{OwnSignals, has_own_signal, read_own_signals};
 use definition_format::{DefinitionFault, ReadError, TypeCause};
 use definitions::types::type_name;
+use json_trees::Value;
 use param_specs::SpecTable;
 use read_parts::document::{Entries, Part, entry_name, path_text, path_under};
 use read_parts::entries::TypeNames;
 use read_parts::reads::{Reads, read_each};
-use serde_json::Value;
 use signal_core::{Signal, SignalTable};
 use std::alloc::AllocError;
 use type_tree::{TypeId, TypeTree};
@@ -142,28 +141,27 @@ fn check_overrides(part: Part<'_>, heir: &Heir<'_>, interface: TypeId) -> Result
 
 // Returns whether a signal of an interface has the name of a signal of the class's parent or of the interfaces so far. A name that the
 // class itself declares does not count here.
-fn is_again(heir: &Heir<'_>, implemented: &ImplementDraft<'_>, signal: &Signal) -> bool
-    ensures { result ≡ is_again_in (signals_of heir.now.types.now heir.now.signals.now.signals) (names_of heir.now.own_signals.now.keys) heir.now.parent (λ name. has_name implemented.now.names name) (signal_view signal.now) }
+fn is_again(own: &OwnSignals, implemented: &ImplementDraft<'_>, signal: &Signal) -> bool
+    ensures { result ≡ is_again_in (names_of own.now.keys) (λ name. has_name implemented.now.names name) (signal_view signal.now) }
 {
     let name = signal.name.as_str();
-    !has_own_signal(heir.own_signals, name)
-        && (heir.signals.find(heir.types, heir.parent, name).is_some() || implemented.has(name))
+    !has_own_signal(own, name) && implemented.has(name)
 }
 
 // Returns whether `is_again` holds for any of these signals.
-fn any_again(heir: &Heir<'_>, implemented: &ImplementDraft<'_>, signals: &[Signal]) -> bool
-    ensures { result ≡ list_any (λ s. is_again_in (signals_of heir.now.types.now heir.now.signals.now.signals) (names_of heir.now.own_signals.now.keys) heir.now.parent (λ name. has_name implemented.now.names name) (signal_view s)) signals.now }
+fn any_again(own: &OwnSignals, implemented: &ImplementDraft<'_>, signals: &[Signal]) -> bool
+    ensures { result ≡ list_any (λ s. is_again_in (names_of own.now.keys) (λ name. has_name implemented.now.names name) (signal_view s)) signals.now }
 {
     signals
         .iter()
-        .any(|signal| is_again(heir, implemented, signal))
+        .any(|signal| is_again(own, implemented, signal))
 }
 
 // Returns whether `is_again` holds for any signal that an interface itself declares.
 fn brings_again(heir: &Heir<'_>, implemented: &ImplementDraft<'_>, interface: TypeId) -> bool
     ensures { result ≡ brings_again_in (heir_of heir.now) interface (λ name. has_name implemented.now.names name) }
 {
-    any_again(heir, implemented, heir.signals.own(interface))
+    any_again(heir.own_signals, implemented, heir.signals.own(interface))
 }
 
 // Checks that no signal of an interface is there already. An interface that an ancestor implements adds no signals.
@@ -233,7 +231,7 @@ impl<'a> Reads<ImplementDraft<'a>> for Heir<'a> {
 fn read_heir(list: Entries<'_>, heir: &Heir<'_>) -> Result<Vec<TypeId>, ReadError>
     ensures { Gives (λ v. v.items) result (each (at_entry (λ entry. implemented_at entry (heir_of heir.now)) list.entry.path.now) 0 [] (items_view list.entry.items.now)) }
 {
-    let mut implemented = ImplementDraft::new(list.alloc);
+    let mut implemented = ImplementDraft::new(list.alloc, heir.types, heir.signals, heir.parent)?;
     read_each(heir, list, &mut implemented)?;
     Ok(implemented.types)
 }

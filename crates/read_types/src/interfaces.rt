@@ -1,7 +1,7 @@
 //! Reads the interfaces of a definition.
 
 ghost use Rattle.std.specs.Prelude.{◌≡◌, ◌||◌, length, IfOk};
-ghost use Rattle.serde_json.specs.View.{view, items_view};
+ghost use Rattle.json_trees.specs.View.{view, items_view};
 ghost use Rattle.type_tree.specs.Adding.{required_named};
 ghost use Rattle.definition_format.specs.Causes.{unknown_parent};
 ghost use Rattle.definition_format.specs.Refusals.{Gives, Leads, IsRefusal, bad_type};
@@ -13,12 +13,12 @@ ghost use Rattle.definition_format.specs.Denoted.Interfaces.{required_or, requir
 use crate::implements::{add_type, unknown_entry};
 use crate::types::{check_room, check_type_name, is_declared};
 use definition_format::{DefinitionFault, ReadError, TypeCause};
+use json_trees::Value;
 use param_specs::SpecTable;
 use read_members::drafts::{Draft, give_members};
 use read_parts::document::{Entries, Part, entry_name, path_text, path_under};
 use read_parts::entries::TypeNames;
 use read_parts::reads::{Reads, read_each};
-use serde_json::Value;
 use signal_core::SignalTable;
 use type_tree::{TypeId, TypeTree};
 
@@ -74,7 +74,7 @@ impl<'a> RequiredEntries<'a> {
 
 impl<'a> Reads<Vec<TypeId>> for RequiredEntries<'a> {
     ghost use Rattle.std.specs.Prelude.{ℕ, List};
-    ghost use Rattle.serde_json.specs.View.{items_view};
+    ghost use Rattle.json_trees.specs.View.{items_view};
     ghost use Rattle.definition_format.specs.Denoted.Interfaces.{required_at};
 
     ghost State = { List ℕ };
@@ -171,7 +171,7 @@ struct InterfaceEntries<'a> {
 impl<'a> Reads<Draft> for InterfaceEntries<'a> {
     ghost use Rattle.std.specs.Prelude.{List};
     ghost use Rattle.ui_machine.specs.Definition.Signals as machine;
-    ghost use Rattle.serde_json.specs.View.{items_view};
+    ghost use Rattle.json_trees.specs.View.{items_view};
     ghost use Rattle.definition_format.specs.Denoted.Interfaces.{interface_at};
     ghost use Rattle.definition_format.specs.Denoted.Drafts as drafts;
 

@@ -3,7 +3,7 @@
 ghost use Rattle.std.specs.Prelude.{◌≡◌, [], codes, is_some, map, string_bytes, option_map, option_and_then, IfOk, IfSome, None};
 ghost use Rattle.std.specs.List.{find, list_any};
 ghost use Rattle.std.specs.Rc.{rc_str_bytes};
-ghost use Rattle.serde_json.specs.View.{view, items_view};
+ghost use Rattle.json_trees.specs.View.{view, items_view};
 ghost use Rattle.serde_json.specs.Find.{get, as_str};
 ghost use Rattle.ui_machine.specs.Rules.Ancestry.{parent_of};
 ghost use Rattle.param_specs.specs.Table.{own_of, specs_of};
@@ -18,12 +18,12 @@ ghost use Rattle.read_types.specs.OverrideView.{own_view, override_view};
 
 use crate::own_signals::OwnSignals;
 use definition_format::{ReadError, SpecCause};
+use json_trees::Value;
 use param_specs::{Spec, SpecTable, is_same_spec};
 use read_members::properties::spec_in;
 use read_parts::document::{Entries, Part, listed_ahead, path_under};
 use read_parts::entries::TypeNames;
 use read_parts::reads::{Reads, read_each};
-use serde_json::Value;
 use signal_core::SignalTable;
 use std::alloc::{AllocError, Global};
 use std::collections::BTreeMap;

@@ -2,7 +2,7 @@
 
 ghost use Rattle.std.specs.Prelude.{◌≡◌, []};
 ghost use Rattle.std.specs.BTreeSet.{contains_text};
-ghost use Rattle.serde_json.specs.View.{view, items_view};
+ghost use Rattle.json_trees.specs.View.{view, items_view};
 ghost use Rattle.definition_format.specs.Refusals.{Gives};
 ghost use Rattle.definition_format.specs.Document.{path_of, each, at_entry};
 ghost use Rattle.definition_format.specs.Denoted.Brought.{own_signal_at, own_signals_ahead};

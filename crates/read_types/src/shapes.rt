@@ -1,7 +1,7 @@
 //! Reads the shapes of a definition, which are the methods that peers are called with.
 
 ghost use Rattle.std.specs.Prelude.{◌≡◌, ◌∷◌, ◌++◌, [], codes, is_some, map, option_and_then, option_map, string_bytes, false, IfOk};
-ghost use Rattle.serde_json.specs.View.{view, items_view};
+ghost use Rattle.json_trees.specs.View.{view, items_view};
 ghost use Rattle.serde_json.specs.Find.{get, as_array, as_str};
 ghost use Rattle.ui_machine.specs.Definition.Names.{place_named};
 ghost use Rattle.g_values.specs.View.{kind_view};
@@ -16,12 +16,12 @@ ghost use Rattle.definition_format.specs.Denoted.Shapes.{has_method, method_at, 
 use definition_format::{DefinitionFault, ReadError};
 use definitions::shapes::{Shapes, shape_of};
 use g_values::Kind;
+use json_trees::Value;
 use peer_shapes::{Method, Shape};
 use read_parts::document::{Entries, Part, bad_shape, bad_shape_at, path_under};
 use read_parts::kinds::kind_named;
 use read_parts::names::is_name;
 use read_parts::reads::{Reads, read_each};
-use serde_json::Value;
 
 const MEMBERS: [&str; 2] = ["name", "methods"];
 

@@ -2,7 +2,7 @@
 
 ghost use Rattle.std.specs.Prelude.{◌≡◌, codes, None, IfOk};
 ghost use Rattle.std.specs.List.{list_any};
-ghost use Rattle.serde_json.specs.View.{view, items_view};
+ghost use Rattle.json_trees.specs.View.{view, items_view};
 ghost use Rattle.ui_machine.specs.Seq.{read};
 ghost use Rattle.ui_machine.specs.Output.Text.{no_type};
 ghost use Rattle.type_tree.specs.Adding.{find_type, name_fault, room_fault};
@@ -14,9 +14,9 @@ ghost use Rattle.definition_format.specs.Denoted.Types.{is_declared, is_from, ro
 
 use definition_format::{DefinitionFault, DefinitionLimit, ReadError, TypeCause};
 use definitions::types::type_name;
+use json_trees::Value;
 use read_parts::document::{Part, path_under};
 use read_parts::entries::name_under;
-use serde_json::Value;
 use std::alloc::{AllocError, Global};
 use type_tree::{TypeFault, TypeId, TypeTree};
 

@@ -1,7 +1,7 @@
 -- What readers of programs are given and keep, as specs see it.
 use Rattle.std.specs.Prelude.{map, option_map}
 use Rattle.std.specs.BTreeMap.{get_by_text}
-use Rattle.serde_json.specs.View.{view}
+use Rattle.json_trees.specs.View.{view}
 use Rattle.g_values.specs.View.{kind_view}
 use Rattle.bytecode.specs.View.{register_kind_view}
 use Rattle.bytecode.specs.Reading.KindWords.{KindFault, no_kind, unknown}

@@ -1,7 +1,7 @@
 //! Reads the instructions of a program's blocks.
 
 ghost use Rattle.std.specs.Prelude.{◌≡◌, All, IfOk, map};
-ghost use Rattle.serde_json.specs.View.{view};
+ghost use Rattle.json_trees.specs.View.{view};
 ghost use Rattle.bytecode.specs.View.{block_view, instruction_view, register_kind_view};
 ghost use Rattle.bytecode.specs.Known.{HasKnownKinds, HasKnownCode};
 ghost use Rattle.handler_code.specs.Reading.ReaderViews.{scope_view, block_outline_view};
@@ -14,7 +14,7 @@ use bytecode::{
     Block, BlockNumber, Instruction, InstructionError, MOST_REGISTERS, ProgramError, ProgramFault,
     RegisterKind, is_ended,
 };
-use serde_json::Value;
+use json_trees::Value;
 use std::alloc::{AllocError, Global};
 
 // Reads instruction number `at` of a block. Refuses it if `code`, which comes before it, has already ended the block.

@@ -4,7 +4,7 @@
 //! order.
 
 ghost use Rattle.std.specs.Prelude.{◌≡◌, IfOk, false};
-ghost use Rattle.serde_json.specs.View.{view};
+ghost use Rattle.json_trees.specs.View.{view};
 ghost use Rattle.bytecode.specs.View.{instruction_view};
 ghost use Rattle.bytecode.specs.Known.{HasKnownKinds};
 ghost use Rattle.bytecode.specs.Reading.Operands.{Gives};
@@ -27,7 +27,7 @@ use crate::reading::signal_rows::{
 };
 use crate::reading::source_rows::{read_call, read_idle, read_remove, read_timeout};
 use bytecode::{Arithmetic, Instruction, InstructionError};
-use serde_json::Value;
+use json_trees::Value;
 use std::alloc::Global;
 
 /// Reads the instruction that a JSON array denotes.

@@ -1,7 +1,7 @@
 //! Readers for the instructions that end a block, one for each word.
 
 ghost use Rattle.std.specs.Prelude.{IfOk};
-ghost use Rattle.serde_json.specs.View.{view};
+ghost use Rattle.json_trees.specs.View.{view};
 ghost use Rattle.bytecode.specs.View.{instruction_view};
 ghost use Rattle.bytecode.specs.Known.{HasKnownKinds};
 ghost use Rattle.bytecode.specs.Reading.Operands.{Gives};
@@ -12,7 +12,7 @@ use crate::reading::operand_shapes::register_and_blocks;
 use crate::reading::operand_words::{block_at, check_none, register_or_null_at};
 use crate::reading::scope::Scope;
 use bytecode::{ControlInstruction, Instruction, InstructionError};
-use serde_json::Value;
+use json_trees::Value;
 
 // Reads `jump b`.
 #[tactic(auto, unfolding(bytecode::specs::Reading::JumpRows::jump_row))]

@@ -1,7 +1,7 @@
 //! Readers for the instructions on properties and objects, one for each word.
 
 ghost use Rattle.std.specs.Prelude.{IfOk};
-ghost use Rattle.serde_json.specs.View.{view};
+ghost use Rattle.json_trees.specs.View.{view};
 ghost use Rattle.bytecode.specs.View.{instruction_view};
 ghost use Rattle.bytecode.specs.Known.{HasKnownKinds};
 ghost use Rattle.bytecode.specs.Reading.Operands.{Gives};
@@ -12,7 +12,7 @@ use crate::reading::operand_shapes::{one_register, register_and_name, three_regi
 use crate::reading::operand_words::{check_none, name_at, register_at};
 use crate::reading::scope::Scope;
 use bytecode::{Instruction, InstructionError, ObjectInstruction, PropertyInstruction};
-use serde_json::Value;
+use json_trees::Value;
 use std::alloc::Global;
 
 // Reads `get d o p`.

@@ -2,7 +2,7 @@
 
 ghost use Rattle.std.specs.Prelude.{◌≡◌, ◌||◌, map};
 ghost use Rattle.std.specs.List.{list_any, list_all};
-ghost use Rattle.serde_json.specs.View.{view, items_view};
+ghost use Rattle.json_trees.specs.View.{view, items_view};
 ghost use Rattle.serde_json.specs.Find.{as_str};
 ghost use Rattle.bytecode.specs.View.{number_of};
 ghost use Rattle.bytecode.specs.Reading.Operands.{Gives, expected, items_at, registers_of, registers_at, is_word, has_word, is_option, are_options, options_of, options_at};
@@ -10,7 +10,7 @@ ghost use Rattle.handler_code.specs.Reading.ReaderViews.{options_view};
 
 use crate::reading::operand_words::{number_below, operand};
 use bytecode::{InstructionError, Register};
-use serde_json::Value;
+use json_trees::Value;
 use std::alloc::Global;
 
 /// The options that a `connect` instruction may have.

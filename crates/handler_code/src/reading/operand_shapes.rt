@@ -1,7 +1,7 @@
 //! Readers for combinations of operands that several words share.
 
 ghost use Rattle.std.specs.Prelude.{◌≡◌, option_map, string_bytes};
-ghost use Rattle.serde_json.specs.View.{view};
+ghost use Rattle.json_trees.specs.View.{view};
 ghost use Rattle.bytecode.specs.View.{number_of, connect_view};
 ghost use Rattle.bytecode.specs.Computing.{comparison_of};
 ghost use Rattle.bytecode.specs.Reading.Operands.{Gives};
@@ -14,7 +14,7 @@ use crate::reading::operand_words::{
 };
 use crate::reading::scope::Scope;
 use bytecode::{BlockNumber, Comparison, Connection, InstructionError, Register};
-use serde_json::Value;
+use json_trees::Value;
 use std::alloc::Global;
 
 // Reads the operands of an instruction that has one register.

@@ -3,7 +3,7 @@
 ghost use Rattle.std.specs.Prelude.{◌≡◌, ◌<◌, ◌≤ℤ◌, option_map, IfOk, IfSome, string_bytes};
 ghost use Rattle.std.specs.Rc.{rc_str_bytes};
 ghost use Rattle.std.specs.List.{list_all};
-ghost use Rattle.serde_json.specs.View.{view};
+ghost use Rattle.json_trees.specs.View.{view};
 ghost use Rattle.serde_json.specs.Find.{as_str};
 ghost use Rattle.type_tree.specs.TypeName.{is_within};
 ghost use Rattle.g_values.specs.View.{kind_view, value_view, value_kind, IsKnown};
@@ -13,8 +13,8 @@ ghost use Rattle.bytecode.specs.Reading.Operands.{Gives, operand, no_operand, nu
 
 use crate::reading::kind_words::kind_of_word;
 use bytecode::{BlockNumber, InstructionError, Register};
-use g_values::{JsonError, Kind, from_json};
-use serde_json::Value;
+use g_values::{JsonError, Kind};
+use json_trees::{Value, from_json};
 use std::alloc::Global;
 use std::rc::RcStr;
 use type_tree::TypeTree;
@@ -23,7 +23,7 @@ use type_tree::TypeTree;
 pub(crate) fn operand(json: &Value, at: usize) -> Result<&Value, InstructionError>
     ensures { Gives (λ v. view v.now) result (operand (view json.now) at) }
 {
-    match json.get(at) {
+    match json.item(at) {
         Some(operand) => Ok(operand),
         None => Err(InstructionError::BadInstruction),
     }
@@ -33,7 +33,7 @@ pub(crate) fn operand(json: &Value, at: usize) -> Result<&Value, InstructionErro
 pub(crate) fn check_none(json: &Value, at: usize) -> Result<(), InstructionError>
     ensures { Gives (λ _. tt) result (no_operand (view json.now) at) }
 {
-    match json.get(at) {
+    match json.item(at) {
         Some(_) => Err(InstructionError::BadInstruction),
         None => Ok(()),
     }

@@ -2,7 +2,7 @@
 
 use bytecode::RegisterKind;
 use g_values::Kind;
-use serde_json::Value;
+use json_trees::Value;
 
 // A block whose instructions are not read yet: the kinds of the first registers where it begins, its number of passes, and its instructions
 // as JSON values.

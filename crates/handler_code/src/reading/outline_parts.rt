@@ -3,8 +3,7 @@
 ghost use Rattle.std.specs.Prelude.{◌≡◌, [], All, IfOk, map, not, option_copied, option_map, string_bytes};
 ghost use Rattle.std.specs.List.{find, list_any};
 ghost use Rattle.std.specs.Str.{bytes_eq};
-ghost use Rattle.std.specs.BTreeMap.{keys};
-ghost use Rattle.serde_json.specs.View.{view, members_view};
+ghost use Rattle.json_trees.specs.View.{view, members_view};
 ghost use Rattle.serde_json.specs.Find.{as_array, as_object, as_str};
 ghost use Rattle.bytecode.specs.Known.{IsKnownRegister};
 ghost use Rattle.bytecode.specs.View.{register_kind_view};
@@ -18,7 +17,7 @@ use crate::reading::kind_words::KindFault;
 use crate::reading::names::Names;
 use crate::reading::register_kinds::register_kind_in;
 use bytecode::{OutlineError, OutlineFault, ProgramPart, RegisterKind};
-use serde_json::{Map, Value};
+use json_trees::Value;
 use std::alloc::Global;
 
 // Returns the outline fault for a word at `part` that names no kind.
@@ -35,11 +34,11 @@ pub(crate) fn kind_refusal<'a>(part: ProgramPart<'a>, fault: KindFault<'a>) -> O
 pub(crate) fn members_of<'a>(
     block: Option<usize>,
     json: &'a Value,
-) -> Result<&'a Map<String, Value>, OutlineError<'a>>
-    ensures { Gives (λ m. members_view m.now.entries) result (shaped (all_of block) (as_object (view json.now))) }
+) -> Result<&'a [(String, Value)], OutlineError<'a>>
+    ensures { Gives (λ m. members_view m.now) result (shaped (all_of block) (as_object (view json.now))) }
 {
     match json.as_object() {
-        Some(members) => Ok(members),
+        Some(members) => Ok(members.as_slice()),
         None => Err(OutlineError::Refused(OutlineFault::Shape(ProgramPart::all_of(block)))),
     }
 }
@@ -147,25 +146,27 @@ fn is_among(keys: &[&str], key: &str) -> bool
     keys.iter().any(|known| *known == key)
 }
 
-// Returns the first key that is not in `known`.
-fn first_other<'a>(members: &'a Map<String, Value>, known: &[&str]) -> Option<&'a String>
-    ensures { option_copied result ≡ find (λ key. not (list_any (λ k. bytes_eq k.now (string_bytes key)) known.now)) (keys members.now) }
+// Returns the first member whose key is not in `known`.
+fn first_other<'a>(members: &'a [(String, Value)], known: &[&str]) -> Option<&'a (String, Value)>
+    ensures { option_copied result ≡ find (λ m. not (list_any (λ k. bytes_eq k.now (string_bytes m.0)) known.now)) members.now }
 {
-    members.keys().find(|key| !is_among(known, key.as_str()))
+    members
+        .iter()
+        .find(|member| !is_among(known, member.0.as_str()))
 }
 
 // Refuses the first member whose key is not in `keys`.
 #[tactic(auto, using(crate::proofs::Members::first_other_is))]
 pub(crate) fn check_only<'a>(
     block: Option<usize>,
-    members: &'a Map<String, Value>,
+    members: &'a [(String, Value)],
     keys: &[&str],
 ) -> Result<(), OutlineError<'a>>
-    ensures { Gives (λ _. tt) result (only_at block (members_view members.now.entries) (map (λ k. k.now) keys.now)) }
+    ensures { Gives (λ _. tt) result (only_at block (members_view members.now) (map (λ k. k.now) keys.now)) }
 {
     match first_other(members, keys) {
         None => Ok(()),
-        Some(key) => Err(OutlineError::Refused(OutlineFault::Shape(ProgramPart::member_of(
+        Some((key, _)) => Err(OutlineError::Refused(OutlineFault::Shape(ProgramPart::member_of(
             block,
             key.as_str(),
         )))),

@@ -1,7 +1,7 @@
 //! Reads the outline of a program, which is all but its instructions.
 
 ghost use Rattle.std.specs.Prelude.{◌≡◌, [], All, IfOk, IfSome, codes, map, option_and_then, option_map};
-ghost use Rattle.serde_json.specs.View.{view};
+ghost use Rattle.json_trees.specs.View.{view};
 ghost use Rattle.serde_json.specs.Find.{as_array, as_str, get};
 ghost use Rattle.g_values.specs.View.{kind_view, IsKnown};
 ghost use Rattle.bytecode.specs.Known.{IsKnownRegister};
@@ -20,7 +20,7 @@ use crate::reading::outline::{BlockOutline, Outline};
 use crate::reading::outline_parts::{check_only, entries_of, kind_refusal, kinds_at, members_of};
 use bytecode::{Format, MOST_PASSES, OutlineError, OutlineFault, ProgramPart, RegisterKind};
 use g_values::Kind;
-use serde_json::Value;
+use json_trees::Value;
 use std::alloc::Global;
 use type_tree::TypeTree;
 

@@ -1,7 +1,8 @@
 //! Reads a whole program.
 
 ghost use Rattle.std.specs.Prelude.{◌≡◌, All, IfOk, IfSome, None};
-ghost use Rattle.serde_json.specs.View.{view};
+ghost use Rattle.json_trees.specs.View.{view};
+ghost use Rattle.serde_json.specs.View as serde_json;
 ghost use Rattle.bytecode.specs.View.{program_view};
 ghost use Rattle.g_values.specs.View.{IsKnown};
 ghost use Rattle.bytecode.specs.Known.{HasKnownBlocks, IsKnownRegister};
@@ -17,7 +18,7 @@ use crate::reading::outline::Outline;
 use crate::reading::outlines::read_outline;
 use crate::reading::scope::Scope;
 use bytecode::{OutlineError, Program, ProgramError};
-use serde_json::Value;
+use json_trees::Value;
 use std::alloc::Global;
 
 // Reads the instructions of an outline, then checks the shape of the blocks and the limits.
@@ -82,4 +83,23 @@ pub fn read_program(alloc: Global, json: &Value, names: &Names<'_>) -> Result<Pr
         Err(OutlineError::OutOfMemory) => Err(ProgramError::OutOfMemory),
         Err(OutlineError::Refused(_)) => unreachable!(),
     }
+}
+
+/// Reads the program that a value of `serde_json` denotes, which must have passed `check_outline` as a [`Value`] of the same data.
+///
+/// # Errors
+///
+/// Those of [`read_program`](crate::read_program), and `OutOfMemory` if a copy of the value can't be allocated.
+pub fn read_json_program(
+    alloc: Global,
+    json: &serde_json::Value,
+    names: &Names<'_>,
+) -> Result<Program, ProgramError>
+    requires { IsWellFormed (names_view names.now) (serde_json.view json.now) }
+    ensures read { (o : outlines.Outline) → outline_in (names_view names.now) (serde_json.view json.now) ≡ Ok o → Gives program_view result (program_of (names_view names.now) o) }
+    ensures known { IfOk result (λ p. HasKnownBlocks names.now.types.now p) }
+    ensures shaped { IfOk result (λ p. shape_fault (program_view p) ≡ None) }
+{
+    let json = Value::copied(alloc, json)?;
+    read_program(alloc, &json, names)
 }

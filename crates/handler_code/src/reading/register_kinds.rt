@@ -1,7 +1,7 @@
 //! Reads kinds of registers from their words.
 
 ghost use Rattle.std.specs.Prelude.{◌≡◌, IfOk};
-ghost use Rattle.serde_json.specs.View.{view};
+ghost use Rattle.json_trees.specs.View.{view};
 ghost use Rattle.serde_json.specs.Find.{as_str};
 ghost use Rattle.bytecode.specs.Known.{IsKnownRegister};
 ghost use Rattle.bytecode.specs.Reading.KindWords.{parted};
@@ -14,7 +14,7 @@ use crate::reading::kind_words::{KindFault, kind_of_type, parted, plain_kind};
 use crate::reading::names::Names;
 use crate::reading::operand_words::is_name;
 use bytecode::RegisterKind;
-use serde_json::Value;
+use json_trees::Value;
 use ui_machine::Place;
 
 // Returns the place of the object or prototype with this id.

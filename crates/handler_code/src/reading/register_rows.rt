@@ -1,7 +1,7 @@
 //! Readers for the instructions that only use registers, one for each word.
 
 ghost use Rattle.std.specs.Prelude.{IfOk};
-ghost use Rattle.serde_json.specs.View.{view};
+ghost use Rattle.json_trees.specs.View.{view};
 ghost use Rattle.bytecode.specs.View.{instruction_view};
 ghost use Rattle.bytecode.specs.Known.{HasKnownKinds};
 ghost use Rattle.bytecode.specs.Reading.Operands.{Gives};
@@ -13,7 +13,7 @@ use crate::reading::operand_shapes::{comparison_at, one_register, three_register
 use crate::reading::operand_words::{check_none, kind_at, register_at, value_at};
 use crate::reading::scope::Scope;
 use bytecode::{Arithmetic, Computation, Instruction, InstructionError};
-use serde_json::Value;
+use json_trees::Value;
 use std::alloc::Global;
 
 // Reads `const d k v`.

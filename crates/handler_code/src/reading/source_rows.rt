@@ -1,7 +1,7 @@
 //! Readers for the instructions on sources and peers, one for each word.
 
 ghost use Rattle.std.specs.Prelude.{IfOk};
-ghost use Rattle.serde_json.specs.View.{view};
+ghost use Rattle.json_trees.specs.View.{view};
 ghost use Rattle.bytecode.specs.View.{instruction_view};
 ghost use Rattle.bytecode.specs.Known.{HasKnownKinds};
 ghost use Rattle.bytecode.specs.Reading.Operands.{Gives};
@@ -15,7 +15,7 @@ use crate::reading::operand_words::{
 };
 use crate::reading::scope::Scope;
 use bytecode::{Call, Instruction, InstructionError, SourceInstruction};
-use serde_json::Value;
+use json_trees::Value;
 use std::alloc::Global;
 
 // Reads `idle d p n z`.

@@ -1,6 +1,6 @@
 use Rattle.std.proofs.Common.{◌≡◌, Ok, codes, map, subst}
 use Rattle.std.proofs.lemmas.Result.{err_from_is_err_and}
-use Rattle.serde_json.specs.View.{view, items_view}
+use Rattle.json_trees.specs.View.{view, items_view}
 use Rattle.definition_format.specs.Document.{entries_at}
 use Rattle.definition_format.specs.Meaning.{plain_shape}
 use Rattle.definition_format.specs.Denoted.Drafts.{class_draft_of}

@@ -1,6 +1,6 @@
 use Rattle.std.proofs.Common.{◌≡◌, Ok, codes, length, subst}
 use Rattle.std.proofs.lemmas.Result.{err_from_is_err_and}
-use Rattle.serde_json.specs.View.{view, items_view}
+use Rattle.json_trees.specs.View.{view, items_view}
 use Rattle.definition_format.specs.Refusals.{Fails}
 use Rattle.definition_format.specs.Document.{entries_at, each, at_entry}
 use Rattle.definition_format.specs.Denoted.Enums.{enum_at}

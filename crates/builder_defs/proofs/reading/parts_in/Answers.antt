@@ -1,6 +1,6 @@
 use Rattle.std.proofs.Common.{None, Ok, map, refl}
 use Rattle.std.proofs.lemmas.Result.{err_from_is_err_and}
-use Rattle.serde_json.specs.View.{view, members_view}
+use Rattle.json_trees.specs.View.{view, members_view}
 use Rattle.param_specs.specs.Table.{own_of}
 use Rattle.ui_machine.specs.Seq.{read}
 use Rattle.definition_format.specs.Meaning.{parts, plain_prototype, plain_program, plain_shape}
@@ -38,7 +38,7 @@ pub returns-in_err-prototypes-clause-read : goal.returns-in_err-prototypes-claus
 returns-in_err-prototypes-clause-read c =
     let p = err_from_is_err_and c.from_residual-in_err-prototypes.result c.from_residual-in_err-prototypes.ensures.1 in
     let failed = prototypes_fail_same c.in_ok-draft.draft.types (specs_by c.in_ok-draft.draft.types (own_of c.in_ok-draft.draft.specs)) (view c.args.value.now) c.deref.result.now c.in_ok-draft.draft.shaped.items c.in_err-prototypes.field-0.0 c.deref.ensures.value c.in_err-prototypes.ensures.prototypes in
-    rw (p.1, p.2) (prototypes_fail (view c.args.value.now) (members_view c.in_ok-members.members.now.entries) c.format_in.result c.in_ok-format.format c.in_ok-limits.limits
+    rw (p.1, p.2) (prototypes_fail (view c.args.value.now) (members_view c.in_ok-members.members.now) c.format_in.result c.in_ok-format.format c.in_ok-limits.limits
     (class_draft_of c.in_ok-draft.draft.types c.in_ok-draft.draft.specs c.in_ok-draft.draft.signals c.in_ok-draft.draft.constructed.items (map plain_shape c.in_ok-draft.draft.shapes.entries) c.in_ok-draft.draft.shaped.items) (map plain_program c.in_ok-programs.programs.entries)
     c.in_ok-members.ensures c.format_in.ensures c.in_ok-format.ensures c.in_ok-limits.ensures.limits c.in_ok-draft.ensures c.in_ok-programs.ensures.read
     c.in_err-prototypes.field-0.0 failed)
@@ -48,7 +48,7 @@ returns-in_err-built-clause-read c =
     let prototypes = prototypes_same c.in_ok-draft.draft.types (specs_by c.in_ok-draft.draft.types (own_of c.in_ok-draft.draft.specs)) (view c.args.value.now) c.deref.result.now c.in_ok-draft.draft.shaped.items (Ok (map plain_prototype c.in_ok-prototypes.prototypes.prototypes.entries)) c.deref.ensures.value c.in_ok-prototypes.ensures.prototypes in
     let failed = objects_fail_same c.in_ok-draft.draft.types (specs_by c.in_ok-draft.draft.types (own_of c.in_ok-draft.draft.specs)) (map plain_program c.in_ok-programs.programs.entries) (map plain_prototype c.in_ok-prototypes.prototypes.prototypes.entries) c.in_ok-limits.limits.objects (view c.args.value.now) c.deref.result.now c.in_ok-draft.draft.shaped.items c.in_err-built.field-0.0 c.deref.ensures.value c.in_err-built.ensures in
     let p = err_from_is_err_and c.from_residual-in_err-built.result c.from_residual-in_err-built.ensures.1 in
-    rw (p.1, p.2) (objects_fail (view c.args.value.now) (members_view c.in_ok-members.members.now.entries) c.format_in.result c.in_ok-format.format c.in_ok-limits.limits
+    rw (p.1, p.2) (objects_fail (view c.args.value.now) (members_view c.in_ok-members.members.now) c.format_in.result c.in_ok-format.format c.in_ok-limits.limits
     (class_draft_of c.in_ok-draft.draft.types c.in_ok-draft.draft.specs c.in_ok-draft.draft.signals c.in_ok-draft.draft.constructed.items (map plain_shape c.in_ok-draft.draft.shapes.entries) c.in_ok-draft.draft.shaped.items) (map plain_program c.in_ok-programs.programs.entries)
     (map plain_prototype c.in_ok-prototypes.prototypes.prototypes.entries)
     c.in_ok-members.ensures c.format_in.ensures c.in_ok-format.ensures c.in_ok-limits.ensures.limits c.in_ok-draft.ensures c.in_ok-programs.ensures.read prototypes
@@ -59,7 +59,7 @@ returns-in_err-check_only-clause-read c =
     let prototypes = prototypes_same c.in_ok-draft.draft.types (specs_by c.in_ok-draft.draft.types (own_of c.in_ok-draft.draft.specs)) (view c.args.value.now) c.deref.result.now c.in_ok-draft.draft.shaped.items (Ok (map plain_prototype c.in_ok-prototypes.prototypes.prototypes.entries)) c.deref.ensures.value c.in_ok-prototypes.ensures.prototypes in
     let built = objects_same c.in_ok-draft.draft.types (specs_by c.in_ok-draft.draft.types (own_of c.in_ok-draft.draft.specs)) (map plain_program c.in_ok-programs.programs.entries) (map plain_prototype c.in_ok-prototypes.prototypes.prototypes.entries) c.in_ok-limits.limits.objects (view c.args.value.now) c.deref.result.now c.in_ok-draft.draft.shaped.items (Ok (built_view c.in_ok-built.built.objects.entries c.in_ok-built.built.bindings.items)) c.deref.ensures.value c.in_ok-built.ensures in
     let p = err_from_is_err_and c.from_residual-in_err-check_only.result c.from_residual-in_err-check_only.ensures.1 in
-    rw (p.1, p.2) (definition_fails (view c.args.value.now) (members_view c.in_ok-members.members.now.entries) c.format_in.result c.in_ok-format.format c.in_ok-limits.limits
+    rw (p.1, p.2) (definition_fails (view c.args.value.now) (members_view c.in_ok-members.members.now) c.format_in.result c.in_ok-format.format c.in_ok-limits.limits
     (class_draft_of c.in_ok-draft.draft.types c.in_ok-draft.draft.specs c.in_ok-draft.draft.signals c.in_ok-draft.draft.constructed.items (map plain_shape c.in_ok-draft.draft.shapes.entries) c.in_ok-draft.draft.shaped.items) (map plain_program c.in_ok-programs.programs.entries)
     (map plain_prototype c.in_ok-prototypes.prototypes.prototypes.entries) (built_view c.in_ok-built.built.objects.entries c.in_ok-built.built.bindings.items)
     c.in_ok-members.ensures c.format_in.ensures c.in_ok-format.ensures c.in_ok-limits.ensures.limits c.in_ok-draft.ensures c.in_ok-programs.ensures.read prototypes built
@@ -69,6 +69,6 @@ pub returns-clause-read : goal.returns-clause-read
 returns-clause-read c =
     let prototypes = prototypes_same c.in_ok-draft.draft.types (specs_by c.in_ok-draft.draft.types (own_of c.in_ok-draft.draft.specs)) (view c.args.value.now) c.deref.result.now c.in_ok-draft.draft.shaped.items (Ok (map plain_prototype c.in_ok-prototypes.prototypes.prototypes.entries)) c.deref.ensures.value c.in_ok-prototypes.ensures.prototypes in
     let built = objects_same c.in_ok-draft.draft.types (specs_by c.in_ok-draft.draft.types (own_of c.in_ok-draft.draft.specs)) (map plain_program c.in_ok-programs.programs.entries) (map plain_prototype c.in_ok-prototypes.prototypes.prototypes.entries) c.in_ok-limits.limits.objects (view c.args.value.now) c.deref.result.now c.in_ok-draft.draft.shaped.items (Ok (built_view c.in_ok-built.built.objects.entries c.in_ok-built.built.bindings.items)) c.deref.ensures.value c.in_ok-built.ensures in
-    definition_done (view c.args.value.now) (members_view c.in_ok-members.members.now.entries) c.format_in.result c.in_ok-format.format
+    definition_done (view c.args.value.now) (members_view c.in_ok-members.members.now) c.format_in.result c.in_ok-format.format
     (parts c.in_ok-draft.draft.types c.in_ok-draft.draft.specs c.in_ok-draft.draft.signals c.in_ok-draft.draft.constructed.items c.in_ok-draft.draft.shapes.entries c.in_ok-draft.draft.shaped.items c.in_ok-programs.programs.entries c.in_ok-prototypes.prototypes.prototypes.entries c.in_ok-built.built.objects.entries c.in_ok-built.built.bindings.items c.in_ok-limits.limits)
     c.in_ok-members.ensures c.format_in.ensures c.in_ok-format.ensures c.in_ok-limits.ensures.limits c.in_ok-draft.ensures c.in_ok-programs.ensures.read prototypes built c.in_ok-check_only.ensures

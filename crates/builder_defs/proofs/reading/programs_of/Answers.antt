@@ -1,7 +1,7 @@
 use Rattle.std.proofs.Common.{◌≡◌, Ok, codes, map, subst}
 use Rattle.std.specs.BTreeMap.{get_by_text}
 use Rattle.std.proofs.lemmas.Result.{err_from_is_err_and}
-use Rattle.serde_json.specs.View.{view, items_view}
+use Rattle.json_trees.specs.View.{view, items_view}
 use Rattle.bytecode.specs.Reading.RegisterKinds.{number_of_place}
 use Rattle.definition_format.specs.Meaning.{plain_program}
 use Rattle.definition_format.specs.Document.{entries_at}

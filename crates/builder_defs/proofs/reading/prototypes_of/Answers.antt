@@ -1,6 +1,6 @@
 use Rattle.std.proofs.Common.{◌≡◌, None, Ok, codes, subst}
 use Rattle.std.proofs.lemmas.Result.{err_from_is_err_and}
-use Rattle.serde_json.specs.View.{view, items_view}
+use Rattle.json_trees.specs.View.{view, items_view}
 use Rattle.ui_machine.specs.Seq.{read}
 use Rattle.param_specs.specs.Table.{own_of}
 use Rattle.definition_format.specs.Document.{entries_at}

@@ -1,4 +1,4 @@
-use Rattle.serde_json.specs.View.{view}
+use Rattle.json_trees.specs.View.{view}
 use Rattle.definition_format.specs.Meaning.{meaning}
 use Rattle.definition_format.proofs.Origins.{by_document}
 use Rattle.definitions.specs.PartsView.{parts_of}

@@ -1,6 +1,6 @@
 use Rattle.std.proofs.Common.{ap, map, ◌∙◌}
 use Rattle.std.proofs.lemmas.Result.{err_from_is_err_and}
-use Rattle.serde_json.specs.View.{view}
+use Rattle.json_trees.specs.View.{view}
 use Rattle.signal_core.specs.Table.{Declared}
 use Rattle.definition_format.specs.Meaning.{plain_shape}
 use Rattle.definition_format.specs.Denoted.Drafts.{class_draft_of}

@@ -1,7 +1,7 @@
 use Rattle.std.proofs.Common.{◌≡◌, Ok, codes, subst}
 use Rattle.definition_format.specs.Document.{entries_at}
 use Rattle.std.proofs.lemmas.Result.{err_from_is_err_and}
-use Rattle.serde_json.specs.View.{view, items_view}
+use Rattle.json_trees.specs.View.{view, items_view}
 use Rattle.read_parts.proofs.Sections.{shapes_read_fail}
 use Rattle.builder_defs.proofs.reading.shapes_of.Goals as goal
 

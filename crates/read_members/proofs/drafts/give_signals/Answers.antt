@@ -1,6 +1,6 @@
 use Rattle.std.proofs.Common.{ℕ, List, subst, ◌∙◌}
 use Rattle.std.proofs.lemmas.Result.{err_from_is_err_and}
-use Rattle.serde_json.specs.View.{view, items_view}
+use Rattle.json_trees.specs.View.{view, items_view}
 use Rattle.signal_core.specs.Sources.{own_of}
 use Rattle.definition_format.specs.Refusals.{Fails}
 use Rattle.definition_format.specs.Document.{path_of, each, at_entry}

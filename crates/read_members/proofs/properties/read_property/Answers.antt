@@ -1,6 +1,6 @@
 use Rattle.std.proofs.Common.{◌∙◌}
 use Rattle.std.proofs.lemmas.Result.{err_from_is_err_and}
-use Rattle.serde_json.specs.View.{view}
+use Rattle.json_trees.specs.View.{view}
 use Rattle.param_specs.specs.View.{spec_view}
 use Rattle.definition_format.specs.Document.{path_of}
 use Rattle.read_parts.proofs.Chains.{fails_as, spec_fails, property_with}

@@ -1,5 +1,5 @@
 use Rattle.std.proofs.Common.{◌≡◌, drop}
-use Rattle.serde_json.specs.View.{items_view}
+use Rattle.json_trees.specs.View.{items_view}
 use Rattle.definition_format.specs.Document.{each, at_entry}
 use Rattle.definition_format.specs.Denoted.Filled.{filled_at}
 use Rattle.read_objects.specs.BindView.{filled_view, target_of}

@@ -1,6 +1,6 @@
 use Rattle.std.proofs.Common.{◌∙◌, [], None, List, ap, sym, map}
 use Rattle.std.proofs.lemmas.Result.{err_from_is_err_and}
-use Rattle.serde_json.specs.View.{items_view}
+use Rattle.json_trees.specs.View.{items_view}
 use Rattle.ui_machine.specs.Definition.Places as machine
 use Rattle.definition_format.specs.Document.{at_entry, each}
 use Rattle.definition_format.specs.Meaning.{Entry, plain_object}

@@ -2,7 +2,7 @@ use Rattle.std.proofs.Common.{◌≡◌, codes, List, ℕ, Some, if◌then◌els
 use Rattle.std.specs.BTreeMap.{get_by_text}
 use Rattle.std.specs.Str.{bytes_eq}
 use Rattle.std.proofs.lemmas.Map.Text.{btree_map_updates_text}
-use Rattle.serde_json.specs.View.{view}
+use Rattle.json_trees.specs.View.{view}
 use Rattle.bytecode.specs.Reading.RegisterKinds.{number_of_place}
 use Rattle.definition_format.specs.Denoted.Entries.{at_most, is_called, name_under}
 use Rattle.read_objects.proofs.PlaceIds.{number_of_given}

@@ -1,7 +1,7 @@
 use Rattle.std.proofs.Common.{◌≡◌, ◌++◌, codes, List, map, option_map, ap, ◌∙◌}
 use Rattle.std.proofs.lemmas.Result.{IfOk-weaker}
 use Rattle.serde_json.specs.Data.{Data, Items}
-use Rattle.serde_json.specs.View.{view, items_view}
+use Rattle.json_trees.specs.View.{view, items_view}
 use Rattle.read_parts.specs.EntryViews.{views}
 use Rattle.definition_format.specs.Denoted.Entries.{at_most, in_order, most_levels, name_under, number_from, places_in_order, section}
 use Rattle.read_objects.proofs.places.read_places.Goals as goal

@@ -1,5 +1,5 @@
 use Rattle.std.proofs.Common.{◌≡◌, ◌∙◌, Ok, codes, ap}
-use Rattle.serde_json.specs.View.{view}
+use Rattle.json_trees.specs.View.{view}
 use Rattle.bytecode.specs.Reading.Outline.{outline_in}
 use Rattle.bytecode.specs.Reading.OutlineFaults.{fault_view}
 use Rattle.handler_code.specs.Reading.ReaderViews.{names_view}

@@ -2,7 +2,7 @@ use Rattle.std.proofs.Common.{◌≡◌, ◌∙◌, ◌∷◌, ◌++◌, [], Lis
 use Rattle.std.specs.List.{AllByRecursion}
 use Rattle.std.proofs.lemmas.List.{length_push}
 use Rattle.std.proofs.lemmas.Result.{err_from_is_err_and}
-use Rattle.serde_json.specs.View.{view}
+use Rattle.json_trees.specs.View.{view}
 use Rattle.handler_code.specs.Reading.ReaderViews.{names_view}
 use Rattle.definition_format.specs.Meaning.{HasOwnName, IsSoundProgram, NamedProgram, plain_program}
 use Rattle.definition_format.specs.Document.{path_of}

@@ -1,6 +1,6 @@
 use Rattle.std.proofs.Common.{◌≡◌, ◌≤◌, [], drop, length, map}
 use Rattle.std.specs.List.{AllByRecursion}
-use Rattle.serde_json.specs.View.{items_view}
+use Rattle.json_trees.specs.View.{items_view}
 use Rattle.handler_code.specs.Reading.ReaderViews.{names_view}
 use Rattle.definition_format.specs.Meaning.{HasOwnName, IsSoundProgram, plain_program}
 use Rattle.definition_format.specs.Document.{each, at_entry}

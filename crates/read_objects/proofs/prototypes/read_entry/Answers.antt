@@ -1,6 +1,6 @@
 use Rattle.std.proofs.Common.{◌≡◌, ◌∙◌, ◌∷◌, ◌++◌, [], None, ap, sym, map}
 use Rattle.std.proofs.lemmas.List.{map_push}
-use Rattle.serde_json.specs.View.{view}
+use Rattle.json_trees.specs.View.{view}
 use Rattle.ui_machine.specs.Seq.{read}
 use Rattle.param_specs.specs.Table.{own_of}
 use Rattle.definition_format.specs.Meaning.{Prototype, plain_prototype}

@@ -1,5 +1,5 @@
-use Rattle.std.proofs.Common.{◌≡◌, Some, None, true, false}
-use Rattle.serde_json.specs.View.{view}
+use Rattle.std.proofs.Common.{Some, None}
+use Rattle.json_trees.specs.View.{view}
 use Rattle.read_parts.proofs.Values.{document-not_utf8, document-text}
 use Rattle.read_parts.proofs.document.parsed.Goals as goal
 
@@ -9,5 +9,5 @@ returns-in_default c = document-not_utf8 c.args.bytes.now c.if-bytes-gt-MAX_BYTE
 pub returns-in-Ok-from_str : goal.returns-in-Ok-from_str
 returns-in-Ok-from_str c = document-text c.args.bytes.now c.in-Ok.text.now (Some (view c.in-Ok-from_str.value)) c.if-bytes-gt-MAX_BYTES.false c.in-Ok.ensures.cases.1 c.in-Ok.ensures.cases.0 c.in-Ok-from_str.ensures.ok
 
-pub returns-in-Err-2 : goal.returns-in-Err-2
-returns-in-Err-2 c = document-text c.args.bytes.now c.in-Ok.text.now None c.if-bytes-gt-MAX_BYTES.false c.in-Ok.ensures.cases.1 c.in-Ok.ensures.cases.0 (c.in-Err.ensures.err (λ memory. let bad : false ≡ true = c.if-is_memory.ensures.1 memory in cc))
+pub returns-in-Err-NotJson : goal.returns-in-Err-NotJson
+returns-in-Err-NotJson c = document-text c.args.bytes.now c.in-Ok.text.now None c.if-bytes-gt-MAX_BYTES.false c.in-Ok.ensures.cases.1 c.in-Ok.ensures.cases.0 (c.in-Err-NotJson.ensures.err (rw c.in-Err-NotJson.field-0-is))

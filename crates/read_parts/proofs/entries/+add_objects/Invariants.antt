@@ -1,5 +1,5 @@
 use Rattle.std.proofs.Common.{◌≡◌, ◌++◌, ◌<◌, ◌-◌, drop}
-use Rattle.serde_json.specs.View.{items_view}
+use Rattle.json_trees.specs.View.{items_view}
 use Rattle.read_parts.specs.EntryViews.{views}
 use Rattle.definition_format.specs.Denoted.Entries.{with_all, in_order}
 use Rattle.read_parts.proofs.InOrder.{below}

@@ -1,6 +1,6 @@
 use Rattle.std.proofs.Common.{◌≡◌, map, sym, ap, ◌∙◌}
 use Rattle.std.proofs.lemmas.Result.{IfOk-weaker}
-use Rattle.serde_json.specs.View.{view, items_view}
+use Rattle.json_trees.specs.View.{view, items_view}
 use Rattle.read_parts.specs.EntryViews.{views}
 use Rattle.definition_format.specs.Denoted.Entries.{name_under, names_under, number_from}
 use Rattle.read_parts.proofs.Numbered.{names_are, views_are}

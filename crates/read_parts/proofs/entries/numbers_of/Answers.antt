@@ -1,7 +1,7 @@
 use Rattle.std.proofs.Common.{◌≡◌, ◌-◌, suc, Some, slice_get, option_map, drop, map, ap, subst, sym, ◌∙◌, arith, if◌then◌else◌}
 use Rattle.std.proofs.lemmas.Option.{slice_get-map}
 use Rattle.std.specs.BTreeMap.{get_by_text}
-use Rattle.serde_json.specs.View.{view}
+use Rattle.json_trees.specs.View.{view}
 use Rattle.read_parts.specs.EntryViews.{views}
 use Rattle.definition_format.specs.Denoted.Entries.{is_called, name_under, number_from}
 use Rattle.read_parts.proofs.Numbered.{number_before, slice_got}

@@ -1,6 +1,6 @@
 use Rattle.std.proofs.Common.{◌∙◌}
 use Rattle.std.proofs.lemmas.Result.{err_from_is_err_and}
-use Rattle.serde_json.specs.View.{items_view}
+use Rattle.json_trees.specs.View.{items_view}
 use Rattle.definition_format.specs.Document.{each, at_entry}
 use Rattle.read_parts.proofs.Each.{goes_on, ends, is_done}
 use Rattle.read_parts.proofs.reads.read_each.Goals as goal

@@ -1,5 +1,5 @@
 use Rattle.std.proofs.Common.{◌≡◌, drop}
-use Rattle.serde_json.specs.View.{items_view}
+use Rattle.json_trees.specs.View.{items_view}
 use Rattle.definition_format.specs.Document.{each, at_entry}
 use Rattle.read_parts.proofs.reads.read_each.Given as goal
 

@@ -1,6 +1,6 @@
 use Rattle.std.proofs.Common.{◌≡◌, ◌∙◌, List, is_some, Result, refl, ap, subst}
 use Rattle.std.specs.BTreeSet.{contains_text}
-use Rattle.serde_json.specs.View.{items_view}
+use Rattle.json_trees.specs.View.{items_view}
 use Rattle.ui_machine.specs.Definition.Signals.{ClassHandler}
 use Rattle.ui_machine.specs.Rules.EmissionPlan.{handler_in}
 use Rattle.signal_core.specs.Table.{Declared, named_of}

@@ -1,7 +1,7 @@
 use Rattle.std.proofs.Common.{List, Ok, length, map, sym, ap, ◌∙◌}
 use Rattle.ui_machine.specs.Definition.Signals.{Signal}
 use Rattle.std.proofs.lemmas.Result.{err_from_is_err_and}
-use Rattle.serde_json.specs.View.{view, items_view, members_view}
+use Rattle.json_trees.specs.View.{view, items_view, members_view}
 use Rattle.definition_format.specs.Document.{path_of}
 use Rattle.definition_format.specs.Meaning.{plain_shape}
 use Rattle.definition_format.specs.Denoted.Drafts.{answers_of, draft_of, with_answers}
@@ -22,7 +22,7 @@ returns-in_err-give_members c =
     rw (p.1, p.2) (members_fail (path_of c.args.part.path) keys_of_class
     (declared_at (path_of c.args.part.path) c.args.first (items_view c.args.list.now) c.args.names.now (draft_of c.args.types.now c.args.specs.now c.args.signals.now.signals) (view c.args.part.value.now))
     (answering_at (path_of c.args.part.path) c.args.programs.now (length c.args.types.now) (answers_of (map plain_shape c.args.shapes.now.entries) c.args.signals.now.handlers c.args.constructed.now.items c.args.shaped.now.items) (view c.args.part.value.now)) c.args.names.now c.args.types.now c.args.specs.now c.args.signals.now.signals (view c.args.part.value.now)
-    (members_view c.in_ok-members.members.now.entries) c.declare.new.types c.in_ok-class.class c.in_ok-members.ensures c.in_ok-class.ensures.types c.in_ok-class.ensures.class
+    (members_view c.in_ok-members.members.now) c.declare.new.types c.in_ok-class.class c.in_ok-members.ensures c.in_ok-class.ensures.types c.in_ok-class.ensures.class
     c.in_err-give_members.field-0.0 c.in_err-give_members.ensures.given)
 
 pub returns-in_err-give_answers : goal.returns-in_err-give_answers
@@ -31,7 +31,7 @@ returns-in_err-give_answers c =
     rw (p.1, p.2) (unset_fails (path_of c.args.part.path) keys_of_class
     (declared_at (path_of c.args.part.path) c.args.first (items_view c.args.list.now) c.args.names.now (draft_of c.args.types.now c.args.specs.now c.args.signals.now.signals) (view c.args.part.value.now))
     (answering_at (path_of c.args.part.path) c.args.programs.now (length c.args.types.now) (answers_of (map plain_shape c.args.shapes.now.entries) c.args.signals.now.handlers c.args.constructed.now.items c.args.shaped.now.items) (view c.args.part.value.now)) c.args.names.now c.args.types.now c.args.specs.now c.args.signals.now.signals (view c.args.part.value.now)
-    (members_view c.in_ok-members.members.now.entries) c.declare.new.types c.in_ok-class.class c.in_ok-members.ensures c.in_ok-class.ensures.types c.in_ok-class.ensures.class
+    (members_view c.in_ok-members.members.now) c.declare.new.types c.in_ok-class.class c.in_ok-members.ensures c.in_ok-class.ensures.types c.in_ok-class.ensures.class
     (draft_of c.declare.new.types c.give_members.new.specs c.give_members.new.signals.signals) c.in_ok-give_members.ensures.given c.in_err-give_answers.field-0.0
     (answering_fails (path_of c.args.part.path) c.args.programs.now (length c.args.types.now) c.in_ok-class.class c.in_ok-class.ensures.class (map plain_shape c.args.shapes.now.entries) c.args.signals.now.handlers c.give_members.new.signals.handlers c.in_ok-give_members.ensures.handlers c.args.constructed.now.items c.args.shaped.now.items
     (view c.args.part.value.now) (draft_of c.declare.new.types c.give_members.new.specs c.give_members.new.signals.signals) c.in_err-give_answers.field-0.0 c.in_err-give_answers.ensures.answers))
@@ -42,7 +42,7 @@ returns-in_err-check_only c =
     rw (p.1, p.2) (only_fails (path_of c.args.part.path) keys_of_class
     (declared_at (path_of c.args.part.path) c.args.first (items_view c.args.list.now) c.args.names.now (draft_of c.args.types.now c.args.specs.now c.args.signals.now.signals) (view c.args.part.value.now))
     (answering_at (path_of c.args.part.path) c.args.programs.now (length c.args.types.now) (answers_of (map plain_shape c.args.shapes.now.entries) c.args.signals.now.handlers c.args.constructed.now.items c.args.shaped.now.items) (view c.args.part.value.now)) c.args.names.now c.args.types.now c.args.specs.now c.args.signals.now.signals (view c.args.part.value.now)
-    (members_view c.in_ok-members.members.now.entries) c.declare.new.types c.in_ok-class.class c.in_ok-members.ensures c.in_ok-class.ensures.types c.in_ok-class.ensures.class
+    (members_view c.in_ok-members.members.now) c.declare.new.types c.in_ok-class.class c.in_ok-members.ensures c.in_ok-class.ensures.types c.in_ok-class.ensures.class
     (draft_of c.declare.new.types c.give_members.new.specs c.give_members.new.signals.signals) c.in_ok-give_members.ensures.given
     (with_answers (draft_of c.declare.new.types c.give_members.new.specs c.give_members.new.signals.signals) (answers_of (map plain_shape c.args.shapes.now.entries) c.give_answers.new.signals.handlers c.give_answers.new.constructed.items c.give_answers.new.shaped.items))
     (answering_with (path_of c.args.part.path) c.args.programs.now (length c.args.types.now) c.in_ok-class.class c.in_ok-class.ensures.class (map plain_shape c.args.shapes.now.entries) c.args.signals.now.handlers c.give_members.new.signals.handlers c.in_ok-give_members.ensures.handlers c.args.constructed.now.items c.args.shaped.now.items
@@ -53,7 +53,7 @@ returns c =
     type_done (path_of c.args.part.path) keys_of_class
     (declared_at (path_of c.args.part.path) c.args.first (items_view c.args.list.now) c.args.names.now (draft_of c.args.types.now c.args.specs.now c.args.signals.now.signals) (view c.args.part.value.now))
     (answering_at (path_of c.args.part.path) c.args.programs.now (length c.args.types.now) (answers_of (map plain_shape c.args.shapes.now.entries) c.args.signals.now.handlers c.args.constructed.now.items c.args.shaped.now.items) (view c.args.part.value.now)) c.args.names.now c.args.types.now c.args.specs.now c.args.signals.now.signals (view c.args.part.value.now)
-    (members_view c.in_ok-members.members.now.entries) c.declare.new.types c.in_ok-class.class c.in_ok-members.ensures c.in_ok-class.ensures.types c.in_ok-class.ensures.class
+    (members_view c.in_ok-members.members.now) c.declare.new.types c.in_ok-class.class c.in_ok-members.ensures c.in_ok-class.ensures.types c.in_ok-class.ensures.class
     (draft_of c.declare.new.types c.give_members.new.specs c.give_members.new.signals.signals) c.in_ok-give_members.ensures.given
     (with_answers (draft_of c.declare.new.types c.give_members.new.specs c.give_members.new.signals.signals) (answers_of (map plain_shape c.args.shapes.now.entries) c.give_answers.new.signals.handlers c.give_answers.new.constructed.items c.give_answers.new.shaped.items))
     (answering_with (path_of c.args.part.path) c.args.programs.now (length c.args.types.now) c.in_ok-class.class c.in_ok-class.ensures.class (map plain_shape c.args.shapes.now.entries) c.args.signals.now.handlers c.give_members.new.signals.handlers c.in_ok-give_members.ensures.handlers c.args.constructed.now.items c.args.shaped.now.items

@@ -1,5 +1,5 @@
 use Rattle.std.proofs.Common.{ℕ, map, subst}
-use Rattle.serde_json.specs.View.{items_view}
+use Rattle.json_trees.specs.View.{items_view}
 use Rattle.definition_format.specs.Meaning.{plain_shape}
 use Rattle.definition_format.specs.Refusals.{Leads}
 use Rattle.definition_format.specs.Document.{each, at_entry}

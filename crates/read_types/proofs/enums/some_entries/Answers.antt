@@ -1,5 +1,5 @@
 use Rattle.std.proofs.Common.{codes}
-use Rattle.serde_json.specs.View.{view}
+use Rattle.json_trees.specs.View.{view}
 use Rattle.definition_format.specs.Document.{path_of}
 use Rattle.read_parts.proofs.Sections.{some_there}
 use Rattle.read_types.proofs.enums.some_entries.Goals as goal

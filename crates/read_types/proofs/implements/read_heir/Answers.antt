@@ -1,6 +1,6 @@
 use Rattle.std.proofs.Common.{◌∙◌, [], sym, refl}
 use Rattle.std.proofs.lemmas.Result.{err_from_is_err_and}
-use Rattle.serde_json.specs.View.{items_view}
+use Rattle.json_trees.specs.View.{items_view}
 use Rattle.definition_format.specs.Document.{each, at_entry}
 use Rattle.definition_format.specs.Denoted.Signals.{signals_by}
 use Rattle.definition_format.specs.Denoted.Implements.{implemented_at}
@@ -8,7 +8,7 @@ use Rattle.read_parts.proofs.Chains.{fails_as}
 use Rattle.read_types.specs.ImplementDrafts.{ImplementParts, parts_of, parts_seen}
 use Rattle.read_types.specs.OverrideView.{heir_of}
 use Rattle.read_types.proofs.Drafting.{read_from, fails_from}
-use Rattle.read_types.proofs.ImplementParts.{same_parts, reads_are}
+use Rattle.read_types.proofs.ImplementParts.{reads_from}
 use Rattle.read_types.proofs.implements.read_heir.Goals as goal
 
 pub returns-in_err-read_each : goal.returns-in_err-read_each
@@ -17,16 +17,14 @@ returns-in_err-read_each c =
     let base = c.args.list.path.now in
     let items = items_view c.args.list.items.now in
     let e = c.in_err-read_each.field-0.0 in
-    let begun = same_parts _ [] _ _ c.new-implemented.ensures.types c.new-implemented.ensures.names in
-    let p = err_from_is_err_and c.from_residual.result c.from_residual.ensures.1 in
-    rw (p.1, p.2) (fails_from (parts_of (signals_by heir.types heir.signals)) e (each (at_entry (λ path. implemented_at path heir) base) 0 [] items)
-    (fails_as e _ _ (sym (reads_are heir base (parts_seen c.new-implemented.result) items begun)) c.in_err-read_each.ensures.read))
+    let p = err_from_is_err_and c.from_residual-in_err-read_each.result c.from_residual-in_err-read_each.ensures.1 in
+    rw (p.1, p.2) (fails_from (parts_of (signals_by heir.types heir.signals) heir.parent) e (each (at_entry (λ path. implemented_at path heir) base) 0 [] items)
+    (fails_as e _ _ (sym (reads_from c.args.heir.now base (parts_seen c.in_ok-implemented.implemented) items c.in_ok-implemented.ensures)) c.in_err-read_each.ensures.read))
 
 pub returns : goal.returns
 returns c =
     let heir = heir_of c.args.heir.now in
     let base = c.args.list.path.now in
     let items = items_view c.args.list.items.now in
-    let begun = same_parts _ [] _ _ c.new-implemented.ensures.types c.new-implemented.ensures.names in
-    read_from (parts_of (signals_by heir.types heir.signals)) (λ (p : ImplementParts). p.types) (λ ts. refl) (each (at_entry (λ path. implemented_at path heir) base) 0 [] items) _
-    (sym (reads_are heir base (parts_seen c.new-implemented.result) items begun) ∙ c.in_ok-read_each.ensures.read)
+    read_from (parts_of (signals_by heir.types heir.signals) heir.parent) (λ (p : ImplementParts). p.types) (λ ts. refl) (each (at_entry (λ path. implemented_at path heir) base) 0 [] items) _
+    (sym (reads_from c.args.heir.now base (parts_seen c.in_ok-implemented.implemented) items c.in_ok-implemented.ensures) ∙ c.in_ok-read_each.ensures.read)

@@ -1,6 +1,6 @@
 use Rattle.std.proofs.Common.{◌∙◌, sym}
 use Rattle.std.proofs.lemmas.Result.{err_from_is_err_and}
-use Rattle.serde_json.specs.View.{view}
+use Rattle.json_trees.specs.View.{view}
 use Rattle.definition_format.specs.Document.{path_of}
 use Rattle.definition_format.specs.Denoted.Drafts.{draft_of}
 use Rattle.read_parts.proofs.Chains.{fails_as}

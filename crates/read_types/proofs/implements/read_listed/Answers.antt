@@ -1,6 +1,6 @@
 use Rattle.std.proofs.Common.{◌≡◌, ◌∙◌, ℕ, List, Bool, codes, map, ap}
 use Rattle.std.proofs.lemmas.Result.{err_from_is_err_and}
-use Rattle.serde_json.specs.View.{view, items_view}
+use Rattle.json_trees.specs.View.{view, items_view}
 use Rattle.param_specs.specs.Table.{own_of}
 use Rattle.definition_format.specs.Document.{path_of, under}
 use Rattle.read_types.specs.OverrideView.{own_view, names_of}

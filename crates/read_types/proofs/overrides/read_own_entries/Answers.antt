@@ -1,6 +1,6 @@
 use Rattle.std.proofs.Common.{◌∙◌, List, sym, ap, map}
 use Rattle.std.proofs.lemmas.Result.{err_from_is_err_and}
-use Rattle.serde_json.specs.View.{items_view}
+use Rattle.json_trees.specs.View.{items_view}
 use Rattle.param_specs.specs.Table.{own_of}
 use Rattle.definition_format.specs.Denoted.Overrides.{own_named}
 use Rattle.read_parts.proofs.Chains.{fails_as}

@@ -1,7 +1,7 @@
 use Rattle.std.proofs.Common.{◌∙◌, sym}
 use Rattle.std.specs.BTreeSet.{contains_text}
 use Rattle.std.proofs.lemmas.Result.{err_from_is_err_and}
-use Rattle.serde_json.specs.View.{items_view}
+use Rattle.json_trees.specs.View.{items_view}
 use Rattle.read_parts.proofs.Chains.{fails_as}
 use Rattle.read_types.proofs.NamesAhead.{names_are, no_names}
 use Rattle.read_types.proofs.own_signals.read_own_entries.Goals as goal

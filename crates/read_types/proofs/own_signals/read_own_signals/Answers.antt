@@ -1,6 +1,6 @@
 use Rattle.std.proofs.Common.{◌≡◌, ◌∙◌, codes}
 use Rattle.std.proofs.lemmas.Result.{err_from_is_err_and}
-use Rattle.serde_json.specs.View.{view, items_view}
+use Rattle.json_trees.specs.View.{view, items_view}
 use Rattle.definition_format.specs.Document.{path_of, under}
 use Rattle.read_parts.proofs.Chains.{fails_as}
 use Rattle.read_types.proofs.NamesAhead.{names_ahead_are}

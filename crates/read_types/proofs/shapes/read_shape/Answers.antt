@@ -1,6 +1,6 @@
 use Rattle.std.proofs.Common.{◌≡◌, ◌∙◌, ◌∷◌, ◌++◌, [], List, Ok, ap, sym, map, string_bytes}
 use Rattle.std.proofs.lemmas.Result.{err_from_is_err_and}
-use Rattle.serde_json.specs.View.{view}
+use Rattle.json_trees.specs.View.{view}
 use Rattle.definition_format.specs.Meaning.{NamedShape, plain_shape}
 use Rattle.definition_format.specs.Document.{path_of}
 use Rattle.definition_format.specs.Denoted.Shapes.{shape_number}

@@ -1,7 +1,7 @@
 use Rattle.std.proofs.Common.{◌≡◌, [], ◌∷◌, ◌++◌, All, List, map, refl, sym, subst, ap, ◌∙◌}
 use Rattle.std.proofs.lemmas.List.Elements.{All-push}
 use Rattle.std.proofs.lemmas.Result.{err_from_is_err_and}
-use Rattle.serde_json.specs.View.{view}
+use Rattle.json_trees.specs.View.{view}
 use Rattle.ui_machine.specs.Definition.Programs as machine
 use Rattle.bytecode.specs.View.{block_view, instruction_view, register_kind_view}
 use Rattle.bytecode.specs.declared.programs.Block.{Block}

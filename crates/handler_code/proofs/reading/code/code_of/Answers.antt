@@ -2,7 +2,7 @@ use Rattle.std.proofs.Common.{[], ◌∷◌, ◌++◌, All, map, refl, sym, subs
 use Rattle.std.proofs.Common.{List}
 use Rattle.std.proofs.lemmas.List.Elements.{All-push}
 use Rattle.std.proofs.lemmas.Result.{err_from_is_err_and}
-use Rattle.serde_json.specs.View.{view}
+use Rattle.json_trees.specs.View.{view}
 use Rattle.bytecode.specs.View.{instruction_view}
 use Rattle.bytecode.specs.declared.instructions.Instruction.{Instruction}
 use Rattle.bytecode.specs.Known.{HasKnownKinds}

@@ -1,5 +1,5 @@
 use Rattle.std.proofs.Common.{◌≡◌, [], All, map, drop}
-use Rattle.serde_json.specs.View.{view}
+use Rattle.json_trees.specs.View.{view}
 use Rattle.bytecode.specs.View.{instruction_view}
 use Rattle.bytecode.specs.Known.{HasKnownKinds}
 use Rattle.bytecode.specs.Reading.Each.{each}

@@ -1,5 +1,5 @@
 use Rattle.std.proofs.Common.{◌≡◌, ◌++◌, map, drop, option_map}
-use Rattle.serde_json.specs.View.{items_view}
+use Rattle.json_trees.specs.View.{items_view}
 use Rattle.bytecode.specs.View.{number_of}
 use Rattle.bytecode.specs.Reading.Operands.{registers_of}
 use Rattle.handler_code.proofs.reading.operand_lists.registers_in.Given as goal

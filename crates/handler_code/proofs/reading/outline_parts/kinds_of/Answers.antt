@@ -1,7 +1,7 @@
 use Rattle.std.proofs.Common.{List, [], ◌∷◌, ◌++◌, All, map, refl, sym, subst}
 use Rattle.std.proofs.lemmas.List.Elements.{All-push}
 use Rattle.std.proofs.lemmas.Result.{err_from_is_err_and}
-use Rattle.serde_json.specs.View.{view}
+use Rattle.json_trees.specs.View.{view}
 use Rattle.serde_json.specs.Find.{as_str}
 use Rattle.bytecode.specs.declared.programs.RegisterKind.{RegisterKind}
 use Rattle.bytecode.specs.Known.{IsKnownRegister}

@@ -1,6 +1,6 @@
 use Rattle.std.proofs.Common.{[], ◌∷◌, ◌++◌, map, refl}
 use Rattle.std.proofs.lemmas.Result.{err_from_is_err_and}
-use Rattle.serde_json.specs.View.{view}
+use Rattle.json_trees.specs.View.{view}
 use Rattle.bytecode.specs.View.{register_kind_view}
 use Rattle.handler_code.specs.Reading.ReaderViews.{names_view, block_outline_view}
 use Rattle.bytecode.specs.Reading.Each.{each}

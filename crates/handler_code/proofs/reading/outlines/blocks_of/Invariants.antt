@@ -1,5 +1,5 @@
 use Rattle.std.proofs.Common.{◌≡◌, [], map, drop}
-use Rattle.serde_json.specs.View.{view}
+use Rattle.json_trees.specs.View.{view}
 use Rattle.bytecode.specs.View.{register_kind_view}
 use Rattle.handler_code.specs.Reading.ReaderViews.{names_view, block_outline_view}
 use Rattle.bytecode.specs.Reading.Each.{each}

@@ -1,6 +1,6 @@
 use Rattle.std.proofs.Common.{◌-◌, Some, ap, ◌∙◌, arith}
 use Rattle.std.proofs.lemmas.Result.{err_from_is_err_and}
-use Rattle.serde_json.specs.View.{view, items_view, members_view}
+use Rattle.json_trees.specs.View.{view, items_view, members_view}
 use Rattle.definition_format.specs.Document.{path_of, each, at_entry}
 use Rattle.definition_format.specs.Meaning.{place_number}
 use Rattle.read_objects.specs.ScopeView.{built_of, scope_of}
@@ -13,7 +13,7 @@ pub read_entry-returns-in_err-read_list : goal.read_entry-returns-in_err-read_li
 read_entry-returns-in_err-read_list t c =
     let p = err_from_is_err_and c.from_residual-in_err-read_list.result c.from_residual-in_err-read_list.ensures.1 in
     rw (p.1, p.2) (children_fail c.args.levels (c.args.levels - 1) (omega (arith, c.if-levels-eq0.false)) (scope_of c.args.self.now) (place_number c.args.parent) (Some c.in_ok-place.place.0) (path_of c.args.part.path) c.as_str.result.now (built_of c.args.built.now) (view c.args.part.value.now)
-    (members_view c.in_ok-members.members.now.entries) (built_of c.add_object.new.built) (items_view c.in_ok-items.items.now) (ap Some c.in_ok-place.ensures.place) (c.as_str.ensures.value ∙ c.in_ok-path.ensures)
+    (members_view c.in_ok-members.members.now) (built_of c.add_object.new.built) (items_view c.in_ok-items.items.now) (ap Some c.in_ok-place.ensures.place) (c.as_str.ensures.value ∙ c.in_ok-path.ensures)
     c.in_ok-members.ensures c.in_ok-place.ensures.objects c.in_ok-items.ensures
     c.in_err-read_list.field-0.0 c.in_err-read_list.ensures)
 
@@ -21,14 +21,14 @@ pub read_entry-returns-in_err-check_only : goal.read_entry-returns-in_err-check_
 read_entry-returns-in_err-check_only t c =
     let p = err_from_is_err_and c.from_residual-in_err-check_only.result c.from_residual-in_err-check_only.ensures.1 in
     rw (p.1, p.2) (other_member c.args.levels (c.args.levels - 1) (omega (arith, c.if-levels-eq0.false)) (scope_of c.args.self.now) (place_number c.args.parent) (Some c.in_ok-place.place.0) (path_of c.args.part.path) c.as_str.result.now (built_of c.args.built.now) (view c.args.part.value.now)
-    (members_view c.in_ok-members.members.now.entries) (built_of c.add_object.new.built) (items_view c.in_ok-items.items.now) (ap Some c.in_ok-place.ensures.place) (c.as_str.ensures.value ∙ c.in_ok-path.ensures)
+    (members_view c.in_ok-members.members.now) (built_of c.add_object.new.built) (items_view c.in_ok-items.items.now) (ap Some c.in_ok-place.ensures.place) (c.as_str.ensures.value ∙ c.in_ok-path.ensures)
     c.in_ok-members.ensures c.in_ok-place.ensures.objects c.in_ok-items.ensures
     (built_of c.read_list.new.built) c.in_err-check_only.field-0.0 c.in_ok-read_list.ensures c.in_err-check_only.ensures)
 
 pub read_entry-returns : goal.read_entry-returns
 read_entry-returns t c =
     all_read c.args.levels (c.args.levels - 1) (omega (arith, c.if-levels-eq0.false)) (scope_of c.args.self.now) (place_number c.args.parent) (Some c.in_ok-place.place.0) (path_of c.args.part.path) c.as_str.result.now (built_of c.args.built.now) (view c.args.part.value.now)
-    (members_view c.in_ok-members.members.now.entries) (built_of c.add_object.new.built) (items_view c.in_ok-items.items.now) (ap Some c.in_ok-place.ensures.place) (c.as_str.ensures.value ∙ c.in_ok-path.ensures)
+    (members_view c.in_ok-members.members.now) (built_of c.add_object.new.built) (items_view c.in_ok-items.items.now) (ap Some c.in_ok-place.ensures.place) (c.as_str.ensures.value ∙ c.in_ok-path.ensures)
     c.in_ok-members.ensures c.in_ok-place.ensures.objects c.in_ok-items.ensures
     (built_of c.read_list.new.built) c.in_ok-read_list.ensures c.in_ok-check_only.ensures
 

@@ -1,6 +1,6 @@
 use Rattle.std.proofs.Common.{List, None, Some, Bor, codes, option_map, sym, ap, ◌∙◌}
-use Rattle.serde_json.specs.View.{view}
-use Rattle.serde_json.specs.declared.value.Value.{Value}
+use Rattle.json_trees.specs.View.{view}
+use Rattle.json_trees.specs.declared.value.Value.{Value}
 use Rattle.ui_machine.specs.Seq.{read}
 use Rattle.read_parts.specs.EntryViews.{views}
 use Rattle.definition_format.specs.Denoted.Entries.{ObjectNames, names_of}

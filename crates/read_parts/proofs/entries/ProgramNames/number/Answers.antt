@@ -1,5 +1,5 @@
 use Rattle.std.proofs.Common.{◌≡◌, None, Some, codes, option_copied, option_map, sym, ap, ◌∙◌}
-use Rattle.serde_json.specs.View.{items_view}
+use Rattle.json_trees.specs.View.{items_view}
 use Rattle.definition_format.specs.Denoted.Entries.{ProgramNames, at_most, names_under, number_from, program_named}
 use Rattle.read_parts.proofs.entries.ProgramNames.number.Goals as goal
 

@@ -1,5 +1,5 @@
 use Rattle.std.proofs.Common.{◌≡◌, ◌+◌, None, Some, codes, length, option_copied, option_map, sym, ap, ◌∙◌}
-use Rattle.serde_json.specs.View.{items_view}
+use Rattle.json_trees.specs.View.{items_view}
 use Rattle.definition_format.specs.Denoted.Entries.{TypeNames, names_under, number_from, at_most, later_type}
 use Rattle.read_parts.proofs.Numbered.{interface_found, class_found, count_is, sum_after}
 use Rattle.read_parts.proofs.entries.TypeNames.number.Goals as goal

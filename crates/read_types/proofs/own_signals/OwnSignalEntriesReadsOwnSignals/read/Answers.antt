@@ -1,7 +1,7 @@
 use Rattle.std.proofs.Common.{◌∙◌, true, sym, ap, option_map, string_bytes}
 use Rattle.std.specs.BTreeSet.{contains_text}
 use Rattle.std.proofs.lemmas.Map.Text.{btree_set_updates_text}
-use Rattle.serde_json.specs.View.{view}
+use Rattle.json_trees.specs.View.{view}
 use Rattle.definition_format.specs.Document.{path_of}
 use Rattle.read_types.proofs.NamesAhead.{name_pushed}
 use Rattle.read_types.proofs.own_signals.OwnSignalEntriesReadsOwnSignals.read.Goals as goal
