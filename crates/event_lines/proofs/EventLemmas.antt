@@ -94,7 +94,7 @@ module _ (may : Relations) (old : SessionState) (line : List ℕ) (event : Event
       by false fault h = on (refusal old.world event) fault refl h
 
 -- an event that does not begin is answered as it is where it is carried out at once
-begun_badly : (may : Relations) (stopped : Bool) (fault : SessionFault) (pool : List Seen) (old : SessionState) (event : Event) (new : SessionState)
+pub begun_badly : (may : Relations) (stopped : Bool) (fault : SessionFault) (pool : List Seen) (old : SessionState) (event : Event) (new : SessionState)
     → BeginsEvent may stopped (Err fault) pool old event new → AnswersEvent may stopped (Err fault) (state_at pool old) event (state_at pool new)
 begun_badly may true fault pool old event new h = (cc h.0, ap (state_at pool) h.1)
 begun_badly may false fault pool old event new h = by (refusal old.world event) h

@@ -24,7 +24,11 @@ use Rattle.event_lines.specs.declared.session_start.Opening.TheVariants as code
 use Rattle.event_lines.specs.OpeningView.{IsOpening, Opened}
 use Rattle.event_lines.specs.CheckView.{IsUnread, IsRejected}
 use Rattle.law_peers.specs.Needs.{Mismatch, mismatch}
-use Rattle.law_typing.specs.Verdict.Judges.{Judges}
+use Rattle.law_typing.specs.Graph.{graph}
+use Rattle.law_typing.specs.Verdict.{Verdict}
+use Rattle.law_typing.specs.Verdict.Accepted.{Accepted}
+use Rattle.law_typing.specs.Verdict.Judges.{Answers, Judges}
+use Rattle.law_typing.proofs.ExactProofs.{accepted_is_judged}
 use Rattle.event_lines.specs.Texts.{lines_text, mismatch_text, nothing_begun, build_stopped}
 use Rattle.event_lines.specs.EventFileRun.{EventFileRun, InStep, Replies, text_from}
 use Rattle.event_lines.specs.Events.{event_replies}
@@ -48,6 +52,10 @@ seen_free (s ∷ pool) = ap (λ (l : List Seen). s ∷ l) (seen_free pool)
 pub all_free : (pool : List Seen) → AllFree (as_peers pool)
 all_free [] = tt
 all_free (s ∷ pool) = (refl, all_free pool)
+
+-- an accepted definition is judged so
+pub judges_accepted : (d : Definition) → Accepted d → Judges d None
+judges_accepted d accepted = subst (λ (v : Verdict). Answers (graph d) v None) (sym (accepted_is_judged d accepted)) refl
 
 -- the peers are closed that an object has got, by what is known of them
 closed_so : (pool : List Seen) (peers : List Peer) → taken_closed (with_seen pool peers) pool ≡ taken_closed peers pool

@@ -29,7 +29,7 @@ pub use exit_status::Ending;
 pub use line_handler::LineFault;
 pub use refusal::LineRefusal;
 pub use session_start::{Opening, open};
-pub use whole_runs::{Over, run, run_with};
+pub use whole_runs::{Over, run, run_judged, run_with};
 
 /// The greatest number of bytes of an event line, without its LF.
 pub const MAX_LINE_BYTES: usize = 65_536;

@@ -37,7 +37,6 @@ pub enum Opening<P: Peers> {
 /// Builds the definition that was accepted with the peers of a pool. Bytes that were refused or not judged are not opened, and the pool is
 /// handed back.
 pub fn open<P: Peers>(alloc: Global, judgement: Judgement, pool: P) -> Opening<P>
-    requires judged { (bytes : List ℕ) × IsJudged bytes judgement }
     ensures opened { (bytes : List ℕ) → IsJudged bytes judgement →
         Opened P.seen (P.relations pool) (as_peers (P.seen pool)) pool bytes result }
     ensures same { SameRelations (P.relations pool) (P.relations (pool_in result)) }
@@ -86,7 +85,6 @@ fn unstarted<P: Peers>(alloc: Global, refused: Refused<P>) -> Opening<P>
 
 // Builds a definition that is accepted.
 fn build<P: Peers>(alloc: Global, verified: Verified, pool: P) -> Opening<P>
-    requires judged { Judges verified None }
     ensures opened { (bytes : List ℕ) → denoted bytes ≡ Ok verified →
         Opened P.seen (P.relations pool) (as_peers (P.seen pool)) pool bytes result }
     ensures same { SameRelations (P.relations pool) (P.relations (pool_in result)) }

@@ -5,6 +5,7 @@ ghost use Rattle.builder_defs.specs.Denoted.{denoted};
 ghost use Rattle.native_peers.specs.Matching.{as_peers};
 ghost use Rattle.native_peers.specs.Seen.{SameRelations};
 ghost use Rattle.ui_engine.specs.SessionView.{state_at, without_lines};
+ghost use Rattle.event_lines.specs.CheckView.{IsJudged};
 ghost use Rattle.event_lines.specs.EventFileRun.{EventFileRun};
 ghost use Rattle.event_lines.specs.Events.{event_replies};
 ghost use Rattle.event_lines.specs.Lines.{lines_of};
@@ -12,7 +13,7 @@ ghost use Rattle.event_lines.specs.Texts.{joined, lines_text, nothing_begun, bui
 ghost use Rattle.event_lines.specs.Writing.{Sends, Puts, IsMarked};
 ghost use Rattle.event_lines.specs.Opening.{Concludes, Ran};
 
-use crate::definition_checks::judge;
+use crate::definition_checks::{Judgement, judge};
 use crate::devices::{Reader, Writer};
 use crate::event_file::handle_lines;
 use crate::output_buffer::Gather;
@@ -82,7 +83,30 @@ pub fn run_with<P: Peers, R: Reader, W: Writer>(
     ensures works { result.status ≢ 4 → (R.failed reader.new ≡ false) × (W.failed writer.new ≡ false) }
     ensures same { SameRelations (P.relations pool) (P.relations result.pool) }
 {
-    match open(alloc, judge(alloc, definition), pool) {
+    run_judged(alloc, judge(alloc, definition), pool, reader, writer)
+}
+
+/// Runs a definition that was judged, as [`run_with`] runs its bytes.
+pub fn run_judged<P: Peers, R: Reader, W: Writer>(
+    alloc: Global,
+    judgement: Judgement,
+    pool: P,
+    reader: &mut R,
+    writer: &mut W,
+) -> Over<P>
+    requires reader { R.failed reader.old ≡ false }
+    requires writer { W.failed writer.old ≡ false }
+    ensures ran { (bytes : List ℕ) → IsJudged bytes judgement → (input : List ℕ) × IfSome (R.left reader.old) (λ known. known ≡ input) × (text : List ℕ) ×
+        Ran (P.relations pool) (as_peers (P.seen pool)) (P.seen result.pool)
+        bytes (lines_of input) result.status (W.failed writer.new)
+        (reader.new ≡ reader.old) (R.left reader.old) (R.left reader.new) text
+        × Sends (R.reads reader.old) (R.reads reader.new) (W.sent writer.old) (W.sent writer.new) text }
+    ensures unread { (bytes : List ℕ) → IsJudged bytes judgement → OnErr (denoted bytes) (reader.new ≡ reader.old) }
+    ensures failed { result.status ≡ 4 → (R.failed reader.new || W.failed writer.new) ≡ true }
+    ensures works { result.status ≢ 4 → (R.failed reader.new ≡ false) × (W.failed writer.new ≡ false) }
+    ensures same { SameRelations (P.relations pool) (P.relations result.pool) }
+{
+    match open(alloc, judgement, pool) {
         Opening::Refused { text, pool } => {
             let status = refuse(writer, &text);
             Over { status, pool }

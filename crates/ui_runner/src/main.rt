@@ -1,25 +1,23 @@
 //! The program: `ui verify DEF` and `ui run DEF EVENTS`.
 #![tactic(auto)]
 
-ghost use Rattle.std.specs.Prelude.{◌≡◌, ◌≢◌, ⊤, IfOk, IfSome, None, Ok, false};
-ghost use Rattle.ui_machine.specs.Definition.{Definition};
-ghost use Rattle.builder_defs.specs.Denoted.{denoted};
+ghost use Rattle.std.specs.Prelude.{◌≡◌, ⊤, false};
 
 mod command_line;
 
-use builder_defs::{ReadError, read_definition};
 use command_line::{Request, RunFiles, WordsFault, read_words};
 use definitions::Definition;
 pub use event_lines::{check, run};
-use event_lines::{Counted, Ending, FileFault, definition_bytes, run_with};
+use event_lines::{Counted, Ending, FileFault, Judgement, definition_bytes, judge, run_judged};
 pub use host_peers::{Screen, Tally};
 use host_peers::{PoolProgram, run_with_stock};
 use native_peers::{Peers, StandIn};
-use std::alloc::{AllocError, Global};
+use std::alloc::AllocError;
 use std::env;
 use std::fs::File;
 use std::process::ExitCode;
 use ui_machine::Device;
+use verified::Verified;
 
 fn main(rt: HostRuntime) -> ExitCode {
     ExitCode::from(status(&rt))
@@ -75,31 +73,37 @@ fn check_file(rt: &HostRuntime, definition: &str) -> u8 {
     check(rt.alloc(), bytes.as_slice(), &mut writer)
 }
 
-// The run of a definition over a file of events.
+// The run of an accepted definition over a file of events.
 #[derive(Drop)]
 struct EventsRun<'a> {
     rt: &'a HostRuntime,
-    definition: &'a [u8],
+    verified: Verified,
     events: File,
 }
 
 impl PoolProgram for EventsRun<'_> {
+    ghost runs = { λ run. run.verified };
+
     ghost asks = { λ _ _. ⊤ };
 
     ghost answers = { λ _ _. ⊤ };
 
-    fn run<P: Peers>(self, pool: P) -> u8 {
-        let mut reader = device(self.events);
-        let mut writer = device(self.rt.stdout());
-        let over = run_with(
-            self.rt.alloc(),
-            self.definition,
-            pool,
-            &mut reader,
-            &mut writer,
-        );
-        over.status
+    fn definition(&self) -> &Definition {
+        self.verified.definition()
     }
+
+    fn run<P: Peers>(self, pool: P) -> u8 {
+        let judgement = Judgement::Accepted(self.verified);
+        run_over(self.rt, judgement, pool, self.events)
+    }
+}
+
+// Runs a definition that was judged over a file of events, and returns the status.
+fn run_over<P: Peers>(rt: &HostRuntime, judgement: Judgement, pool: P, events: File) -> u8 {
+    let mut reader = device(events);
+    let mut writer = device(rt.stdout());
+    let over = run_judged(rt.alloc(), judgement, pool, &mut reader, &mut writer);
+    over.status
 }
 
 // Reads the definition, opens the events, runs, and returns the status.
@@ -111,38 +115,29 @@ fn run_files(rt: &HostRuntime, files: RunFiles<'_>) -> u8 {
     let Ok(events) = File::open(rt, files.events) else {
         return unreadable(rt, files.events);
     };
-    let program = EventsRun {
-        rt,
-        definition: bytes.as_slice(),
-        events,
-    };
-    match run_with_peers(rt.alloc(), bytes.as_slice(), program) {
+    match judge(rt.alloc(), bytes.as_slice()) {
+        Judgement::Accepted(verified) => run_accepted(EventsRun {
+            rt,
+            verified,
+            events,
+        }),
+        refused => run_refused(rt, refused, events),
+    }
+}
+
+// Runs an accepted definition with the peers that the host makes for it.
+fn run_accepted(program: EventsRun<'_>) -> u8 {
+    let rt = program.rt;
+    match run_with_stock(rt.alloc(), program) {
         Ok(status) => status,
         Err(AllocError) => out_of_memory(rt),
     }
 }
 
-// Runs a definition with the peers that the host makes for it, or without peers if reading refuses it.
-fn run_with_peers(alloc: Global, bytes: &[u8], program: EventsRun<'_>) -> Result<u8, AllocError> {
-    match definition_of(alloc, bytes)? {
-        Some(definition) => run_with_stock(alloc, &definition, program),
-        None => {
-            let nobody: Option<StandIn> = None;
-            Ok(program.run(nobody))
-        }
-    }
-}
-
-// Returns the definition that some bytes denote, or None if they denote none.
-fn definition_of(alloc: Global, bytes: &[u8]) -> Result<Option<Definition>, AllocError>
-    ensures some { IfOk result (λ found. IfSome found (λ d. denoted bytes.now ≡ Ok d)) }
-    ensures none { IfOk result (λ found. found ≡ None → (d : Definition) → denoted bytes.now ≢ Ok d) }
-{
-    match read_definition(alloc, bytes) {
-        Ok(definition) => Ok(Some(definition)),
-        Err(ReadError::Refused(_)) => Ok(None),
-        Err(ReadError::OutOfMemory) => Err(AllocError),
-    }
+// Writes why a definition is not run. It needs no peers.
+fn run_refused(rt: &HostRuntime, judgement: Judgement, events: File) -> u8 {
+    let nobody: Option<StandIn> = None;
+    run_over(rt, judgement, nobody, events)
 }
 
 fn definition_at(rt: &HostRuntime, name: &str) -> Result<Vec<u8>, FileFault> {

@@ -1,18 +1,15 @@
 -- What a run of the program leaves of each peer of the pool that it is lent.
-use Rattle.std.proofs.Common.{◌≡◌, ◌<◌, ◌⊎◌, refl, ap, subst, ◌∙◌, ℕ, List, [], ◌∷◌, ◌++◌, true, inl, inr, length, map, string_bytes}
+use Rattle.std.proofs.Common.{◌≡◌, ◌<◌, ◌⊎◌, refl, ap, subst, ◌∙◌, ℕ, List, [], ◌∷◌, ◌++◌, true, inl, inr, length, map}
 use Rattle.ui_machine.specs.Definition.{Definition}
 use Rattle.ui_machine.specs.Definition.Names.{same_name}
-use Rattle.ui_machine.specs.State.Peers.{Peer, PeerState}
+use Rattle.ui_machine.specs.State.Peers.{Peer}
 use Rattle.machine_laws.specs.FrontLaws.{fronted}
 use Rattle.law_peers.specs.PeerLaws.{IsNamedApart}
 use Rattle.law_peers.proofs.ApartProofs.{matched_is_apart}
 use Rattle.law_left_peers.proofs.Names.PlainPlaces.{names_peers_plainly}
 use Rattle.law_typing.specs.Laws.WellRead.{no_two}
 use Rattle.native_peers.specs.Matching.{as_peers}
-use Rattle.native_peers.specs.Pool.{entries, seen}
-use Rattle.native_peers.specs.Seen.{Relations}
-use Rattle.native_peers.specs.declared.entries.NamedPeer.{NamedPeer}
-use Rattle.native_peers.specs.declared.pools.PeerPool.{PeerPool}
+use Rattle.native_peers.specs.Seen.{Relations, Seen}
 use Rattle.ui_engine.specs.Endings.{is_taken}
 use Rattle.law_left_peers.specs.Sessions.LeftPeers.{BreaksOff, state_in}
 use Rattle.law_left_peers.proofs.Sessions.LeftProofs.{run_leaves}
@@ -26,14 +23,13 @@ abbrev AreApart : List Peer → Type 0
 AreApart peers = no_two same_name (map (λ (p : Peer). p.name) peers) ≡ true
 
 -- the names of the peers of a pool
-names_so : {I : Type 0} {Held : I → Type 0} (state_of : NamedPeer I Held → PeerState) (ps : List (NamedPeer I Held)) →
-    map (λ (p : Peer). p.name) (as_peers (seen state_of ps)) ≡ map (λ p. string_bytes p.name) ps
-names_so state_of [] = refl
-names_so state_of (p ∷ ps) = ap (λ t. string_bytes p.name ∷ t) (names_so state_of ps)
+names_so : (xs : List Seen) → map (λ (p : Peer). p.name) (as_peers xs) ≡ map (λ (x : Seen). x.name) xs
+names_so [] = refl
+names_so (x ∷ xs) = ap (λ names. x.name ∷ names) (names_so xs)
 
 -- so no two of those of a pool have
-pub pools_are_apart : {I : Type 0} {Held : I → Type 0} (state_of : NamedPeer I Held → PeerState) (pool : PeerPool I Held) → AreApart (as_peers (seen state_of (entries pool)))
-pools_are_apart state_of pool = ap (no_two same_name) (names_so state_of (entries pool)) ∙ pool.apart
+pub seen_apart : (xs : List Seen) → no_two same_name (map (λ (x : Seen). x.name) xs) ≡ true → AreApart (as_peers xs)
+seen_apart xs apart = ap (no_two same_name) (names_so xs) ∙ apart
 
 -- the peer of a number is kept apart by its name
 is_apart : (bytes : List ℕ) (d : Definition) (peers : List Peer) → IsTaken bytes d peers → AreApart peers → (k : ℕ) → k < length peers → IsNamedApart peers k

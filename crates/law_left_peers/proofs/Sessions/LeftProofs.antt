@@ -27,7 +27,7 @@ use Rattle.native_peers.specs.Seen.{Relations, Seen}
 use Rattle.engine_dispatches.specs.PoolView.{as_shown, one_more, seen_of}
 use Rattle.engine_dispatches.specs.PoolView as pools
 use Rattle.ui_engine.specs.Endings.{closed_if, is_taken, taken_closed}
-use Rattle.law_left_peers.specs.Sessions.LeftPeers.{BreaksOff, Comes, EventLeaves, IsLeft, OnceAtMost, RunLeaves, WorkedLeft, as_it_was, at_the_end, by_a_line, finished, state_in}
+use Rattle.law_left_peers.specs.Sessions.LeftPeers.{BreaksOff, Comes, BuildLeaves, EventLeaves, IsLeft, OnceAtMost, RunLeaves, WorkedLeft, as_it_was, at_the_end, by_a_line, finished, state_in}
 
 -- ** lines
 
@@ -148,6 +148,12 @@ run_leaves d peers events replies tally last new front shown run fronts shows k 
     lives =
         subst (λ (t : List (List ℕ)). Lives d peers replies (peer_lines t) new.peers) all
         (subst (λ (ps : List Peer). Lives d peers replies (peer_lines last.transcript) ps) (ap (λ (w : World). w.peers) fronts) (run_lives d peers events replies tally last run))
+
+-- ** a build
+
+pub build_leaves : BuildLeaves
+build_leaves d peers replies tally built run k apart =
+    comes d peers k apart built.transcript replies built.peers false (peer_in built.peers k).state (run_lives d peers [] replies tally built run) refl
 
 -- ** one event
 

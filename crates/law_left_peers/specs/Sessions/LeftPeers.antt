@@ -63,6 +63,14 @@ RunLeaves =
     (number : ℕ) → IsNamedApart peers number →
     Comes d peers number shown (is_taken new.peers number) (state_in (finished new) number)
 
+-- And of each peer of a build, which is a run without events, with its lines, and the pool that it leaves: nothing is closed without a line.
+abbrev pub BuildLeaves : Type 0
+BuildLeaves =
+    (d : Definition) (peers : List Peer) (replies : List Reply) (tally : Tally) (built : World) →
+    IsRun d peers [] replies tally built →
+    (number : ℕ) → IsNamedApart peers number →
+    Comes d peers number built.transcript false (peer_in built.peers number).state
+
 -- And of each peer of one event, with the lines that it adds, and the pool that it leaves: nothing is closed without a line.
 abbrev pub EventLeaves : Type 0
 EventLeaves =

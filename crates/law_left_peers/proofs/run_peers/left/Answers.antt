@@ -1,8 +1,12 @@
-use Rattle.law_left_peers.proofs.Runs.RunPeersProofs.{pools_are_apart, runs_leave, stops_leave}
+use Rattle.native_peers.specs.Matching.{as_peers}
+use Rattle.law_left_peers.proofs.Runs.RunPeersProofs.{runs_leave, seen_apart, stops_leave}
 use Rattle.law_left_peers.proofs.run_peers.left.Goals as goal
 
 pub returns : goal.returns
-returns g c = record {
-  runs = runs_leave _ _ (pools_are_apart _ c.args._pool.now);
-  stops = stops_leave _ _ (pools_are_apart _ c.args._pool.now);
-}
+returns g c =
+    let may = g.P.Peers.relations c.args.pool.now in
+    let seen = g.P.Peers.seen c.args.pool.now in
+    record {
+      runs = runs_leave may (as_peers seen) (seen_apart seen c.left-count.ensures.apart);
+      stops = stops_leave may (as_peers seen) (seen_apart seen c.left-count.ensures.apart);
+    }
