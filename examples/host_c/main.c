@@ -1,6 +1,8 @@
 /* A host in C: runs a definition over a file of event lines and prints what `ui run` prints, with its status.
  *
- *   main DEFINITION EVENTS
+ *   main DEFINITION EVENTS [STEPS]
+ *
+ * With STEPS each event is carried out in parts of so many counted steps, and what it says is printed after each part.
  */
 #include "gelvopaun.h"
 
@@ -39,8 +41,20 @@ static bool is_blank(const uint8_t *line, size_t length) {
   return true;
 }
 
+/* Carries out one line, whole or in parts of so many steps, and prints what it leads to. */
+static uint8_t run_line(gelvopaun_ui *ui, const uint8_t *line, size_t length, uint64_t steps, char *refusal, size_t room) {
+  uint8_t outcome = steps == 0 ? gelvopaun_dispatch(ui, line, length, (uint8_t *)refusal, room)
+                               : gelvopaun_begin(ui, line, length, (uint8_t *)refusal, room);
+  print_lines(ui);
+  while (outcome == GELVOPAUN_UNDER_WAY) {
+    outcome = gelvopaun_advance(ui, steps);
+    print_lines(ui);
+  }
+  return outcome;
+}
+
 /* Carries out each line and prints what it leads to. It answers the status. */
-static int run_lines(gelvopaun_ui *ui, const uint8_t *events, size_t length) {
+static int run_lines(gelvopaun_ui *ui, const uint8_t *events, size_t length, uint64_t steps) {
   int status = GELVOPAUN_DONE;
   unsigned long number = 0;
   for (size_t at = 0; at < length; number++) {
@@ -49,11 +63,10 @@ static int run_lines(gelvopaun_ui *ui, const uint8_t *events, size_t length) {
     at += count + 1;
     if (is_blank(line, count)) continue;
     char refusal[64];
-    uint8_t outcome = gelvopaun_dispatch(ui, line, count, (uint8_t *)refusal, sizeof refusal);
-    print_lines(ui);
-    if (outcome == GELVOPAUN_STOPPED) {
+    uint8_t outcome = run_line(ui, line, count, steps, refusal, sizeof refusal);
+    if (outcome == GELVOPAUN_STOPPED || outcome == GELVOPAUN_NO_MEMORY) {
       printf("line %lu stopped: OutOfMemory\n", number + 1);
-      return outcome;
+      return GELVOPAUN_STOPPED;
     }
     if (outcome == GELVOPAUN_LINE_REFUSED) {
       printf("line %lu refused: %.*s\n", number + 1, (int)sizeof refusal, refusal);
@@ -65,8 +78,10 @@ static int run_lines(gelvopaun_ui *ui, const uint8_t *events, size_t length) {
 
 int main(int count, char **words) {
   size_t definition_length, events_length;
-  uint8_t *definition = count == 3 ? read_file(words[1], &definition_length) : NULL;
-  uint8_t *events = count == 3 ? read_file(words[2], &events_length) : NULL;
+  bool is_usage = count == 3 || count == 4;
+  uint8_t *definition = is_usage ? read_file(words[1], &definition_length) : NULL;
+  uint8_t *events = is_usage ? read_file(words[2], &events_length) : NULL;
+  uint64_t steps = count == 4 ? strtoull(words[3], NULL, 10) : 0;
   if (definition == NULL || events == NULL) return 64;
   gelvopaun_ui ui = {0};
   char refusal[256];
@@ -74,7 +89,7 @@ int main(int count, char **words) {
   print_lines(&ui);
   if (status == GELVOPAUN_DEFINITION_REFUSED) printf("refused: %.*s\n", (int)sizeof refusal, refusal);
   if (status == GELVOPAUN_STOPPED) puts("stopped: OutOfMemory");
-  if (status == GELVOPAUN_DONE) status = run_lines(&ui, events, events_length);
+  if (status == GELVOPAUN_DONE) status = run_lines(&ui, events, events_length, steps);
   gelvopaun_finish(&ui);
   free(definition);
   free(events);

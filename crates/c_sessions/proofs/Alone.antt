@@ -18,9 +18,11 @@ use Rattle.event_lines.specs.OpeningView.{IsOpening, Opened}
 use Rattle.event_lines.specs.Texts.{lines_text}
 use Rattle.event_lines.specs.declared.session_start.Opening.TheVariants as code
 use Rattle.event_lines.proofs.EventLemmas.{answers_fault, answers_reply}
-use Rattle.c_sessions.specs.Nobody.{held, nobody}
+use Rattle.c_sessions.specs.Nobody.{nobody}
+use Rattle.c_sessions.specs.Reached.{held}
 use Rattle.c_sessions.specs.Starting.{IsBuilt, IsRefused, IsStopped}
-use Rattle.c_sessions.specs.Unread.{lines_since, unread}
+use Rattle.c_sessions.specs.Since.{lines_since}
+use Rattle.c_sessions.specs.Unread.{unread}
 use Rattle.c_sessions.specs.declared.hosted_session.HostedSession.{HostedSession}
 
 -- ** a start
@@ -67,7 +69,7 @@ module _ (old new : SessionState) (line : List ℕ) (event : Event) (denotes : e
 -- ** a session that is held
 
 module _ (bytes : List ℕ) (state : SessionState) (h : HostedSession) (is : held h ≡ state) (left : unread h ≡ lines_text state.world.transcript) where
-  unread_here : unread h ≡ lines_text h.session.core.world.transcript
+  unread_here : unread h ≡ lines_text h.running.core.world.transcript
   unread_here = left ∙ ap (λ (s : SessionState). lines_text s.world.transcript) (sym is)
 
   pub is_built : Opens nobody [] bytes (openings.built state) → IsBuilt bytes h

@@ -5,3 +5,6 @@ pub mod KeptValues
 pub mod LooseValues
 pub mod Padding
 pub mod Streams
+pub mod Telling
+pub mod LineParts
+pub mod Parts

@@ -1,9 +1,17 @@
 pub mod Buffers
+pub mod Courses
+pub mod Faults
 pub mod Handles
 pub mod Held
+pub mod LineBeginnings
 pub mod Nobody
 pub mod Places
+pub mod Reached
 pub mod Starting
 pub mod Statuses
+pub mod RunStates
+pub mod Since
 pub mod Unread
 pub mod Verdicts
+pub mod Moments
+pub mod Told

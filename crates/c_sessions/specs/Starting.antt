@@ -7,7 +7,8 @@ use Rattle.builder_defs.specs.Denoted.{denoted}
 use Rattle.event_lines.specs.CheckView.{IsRejected, IsUnread}
 use Rattle.event_lines.specs.Opening.{Opens, built, stopped}
 use Rattle.event_lines.specs.Texts.{lines_text, mismatch_text}
-use Rattle.c_sessions.specs.Nobody.{held, nobody}
+use Rattle.c_sessions.specs.Nobody.{nobody}
+use Rattle.c_sessions.specs.Reached.{held}
 use Rattle.c_sessions.specs.Unread.{unread}
 use Rattle.c_sessions.specs.declared.hosted_session.HostedSession.{HostedSession}
 use Rattle.c_sessions.specs.declared.starts.Started.{Started}
@@ -24,11 +25,11 @@ IsRefused bytes text = (IsUnread bytes text ⊎ IsRejected bytes text) ⊎ IsLac
 
 -- the session was built from these bytes, and none of its lines was taken
 abbrev pub IsBuilt : List ℕ → HostedSession → Type 0
-IsBuilt bytes h = Opens nobody [] bytes (built (held h)) × (unread h ≡ lines_text h.session.core.world.transcript)
+IsBuilt bytes h = Opens nobody [] bytes (built (held h)) × (unread h ≡ lines_text h.running.core.world.transcript)
 
 -- it stopped in its build from these bytes, and none of its lines was taken
 abbrev pub IsStopped : List ℕ → HostedSession → Type 0
-IsStopped bytes h = Opens nobody [] bytes (stopped (held h)) × (unread h ≡ lines_text h.session.core.world.transcript)
+IsStopped bytes h = Opens nobody [] bytes (stopped (held h)) × (unread h ≡ lines_text h.running.core.world.transcript)
 
 -- what the bytes of a definition may come to
 abbrev pub StartsAs : List ℕ → Started → Type 0

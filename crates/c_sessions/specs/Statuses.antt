@@ -9,3 +9,7 @@ code_of statuses.DefinitionRefused = 1
 code_of statuses.NoSession = 2
 code_of statuses.Stopped = 3
 code_of statuses.LineRefused = 5
+code_of statuses.UnderWay = 6
+code_of statuses.Busy = 7
+code_of statuses.NoMemory = 8
+code_of statuses.AtRest = 9

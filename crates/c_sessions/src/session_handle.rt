@@ -2,16 +2,21 @@
 
 ghost use Rattle.std.specs.Prelude.{◌≡◌, [], IfSome, None, Some, option_map};
 ghost use Rattle.c_sessions.specs.Held.{is_kept};
-ghost use Rattle.c_sessions.specs.Handles.{Dispatches, FailsAs, KeepsAs, Starts, Takes};
+ghost use Rattle.c_sessions.specs.Moments.{TellsNext};
+ghost use Rattle.c_sessions.specs.Told.{Finds, FindsNext, Tells, number_of, object_told, value_told};
+ghost use Rattle.c_sessions.specs.Handles.{AdvancesAs, BeginsAs, Dispatches, FailsAs, KeepsAs, Starts, Takes, status_of_part};
 
 use crate::buffers::write_text;
+use crate::faults::HostedFault;
 use crate::hosted_session::HostedSession;
 use crate::kept::Kept;
+use crate::readings::tell_text;
 use crate::starts::{Started, start};
 use crate::status::Status;
-use event_lines::LineFault;
 use std::alloc::Global;
 use std::mem;
+use ui_engine::{NextDue, SessionFault};
+use ui_machine::ObjectId;
 
 /// A handle that holds a session, or none. For C it is a struct of a truth value and an address. C neither reads nor writes them, except
 /// for the zero bytes with which a handle without a session begins.
@@ -68,6 +73,11 @@ impl SessionHandle {
             write_text(refusal, b"");
             return Status::NoSession;
         };
+        if session.is_under_way() {
+            self.put(alloc, session);
+            write_text(refusal, b"");
+            return Status::Busy;
+        }
         let outcome = session.dispatch_line(alloc, line);
         self.put(alloc, session);
         match outcome {
@@ -77,6 +87,60 @@ impl SessionHandle {
             }
             Err(fault) => report(fault, refusal),
         }
+    }
+
+    /// Makes the session begin the event of a line. If the event has more to do than its beginning it is under way then, and `advance` goes
+    /// on with it. The refusal is written as `dispatch` writes it.
+    pub fn begin(&mut self, alloc: Global, line: &[u8], refusal: &mut [u8]) -> Status
+        ensures { BeginsAs line.now refusal.old self.old.kept.session result self.new.kept.session refusal.new }
+    {
+        let Some(mut session) = self.take(alloc) else {
+            write_text(refusal, b"");
+            return Status::NoSession;
+        };
+        if session.is_under_way() {
+            self.put(alloc, session);
+            write_text(refusal, b"");
+            return Status::Busy;
+        }
+        let outcome = session.begin_line(alloc, line);
+        let goes_on = session.is_under_way();
+        self.put(alloc, session);
+        match outcome {
+            Ok(()) => {
+                write_text(refusal, b"");
+                status_of_part(Ok(()), goes_on)
+            }
+            Err(fault) => report(fault, refusal),
+        }
+    }
+
+    /// Goes on with the event that is under way for at most `most` counted steps, as `HostedSession::advance` does.
+    pub fn advance(&mut self, alloc: Global, most: u64) -> Status
+        ensures { AdvancesAs most self.old.kept.session result self.new.kept.session }
+    {
+        let Some(mut session) = self.take(alloc) else {
+            return Status::NoSession;
+        };
+        if !session.is_under_way() {
+            self.put(alloc, session);
+            return Status::AtRest;
+        }
+        let result = session.advance(most);
+        let goes_on = session.is_under_way();
+        self.put(alloc, session);
+        status_of_part(result, goes_on)
+    }
+
+    /// Returns when a turn of the session has something to run next, if no event comes before it. A handle without a session has nothing
+    /// to run.
+    pub fn next_due(&mut self, alloc: Global) -> Option<NextDue>
+        ensures { TellsNext self.old.kept.session result self.new.kept.session }
+    {
+        let session = self.take(alloc)?;
+        let due = session.next_due();
+        self.put(alloc, session);
+        Some(due)
     }
 
     /// Takes bytes of the session's lines as `HostedSession::take_lines` does, and returns how many. A handle without a session has none.
@@ -89,6 +153,58 @@ impl SessionHandle {
         let count = session.take_lines(out);
         self.put(alloc, session);
         count
+    }
+
+    /// Returns the lowest identity of an object that lives, from this one on, or 0 if there is none. No identity is 0.
+    pub fn next_object(&mut self, alloc: Global, from: u64) -> u64
+        ensures { FindsNext from self.old.kept.session result self.new.kept.session }
+    {
+        let Some(session) = self.take(alloc) else {
+            return 0;
+        };
+        let next = session.next_object(ObjectId(from));
+        self.put(alloc, session);
+        number_of(next)
+    }
+
+    /// Returns the identity of the document's object with this id, while the builder holds it, and otherwise 0.
+    pub fn identity(&mut self, alloc: Global, id: &[u8]) -> u64
+        ensures { Finds id.now self.old.kept.session result self.new.kept.session }
+    {
+        let Some(session) = self.take(alloc) else {
+            return 0;
+        };
+        let identity = session.identity(id);
+        self.put(alloc, session);
+        number_of(identity)
+    }
+
+    /// Writes an object as JSON, as much as there is room for, and returns the whole length. It is 0 if the object does not live, or if memory
+    /// is refused.
+    pub fn describe(&mut self, alloc: Global, object: u64, out: &mut [u8]) -> usize
+        ensures { Tells (object_told object) self.old.kept.session out.old result self.new.kept.session out.new }
+    {
+        let Some(session) = self.take(alloc) else {
+            write_text(out, b"");
+            return 0;
+        };
+        let text = session.object_text(alloc, ObjectId(object));
+        self.put(alloc, session);
+        tell_text(text, out)
+    }
+
+    /// Writes the value of an object's property as JSON, as much as there is room for, and returns the whole length. It is 0 if the object does
+    /// not live or has no such property, or if memory is refused.
+    pub fn get(&mut self, alloc: Global, object: u64, property: &[u8], out: &mut [u8]) -> usize
+        ensures { Tells (value_told object property.now) self.old.kept.session out.old result self.new.kept.session out.new }
+    {
+        let Some(session) = self.take(alloc) else {
+            write_text(out, b"");
+            return 0;
+        };
+        let text = session.value_text(alloc, ObjectId(object), property);
+        self.put(alloc, session);
+        tell_text(text, out)
     }
 
     /// Ends the session and frees it, if there is one.
@@ -154,16 +270,41 @@ fn boxed<T: Drop>(alloc: Global, value: T) -> Option<Box<T>>
     }
 }
 
+// Returns the number of an identity, or 0.
+fn number_of(id: Option<ObjectId>) -> u64
+    ensures { result ≡ number_of id }
+{
+    match id {
+        Some(id) => id.0,
+        None => 0,
+    }
+}
+
+// Returns the status of a part of an event, which goes on or not.
+fn status_of_part(part: Result<(), SessionFault>, goes_on: bool) -> Status
+    ensures { result ≡ status_of_part part goes_on }
+{
+    match part {
+        Ok(()) if goes_on => Status::UnderWay,
+        Ok(()) => Status::Done,
+        Err(_) => Status::Stopped,
+    }
+}
+
 // Returns the status for a fault. The name of the refusal of a line is written, and otherwise an empty text.
-fn report(fault: LineFault, refusal: &mut [u8]) -> Status
+fn report(fault: HostedFault, refusal: &mut [u8]) -> Status
     ensures { FailsAs fault refusal.old result refusal.new }
 {
     match fault {
-        LineFault::Refused(why) => {
+        HostedFault::Refused(why) => {
             write_text(refusal, why.name().as_bytes());
             Status::LineRefused
         }
-        LineFault::Stopped => {
+        HostedFault::NoMemory => {
+            write_text(refusal, b"");
+            Status::NoMemory
+        }
+        HostedFault::Stopped => {
             write_text(refusal, b"");
             Status::Stopped
         }

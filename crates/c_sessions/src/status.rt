@@ -3,7 +3,7 @@
 ghost use Rattle.std.specs.Prelude.{◌≡◌};
 ghost use Rattle.c_sessions.specs.Statuses.{code_of};
 
-/// The status of a call. The numbers are those with which `ui run` ends, and 2 for a handle without a session.
+/// The status of a call. The numbers up to 5 are those with which `ui run` ends, where 2 is for a handle without a session.
 #[derive(Clone, Copy, Debug, PartialEq, Eq)]
 pub enum Status {
     /// The call did what it was asked.
@@ -12,11 +12,18 @@ pub enum Status {
     DefinitionRefused,
     /// The handle has no session.
     NoSession,
-    /// Memory was refused. If it was refused while a line was read, nothing was done, and the session is as it was. Otherwise the session, if
-    /// there is one, has stopped, and carries nothing out any more.
+    /// Memory was refused, now or before. The session, if there is one, has stopped, and carries nothing out any more.
     Stopped,
     /// The line is refused, and the session goes on as it was.
     LineRefused,
+    /// The event is under way: it has more to do.
+    UnderWay,
+    /// Another event is under way, and nothing was done.
+    Busy,
+    /// Memory was refused while the line was read. Nothing was done, and the session goes on as it was.
+    NoMemory,
+    /// No event is under way, and nothing was done.
+    AtRest,
 }
 
 impl Status {
@@ -30,6 +37,10 @@ impl Status {
             Status::NoSession => 2,
             Status::Stopped => 3,
             Status::LineRefused => 5,
+            Status::UnderWay => 6,
+            Status::Busy => 7,
+            Status::NoMemory => 8,
+            Status::AtRest => 9,
         }
     }
 }

@@ -2,7 +2,8 @@
 
 ghost use Rattle.std.specs.Prelude.{◌≡◌, ◌++◌, ◌<◌, [], ◌∷◌, IfNone, IfSome, drop, length, min, take};
 ghost use Rattle.ui_engine.specs.SessionView.{without_lines};
-ghost use Rattle.c_sessions.specs.Nobody.{held};
+ghost use Rattle.c_sessions.specs.Courses.{FromWherever, HasComeStill};
+ghost use Rattle.c_sessions.specs.Reached.{held};
 ghost use Rattle.c_sessions.specs.Unread.{unread};
 
 use crate::hosted_session::HostedSession;
@@ -16,6 +17,9 @@ impl HostedSession {
         ensures left { unread self.new ≡ drop result (unread self.old) }
         ensures session { without_lines (held self.new) ≡ without_lines (held self.old) }
         ensures cleared { result < length out.old → held self.new ≡ without_lines (held self.old) }
+        // An event that is under way can still go on.
+        ensures course { self.new.running.course ≡ self.old.running.course }
+        ensures under_way { FromWherever self.old.running (λ event w front steps. HasComeStill event w front steps self.old.running self.new.running) }
     {
         'room: for place in 0..out.len() {
             let Some(byte) = self.next_byte() else {
@@ -31,9 +35,9 @@ impl HostedSession {
     fn next_byte(&mut self) -> Option<u8>
         ensures byte { IfSome result (λ byte. unread self.old ≡ byte ∷ unread self.new) }
         ensures none { IfNone result ((unread self.old ≡ []) × (self.new ≡ self.old)) }
-        ensures session { self.new.session ≡ self.old.session }
+        ensures running { self.new.running ≡ self.old.running }
     {
-        let line = self.session.transcript().get(self.line)?.as_bytes();
+        let line = self.running.transcript().get(self.line)?.as_bytes();
         match line.get(self.byte) {
             Some(byte) => {
                 let byte = *byte;
@@ -53,8 +57,10 @@ impl HostedSession {
         requires { unread self.now ≡ [] }
         ensures unread { unread self.new ≡ [] }
         ensures session { held self.new ≡ without_lines (held self.old) }
+        ensures course { self.new.running.course ≡ self.old.running.course }
+        ensures under_way { FromWherever self.old.running (λ event w front steps. HasComeStill event w front steps self.old.running self.new.running) }
     {
-        self.session.forget();
+        self.running.forget();
         self.line = 0;
         self.byte = 0;
     }

@@ -53,3 +53,38 @@ fn a_definition_is_verified(rt: HostRuntime) {
     assert!(rt; verify(alloc, b"{", &mut report) == Status::DefinitionRefused);
     assert!(rt; report.starts_with(b"refused: NotJson\n\0"));
 }
+
+const AGAIN: &str =
+    "{\"format\":1,\"classes\":[{\"name\":\"Box\",\"signals\":[{\"name\":\"s\"},{\"name\":\"t\"}],\
+    \"class-handlers\":[[\"s\",\"c\"],[\"t\",\"e\"]]}],\
+    \"programs\":[{\"name\":\"c\",\"params\":[\"some:Box\"],\"registers\":1,\
+    \"blocks\":[{\"code\":[[\"emit\",null,0,\"t\",null,[]],[\"return\",null]]}]},\
+    {\"name\":\"e\",\"params\":[\"some:Box\"],\"registers\":1,\"blocks\":[{\"code\":[[\"return\",null]]}]}],\
+    \"objects\":[{\"id\":\"b\",\"class\":\"Box\"}]}";
+
+#[test]
+fn an_event_is_carried_out_in_parts(rt: HostRuntime) {
+    let alloc = rt.alloc();
+    let mut ui = SessionHandle::closed();
+    let mut text = [1; 64];
+    assert!(rt; ui.advance(alloc, 1) == Status::NoSession);
+    assert!(rt; ui.start(alloc, AGAIN.as_bytes(), &mut text) == Status::Done);
+    assert!(rt; ui.advance(alloc, 1) == Status::AtRest);
+    let line = b"{\"emit\":[\"b\",\"s\",[]]}";
+    assert!(rt; ui.begin(alloc, line, &mut text) == Status::UnderWay);
+    assert!(rt; ui.begin(alloc, line, &mut text) == Status::Busy);
+    assert!(rt; ui.dispatch(alloc, line, &mut text) == Status::Busy);
+    assert!(rt; ui.advance(alloc, 2) == Status::UnderWay);
+    let count = ui.take_lines(alloc, &mut text);
+    assert_eq!(rt;
+        &text[..count],
+        b"build\nconstruct #1 Box\nend 0\nemit #1.s()\nrun c\n".as_slice()
+    );
+    assert!(rt; ui.advance(alloc, 2) == Status::UnderWay);
+    assert!(rt; ui.advance(alloc, 2) == Status::Done);
+    let count = ui.take_lines(alloc, &mut text);
+    assert_eq!(rt; &text[..count], b"emit #1.t()\nrun e\nend 5\n".as_slice());
+    assert!(rt; ui.begin(alloc, b"{\"emit\":[\"b\",\"u\",[]]}", &mut text) == Status::LineRefused);
+    assert!(rt; ui.begin(alloc, b"{\"turn\":1}", &mut text) == Status::Done);
+    drop(ui.into_session(alloc));
+}

@@ -5,13 +5,16 @@
 //! number.
 #![tactic(auto)]
 
-ghost use Rattle.std.specs.Prelude.{◌≡◌, None, length};
-ghost use Rattle.c_sessions.specs.Handles.{Dispatches, Starts, Takes};
+ghost use Rattle.std.specs.Prelude.{◌≡◌, None, Option, length};
+ghost use Rattle.ui_engine.specs.declared.next_due.NextDue.{NextDue};
+ghost use Rattle.c_sessions.specs.Handles.{AdvancesAs, BeginsAs, Dispatches, Starts, Takes};
+ghost use Rattle.c_sessions.specs.Moments.{TellsNext, code_of_due, moment_told};
 ghost use Rattle.c_sessions.specs.Statuses.{code_of};
+ghost use Rattle.c_sessions.specs.Told.{Finds, FindsNext, Tells, object_told, value_told};
 ghost use Rattle.c_sessions.specs.Verdicts.{Verifies};
 ghost use Rattle.c_sessions.specs.declared.status.Status.{Status};
 
-use c_sessions::{SessionHandle, verify};
+use c_sessions::{SessionHandle, tell_due, verify};
 use std::alloc::Global;
 
 /// Judges a definition and writes its report, as `c_sessions::verify` does.
@@ -48,6 +51,36 @@ pub extern "C" fn gelvopaun_dispatch(
     ui.dispatch(alloc, line, refusal).code()
 }
 
+/// Makes the session begin the event of a line, as `SessionHandle::begin` does.
+#[unsafe(no_mangle)]
+pub extern "C" fn gelvopaun_begin(
+    alloc: Global,
+    ui: &mut SessionHandle,
+    line: &[u8],
+    refusal: &mut [u8],
+) -> u8
+    ensures { (status : Status) × (result ≡ code_of status) × BeginsAs line.now refusal.old ui.old.kept.session status ui.new.kept.session refusal.new }
+{
+    ui.begin(alloc, line, refusal).code()
+}
+
+/// Goes on with the event that is under way, as `SessionHandle::advance` does.
+#[unsafe(no_mangle)]
+pub extern "C" fn gelvopaun_advance(alloc: Global, ui: &mut SessionHandle, most: u64) -> u8
+    ensures { (status : Status) × (result ≡ code_of status) × AdvancesAs most ui.old.kept.session status ui.new.kept.session }
+{
+    ui.advance(alloc, most).code()
+}
+
+/// Tells when a turn has something to run next, as `SessionHandle::next_due` and `tell_due` do.
+#[unsafe(no_mangle)]
+pub extern "C" fn gelvopaun_next_due(alloc: Global, ui: &mut SessionHandle, moment: &mut u64) -> u8
+    ensures { (due : Option NextDue) × TellsNext ui.old.kept.session due ui.new.kept.session × (result ≡ code_of_due due) × (moment.new ≡ moment_told due moment.old) }
+{
+    let due = ui.next_due(alloc);
+    tell_due(due, moment)
+}
+
 /// Takes bytes of the session's lines, as `SessionHandle::take_lines` does, and returns how many.
 #[unsafe(no_mangle)]
 pub extern "C" fn gelvopaun_take_lines(
@@ -58,6 +91,49 @@ pub extern "C" fn gelvopaun_take_lines(
     ensures { Takes out.old ui.old.kept.session result ui.new.kept.session out.new }
 {
     ui.take_lines(alloc, out)
+}
+
+/// Returns the lowest identity of an object that lives, from this one on, as `SessionHandle::next_object` does.
+#[unsafe(no_mangle)]
+pub extern "C" fn gelvopaun_next_object(alloc: Global, ui: &mut SessionHandle, from: u64) -> u64
+    ensures { FindsNext from ui.old.kept.session result ui.new.kept.session }
+{
+    ui.next_object(alloc, from)
+}
+
+/// Returns the identity of the document's object with this id, as `SessionHandle::identity` does.
+#[unsafe(no_mangle)]
+pub extern "C" fn gelvopaun_object(alloc: Global, ui: &mut SessionHandle, id: &[u8]) -> u64
+    ensures { Finds id.now ui.old.kept.session result ui.new.kept.session }
+{
+    ui.identity(alloc, id)
+}
+
+/// Writes an object as JSON, as `SessionHandle::describe` does, and returns the whole length.
+#[unsafe(no_mangle)]
+pub extern "C" fn gelvopaun_describe(
+    alloc: Global,
+    ui: &mut SessionHandle,
+    object: u64,
+    out: &mut [u8],
+) -> usize
+    ensures { Tells (object_told object) ui.old.kept.session out.old result ui.new.kept.session out.new }
+{
+    ui.describe(alloc, object, out)
+}
+
+/// Writes the value of an object's property as JSON, as `SessionHandle::get` does, and returns the whole length.
+#[unsafe(no_mangle)]
+pub extern "C" fn gelvopaun_get(
+    alloc: Global,
+    ui: &mut SessionHandle,
+    object: u64,
+    property: &[u8],
+    out: &mut [u8],
+) -> usize
+    ensures { Tells (value_told object property.now) ui.old.kept.session out.old result ui.new.kept.session out.new }
+{
+    ui.get(alloc, object, property, out)
 }
 
 /// Ends the session and frees it, if there is one.

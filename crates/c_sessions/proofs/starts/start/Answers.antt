@@ -2,6 +2,7 @@ use Rattle.std.proofs.Common.{Option, ap, ◌∙◌}
 use Rattle.native_peers.specs.StandIns.{stand_ins}
 use Rattle.native_peers.specs.declared.stand_ins.StandIn.{StandIn}
 use Rattle.ui_engine.specs.SessionView.{state_at}
+use Rattle.c_sessions.specs.RunStates.{reached}
 use Rattle.c_sessions.proofs.Alone.{built_here, is_built, is_stopped, refused_alone, stopped_here}
 use Rattle.c_sessions.proofs.starts.start.Goals as goal
 
@@ -14,7 +15,7 @@ returns-in-Stopped c =
     let opened = c.in-Stopped.ensures.opened c.args.definition.now c.judge.ensures in
     let session = c.in-Stopped.session in
     is_stopped c.args.definition.now (state_at (stand_ins session.pool) session.core) c.of.result
-    (ap (λ s. state_at (stand_ins s.pool) s.core) c.of.ensures.session) c.of.ensures.unread
+    (ap reached c.of.ensures.running) c.of.ensures.unread
     (stopped_here stand_ins c.args.definition.now session opened.opening opened.is opened.opens)
 
 pub returns : goal.returns
@@ -22,5 +23,5 @@ returns c =
     let opened = c.in-Built.ensures.opened c.args.definition.now c.judge.ensures in
     let session = c.in-Built.session in
     is_built c.args.definition.now (state_at (stand_ins session.pool) session.core) c.of-in-Built.result
-    (ap (λ s. state_at (stand_ins s.pool) s.core) c.of-in-Built.ensures.session) c.of-in-Built.ensures.unread
+    (ap reached c.of-in-Built.ensures.running) c.of-in-Built.ensures.unread
     (built_here stand_ins c.args.definition.now session opened.opening opened.is opened.opens)

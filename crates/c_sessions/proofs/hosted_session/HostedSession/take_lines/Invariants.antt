@@ -8,5 +8,5 @@ invariant-room l = record {
   within : l.place ≤ length (unread l.fn.self);
   taken : l.out ≡ take l.place (unread l.fn.self) ++ drop l.place l.fn.out;
   left : unread l.self ≡ drop l.place (unread l.fn.self);
-  session : l.self.session ≡ l.fn.self.session;
+  running : l.self.running ≡ l.fn.self.running;
 }

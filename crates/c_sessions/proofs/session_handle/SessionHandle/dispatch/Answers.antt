@@ -1,21 +1,43 @@
-use Rattle.std.proofs.Common.{Err, length}
+use Rattle.std.proofs.Common.{◌≡◌, false, Err, Ok, Result, ap, subst, sym, ◌∙◌}
+use Rattle.std.specs.Prelude.{IfErr, is_some}
 use Rattle.event_lines.specs.EventFileRun.{said}
-use Rattle.event_lines.specs.LineOutcome.{outcome_of}
-use Rattle.c_sessions.proofs.Handling.{dispatches_failed, hears_by, keeps_hearing}
+use Rattle.c_sessions.specs.Faults.{outcome_here}
+use Rattle.c_sessions.specs.LineBeginnings.{LeavesBy}
+use Rattle.c_sessions.specs.RunStates.{is_under_way}
+use Rattle.c_sessions.specs.declared.faults.HostedFault.{HostedFault}
+use Rattle.c_sessions.specs.declared.hosted_session.HostedSession.{HostedSession}
+use Rattle.c_sessions.proofs.Handling.{dispatches_failed, hears_by, is_busy, keeps_hearing}
 use Rattle.c_sessions.proofs.session_handle.SessionHandle.dispatch.Goals as goal
+
+pub returns-then-is_under_way : goal.returns-then-is_under_way
+returns-then-is_under_way c = (
+  is_busy c.args.self.now.kept.session c.put.new.self.kept.session c.in-Some.session.value c.deref.result.now c.deref.ensures c.in-Some.ensures.taken c.put.ensures
+      (sym c.is_under_way.ensures ∙ c.if-is_under_way.true),
+  c.write_text-then-is_under_way.ensures,
+)
 
 pub returns-in-Ok : goal.returns-in-Ok
 returns-in-Ok c =
-    let heard = c.dispatch_line-outcome in let lent = c.deref_mut.result.now in (
-      keeps_hearing c.args.line.now said c.args.self.now.kept.session c.put.new.self.kept.session c.in-Some.session.value lent heard.new.self c.deref_mut.ensures.value c.in-Some.ensures.taken c.put.ensures
-          (hears_by c.args.line.now heard.result _ lent heard.new.self c.in-Ok.is heard.ensures.replies heard.ensures.unread),
+    let heard = c.dispatch_line-outcome in
+    let lent = c.deref_mut.result.now in
+    let rests : is_under_way lent.running ≡ false =
+    ap (λ (h : HostedSession). is_under_way h.running) (c.deref_mut.ensures.value ∙ sym c.deref.ensures) ∙ sym c.is_under_way.ensures ∙ c.if-is_under_way.false in (
+      keeps_hearing c.args.line.now said (λ before after. Unit {0}) c.args.self.now.kept.session c.put-2.new.self.kept.session c.in-Some.session.value lent heard.new.self c.deref_mut.ensures.value c.in-Some.ensures.taken
+          c.put-2.ensures rests (ap is_some heard.ensures.course ∙ rests)
+          (hears_by c.args.line.now heard.result (Ok tt) lent heard.new.self c.in-Ok.is heard.ensures.replies heard.ensures.unread heard.ensures.stays) tt,
       c.write_text-in-Ok.ensures,
     )
 
 pub returns-in-Err : goal.returns-in-Err
 returns-in-Err c =
-    let heard = c.dispatch_line-outcome in let lent = c.deref_mut.result.now in let fault = c.in-Err.fault in
-    dispatches_failed c.args.line.now c.args.refusal.now fault c.args.self.now.kept.session c.put.new.self.kept.session c.report.result c.report.new.refusal
-    (keeps_hearing c.args.line.now (outcome_of {T = Unit {0}} (Err fault)) c.args.self.now.kept.session c.put.new.self.kept.session c.in-Some.session.value lent heard.new.self c.deref_mut.ensures.value
-    c.in-Some.ensures.taken c.put.ensures (hears_by c.args.line.now heard.result _ lent heard.new.self c.in-Err.is heard.ensures.replies heard.ensures.unread))
+    let heard = c.dispatch_line-outcome in
+    let lent = c.deref_mut.result.now in
+    let fault = c.in-Err.fault in
+    let rests : is_under_way lent.running ≡ false =
+    ap (λ (h : HostedSession). is_under_way h.running) (c.deref_mut.ensures.value ∙ sym c.deref.ensures) ∙ sym c.is_under_way.ensures ∙ c.if-is_under_way.false in
+    dispatches_failed c.args.line.now c.args.refusal.now fault c.args.self.now.kept.session c.put-2.new.self.kept.session c.report.result c.report.new.refusal
+    (keeps_hearing c.args.line.now (outcome_here (Err fault)) (λ before after. LeavesBy fault before.running after.running) c.args.self.now.kept.session c.put-2.new.self.kept.session c.in-Some.session.value lent heard.new.self
+    c.deref_mut.ensures.value c.in-Some.ensures.taken c.put-2.ensures rests (ap is_some heard.ensures.course ∙ rests)
+    (hears_by c.args.line.now heard.result (Err fault) lent heard.new.self c.in-Err.is heard.ensures.replies heard.ensures.unread heard.ensures.stays)
+    (subst (λ (r : Result (Unit {0}) HostedFault). IfErr r (λ (f : HostedFault). LeavesBy f lent.running heard.new.self.running)) c.in-Err.is heard.ensures.leaves))
     c.report.ensures
