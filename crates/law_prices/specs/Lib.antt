@@ -1,0 +1,12 @@
+pub mod Asked
+pub mod Deeds
+pub mod Lists
+pub mod Prices
+pub mod Steps
+pub mod Potential
+pub mod Dispatches
+pub mod Falls
+pub mod Paid
+pub mod Solved
+pub mod Today
+pub mod Worked
