@@ -77,11 +77,10 @@ module _ (old names : List Named) (es : List Row) (name : List ℕ) (i : ℕ) (v
   at = ap (λ xs. place_of xs name) seen ∙ place
 
   -- a class has the name under the number that its numbers got
-  pub addition : (index class number : ℕ) → index ≡ class → GivesNumber v.entries w.entries index number → Adds old (map named (set_value_at es i w)) class name number
-  addition index class number same gives =
+  pub addition : (class number : ℕ) → GivesNumber v.entries w.entries class number → Adds old (map named (set_value_at es i w)) class name number
+  addition class number gives =
       subst (λ new. Adds old new class name number) (sym (named-set_value_at es i w))
-      (λ c n. set_numbers-adds (map named es) name i v.entries w.entries at (numbers-value es i v is) class number
-      (subst (λ k. GivesNumber v.entries w.entries k number) same gives) c n
+      (λ c n. set_numbers-adds (map named es) name i v.entries w.entries at (numbers-value es i v is) class number gives c n
       ∙ ap (with_number (nat_eq c class && same_name name n) number) (before c n))
 
   -- where its numbers read the same, no name's number differs

@@ -22,7 +22,7 @@ pub struct NameTable {
 }
 
 /// The number that a name has in each class that has it, by the index of the class.
-type Numbers = BTreeMap<usize, u16>;
+type Numbers = BTreeMap<TypeId, u16>;
 
 impl Model for NameTable {
     ghost use Rattle.std.specs.Prelude.{List, map, string_bytes};
@@ -73,7 +73,7 @@ impl NameTable {
         ensures err { OnErr result (SameNumbers self.old self.new) }
     {
         let place = self.intern(name)?;
-        give_number(&mut self.names[place], class.index(), number)
+        give_number(&mut self.names[place], class, number)
     }
 
     /// For each name, lets each class without a number inherit the number of its parent, if the parent has one, from the root down.
@@ -103,7 +103,7 @@ impl NameTable {
         ensures { result ≡ number_at self.now class name }
     {
         let (_, numbers) = self.names.get_index(name)?;
-        numbers.get(&class.index()).copied()
+        numbers.get(&class).copied()
     }
 
     /// Returns the text of a name.
@@ -116,7 +116,7 @@ impl NameTable {
 }
 
 // Sets the number of a class, unless it has one already.
-fn give_number(numbers: &mut Numbers, class: usize, number: u16) -> Result<(), AllocError>
+fn give_number(numbers: &mut Numbers, class: TypeId, number: u16) -> Result<(), AllocError>
     ensures ok { OnOk result (GivesNumber numbers.old.entries numbers.new.entries class number) }
     ensures err { OnErr result (ReadsSame numbers.old.entries numbers.new.entries) }
 {
@@ -143,7 +143,7 @@ fn inherit_number(numbers: &mut Numbers, tree: &TypeTree, class: TypeId) -> Resu
     ensures { OnOk result (InheritsNumber tree.now numbers.old.entries numbers.new.entries class) }
 {
     match parent_number(numbers, tree, class) {
-        Some(number) => give_number(numbers, class.index(), number),
+        Some(number) => give_number(numbers, class, number),
         None => Ok(()),
     }
 }
@@ -153,5 +153,5 @@ fn parent_number(numbers: &Numbers, tree: &TypeTree, class: TypeId) -> Option<u1
     ensures { result ≡ parent_number tree.now numbers.now.entries class }
 {
     let parent = tree.parent(class)?;
-    numbers.get(&parent.index()).copied()
+    numbers.get(&parent).copied()
 }

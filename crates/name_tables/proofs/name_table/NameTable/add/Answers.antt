@@ -12,7 +12,7 @@ pub returns-clause-ok : goal.returns-clause-ok
 returns-clause-ok c =
     on_ok_weaker c.give_number.result
     (addition c.args.self.now c.intern.new.self c.self.inside.names.entries c.args.name.now c.in_ok-place.place c.index_mut.result.now c.give_number.new.numbers
-    c.self.view_is c.in_ok-place.ensures.ok c.in_ok-place.ensures.found c.index_mut.ensures.value c.index.result c.args.class c.args.number c.index.ensures)
+    c.self.view_is c.in_ok-place.ensures.ok c.in_ok-place.ensures.found c.index_mut.ensures.value c.args.class c.args.number)
     c.give_number.ensures.ok
 
 pub returns-clause-err : goal.returns-clause-err
