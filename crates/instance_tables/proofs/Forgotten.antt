@@ -14,13 +14,15 @@ use Rattle.ui_machine.proofs.Listed.{listed-same}
 use Rattle.ui_machine.specs.declared.ids.ObjectId.{ObjectId}
 use Rattle.instance_tables.specs.Store.{Store, ids_of, with_objects}
 use Rattle.instance_tables.specs.Family.{parent_in, KeepsKin}
-use Rattle.instance_tables.specs.View.{Lookup, object_in, count_in, objects_of, counts_of, held_in, store_of, InRange, IsLowestUnheld, KinInRange}
+use Rattle.instance_tables.specs.View.{Lookup, object_in, count_in, objects_of, counts_of, held_in, store_of, InRange, KinInRange}
 use Rattle.instance_tables.specs.Bounds.{AllHoldFew, HoldsFew}
 use Rattle.instance_tables.specs.Names.{forgotten_in, NamersKnow}
 use Rattle.instance_tables.specs.Weak.{Marks, Knows, has_weak, masked, forgotten_value, forgetting}
 use Rattle.instance_tables.specs.declared.instance.Instance.{Instance}
 use Rattle.instance_tables.specs.declared.namers.Namers.{Namers}
-use Rattle.instance_tables.proofs.Lowest.{lowest_same}
+use Rattle.instance_tables.specs.Unheld.{KnowsUnheld}
+use Rattle.instance_tables.specs.declared.unheld.Unheld.{Unheld}
+use Rattle.instance_tables.proofs.Noted.{known_same as unheld_same}
 
 -- each object changed, and each count as it was
 pub all_changed : (at new : Lookup) (made limit : ℕ) (floats : List ObjectId) (old : Store) (change : Option Object → Option Object)
@@ -70,14 +72,14 @@ few_kept g keeps None all x e = absurd (cc)
 few_kept g keeps (Some w) all x e = let same : g w ≡ x = cc in subst (λ (z : Instance). HoldsFew z.object) same (keeps w (all w refl))
 
 -- a change of each instance that keeps its count and its kin, and holds as few
-pub still_known : (at new : Lookup) (made : ℕ) (low : Option ℕ) (names now : Namers) (g : Instance → Instance)
+pub still_known : (at new : Lookup) (made : ℕ) (u : Unheld) (names now : Namers) (g : Instance → Instance)
     → ((x : Instance) → (g x).mentions ≡ x.mentions) → ((x : Instance) → KeepsKin x.object (g x).object)
     → ((x : Instance) → HoldsFew x.object → HoldsFew (g x).object) → ((q : ℕ) → new q ≡ option_map g (at q)) → NamersKnow now new
-    → InRange at made × IsLowestUnheld (held_in at) low × KinInRange at made × NamersKnow names at × AllHoldFew at
-    → InRange new made × IsLowestUnheld (held_in new) low × KinInRange new made × NamersKnow now new × AllHoldFew new
-still_known at new made low names now g same keeps few is known well = (
+    → InRange at made × KnowsUnheld (held_in at) u × KinInRange at made × NamersKnow names at × AllHoldFew at
+    → InRange new made × KnowsUnheld (held_in new) u × KinInRange new made × NamersKnow now new × AllHoldFew new
+still_known at new made u names now g same keeps few is known well = (
   λ id some. well.0 id (sym (ap is_some (is id) ∙ was_there g (at id)) ∙ some),
-  lowest_same (held_in at) (held_in new) low
+  unheld_same (held_in at) (held_in new) u
       (λ q. ap (option_map (λ (x : Instance). x.mentions)) (is q) ∙ held_so g same (at q)) well.1,
   (
     λ id child some.

@@ -16,19 +16,21 @@ use Rattle.instance_tables.specs.Bounds.{AllHoldFew, HoldsFew}
 use Rattle.instance_tables.specs.Lent.{with_instance}
 use Rattle.instance_tables.specs.Names.{names_any, MayName, NamersKnow, StaysBeside}
 use Rattle.instance_tables.specs.Store.{Store}
-use Rattle.instance_tables.specs.View.{Lookup, held_in, lower_of, object_in, store_of, InRange, IsHeldOrGone, IsLowestUnheld, KinInRange, Replaces, instances_at}
+use Rattle.instance_tables.specs.Unheld.{KnowsUnheld, IsLetGo}
+use Rattle.instance_tables.specs.View.{Lookup, held_in, object_in, store_of, InRange, IsHeldOrGone, KinInRange, Replaces, instances_at}
 use Rattle.instance_tables.specs.declared.instance.Instance.{Instance}
 use Rattle.instance_tables.specs.declared.namers.Namers.{Namers}
+use Rattle.instance_tables.specs.declared.unheld.Unheld.{Unheld}
 use Rattle.instance_tables.proofs.Exact.{one_more, split}
-use Rattle.instance_tables.proofs.Lowest.{lowest_kept, lowest_let_go, lowest_same}
 use Rattle.instance_tables.proofs.Maps.{written}
 use Rattle.instance_tables.proofs.Naming.{known_gone, known_replaced, known_same}
 use Rattle.instance_tables.proofs.Short.{no_more}
 use Rattle.instance_tables.proofs.Shown.{found_in, given_out}
+use Rattle.instance_tables.proofs.Noted.{known_same as unheld_same}
 
 -- what holds of all instances
-abbrev pub Well : Lookup → ℕ → Option ℕ → Namers → Type 0
-Well at made low names = InRange at made × IsLowestUnheld (held_in at) low × KinInRange at made × NamersKnow names at × AllHoldFew at
+abbrev pub Well : Lookup → ℕ → Unheld → Namers → Type 0
+Well at made u names = InRange at made × KnowsUnheld (held_in at) u × KinInRange at made × NamersKnow names at × AllHoldFew at
 
 -- the children and the parent of one object were given
 abbrev pub KinGiven : ℕ → Option Object → Type 0
@@ -66,31 +68,24 @@ module _ (at new : Lookup) (made id : ℕ) (was y : Instance) (here : at id ≡ 
   more_held : 0 < y.mentions → held_in new id ≡ Some 0 → ⊥
   more_held more e = let same : Some y.mentions ≡ Some 0 = sym held_here ∙ e in let zero : y.mentions ≡ 0 = cc in omega (arith, more, zero)
 
-  still_lowest : (low : Option ℕ) → IsLowestUnheld (held_in at) low → y.mentions ≡ was.mentions → IsLowestUnheld (held_in new) low
-  still_lowest low noted same =
-      lowest_same (held_in at) (held_in new) low
+  still_unheld : (u : Unheld) → KnowsUnheld (held_in at) u → y.mentions ≡ was.mentions → KnowsUnheld (held_in new) u
+  still_unheld u noted same =
+      unheld_same (held_in at) (held_in new) u
       (λ q. elim (cases_eq q id) [
         | inl is ↦ ap (held_in new) is ∙ held_here ∙ ap Some same ∙ sym held_was ∙ ap (held_in at) (sym is)
         | inr ne ↦ held_others q ne
       ]) noted
 
   -- one that is held less often
-  less_lowest : (low t : Option ℕ) → IsLowestUnheld (held_in at) low → y.mentions ≤ was.mentions → (0 < y.mentions → t ≡ low)
-      → (y.mentions ≡ 0 → t ≡ Some (lower_of low id)) → IsLowestUnheld (held_in new) t
-  less_lowest low t noted less held unheld =
-      elim (cases_eq y.mentions 0) [
-        | inl zero ↦
-            subst (IsLowestUnheld (held_in new)) (sym (unheld zero))
-            (lowest_let_go (held_in at) (held_in new) low id held_others noted (held_here ∙ ap Some zero))
-        | inr ne ↦
-            let more : 0 < y.mentions = omega (arith, ne) in
-            subst (IsLowestUnheld (held_in new)) (sym (held more))
-            (lowest_kept (held_in at) (held_in new) low id held_others noted (more_held more)
-            (λ e.
-            let none : Some was.mentions ≡ Some 0 = sym held_was ∙ noted.unheld id e in
-            let zero : was.mentions ≡ 0 = cc in
-            omega (arith, more, less, zero)))
-      ]
+  is_let_go : y.mentions ≤ was.mentions → IsLetGo (held_in at) (held_in new) id y.mentions
+  is_let_go less = record {
+    here = held_here;
+    less = λ more e.
+        let none : Some was.mentions ≡ Some 0 = sym held_was ∙ e in
+        let zero : was.mentions ≡ 0 = cc in
+        omega (arith, more, less, zero);
+    others = held_others;
+  }
 
   still_kin : KinInRange at made → KinGiven made (Some y.object) → KinInRange new made
   still_kin kin given = (children, parents)
@@ -127,9 +122,9 @@ kin_kept at made id was o kin here keeps = (
 same_kin : (o p : Object) → p ≡ o → KeepsKin o p
 same_kin o p e = record { children = ap (λ (x : Object). x.children) e; parent = ap (λ (x : Object). x.parent) e }
 
-module _ (m : List (ℕ × Instance)) (made : ℕ) (low : Option ℕ) (names : Namers) (id : ℕ) (was y : Instance)
-    (here : instances_at m id ≡ Some was) (well : Well (instances_at m) made low names) where
-  replaced_well : (t : Option ℕ) (now : Namers) → KinGiven made (Some y.object) → HoldsFew y.object → IsLowestUnheld (held_in (instances_at (with_instance m id y))) t
+module _ (m : List (ℕ × Instance)) (made : ℕ) (u : Unheld) (names : Namers) (id : ℕ) (was y : Instance)
+    (here : instances_at m id ≡ Some was) (well : Well (instances_at m) made u names) where
+  replaced_well : (t : Unheld) (now : Namers) → KinGiven made (Some y.object) → HoldsFew y.object → KnowsUnheld (held_in (instances_at (with_instance m id y))) t
       → NamersKnow now (instances_at (with_instance m id y)) → Well (instances_at (with_instance m id y)) made t now
   replaced_well t now given few noted known =
       let replaces = written m id was y here in (
@@ -142,10 +137,10 @@ module _ (m : List (ℕ × Instance)) (made : ℕ) (low : Option ℕ) (names : N
 
   -- an object with other values and other kin, as often held, where what it names is known
   pub named_well : (now : Namers) → KinGiven made (Some y.object) → HoldsFew y.object → y.mentions ≡ was.mentions → StaysBeside id names now
-      → ((t : ℕ) → names_any t y.object.values ≡ true → MayName now t id) → Well (instances_at (with_instance m id y)) made low now
+      → ((t : ℕ) → names_any t y.object.values ≡ true → MayName now t id) → Well (instances_at (with_instance m id y)) made u now
   named_well now given few same beside own =
       let replaces = written m id was y here in
-      replaced_well low now given few (still_lowest (instances_at m) (instances_at (with_instance m id y)) made id was y here replaces low well.1 same)
+      replaced_well u now given few (still_unheld (instances_at m) (instances_at (with_instance m id y)) made id was y here replaces u well.1 same)
       (known_replaced (instances_at m) (instances_at (with_instance m id y)) id names now well.3 beside y replaces own)
 
   -- an object that keeps its values
@@ -154,14 +149,14 @@ module _ (m : List (ℕ × Instance)) (made : ℕ) (low : Option ℕ) (names : N
 
   -- an object with other kin, as often held
   pub kin_well : KinGiven made (Some y.object) → HoldsFew y.object → y.mentions ≡ was.mentions → y.object.values ≡ was.object.values
-      → Well (instances_at (with_instance m id y)) made low names
+      → Well (instances_at (with_instance m id y)) made u names
   kin_well given few same still =
-      replaced_well low names given few
-      (still_lowest (instances_at m) (instances_at (with_instance m id y)) made id was y here (written m id was y here) low well.1 same) (same_known still)
+      replaced_well u names given few
+      (still_unheld (instances_at m) (instances_at (with_instance m id y)) made id was y here (written m id was y here) u well.1 same) (same_known still)
 
   -- another object with the same kin, as often held
   pub same_well : KeepsKin was.object y.object → y.mentions ≡ was.mentions → y.object.values ≡ was.object.values
-      → Well (instances_at (with_instance m id y)) made low names
+      → Well (instances_at (with_instance m id y)) made u names
   same_well keeps same still =
       kin_well (kin_kept (instances_at m) made id was y.object well.2 here keeps)
       (no_more was.object y.object (well.4 id was here) (ap (λ vs. length vs) still)
@@ -175,13 +170,13 @@ module _ (m : List (ℕ × Instance)) (made : ℕ) (low : Option ℕ) (names : N
   same_few same = subst HoldsFew (sym same) (well.4 id was here)
 
   -- the same object, as often held
-  pub unchanged_well : y.object ≡ was.object → y.mentions ≡ was.mentions → Well (instances_at (with_instance m id y)) made low names
+  pub unchanged_well : y.object ≡ was.object → y.mentions ≡ was.mentions → Well (instances_at (with_instance m id y)) made u names
   unchanged_well same still = kin_well (same_object same) (same_few same) still (ap (λ (o : Object). o.values) same)
 
   -- the same object, held more often
-  pub held_well : (t : Option ℕ) → y.object ≡ was.object → 0 < y.mentions
-      → ((held : ℕ → Option ℕ) → IsLowestUnheld held low → IsHeldOrGone held (held_in (instances_at (with_instance m id y))) id
-      → IsLowestUnheld (held_in (instances_at (with_instance m id y))) t)
+  pub held_well : (t : Unheld) → y.object ≡ was.object → 0 < y.mentions
+      → ((held : ℕ → Option ℕ) → KnowsUnheld held u → IsHeldOrGone held (held_in (instances_at (with_instance m id y))) id
+      → KnowsUnheld (held_in (instances_at (with_instance m id y))) t)
       → Well (instances_at (with_instance m id y)) made t names
   held_well t same more found =
       let replaces = written m id was y here in
@@ -193,15 +188,17 @@ module _ (m : List (ℕ × Instance)) (made : ℕ) (low : Option ℕ) (names : N
       (same_known (ap (λ (o : Object). o.values) same))
 
   -- the same object, held less often
-  pub less_well : (t : Option ℕ) → y.object ≡ was.object → y.mentions ≤ was.mentions → (0 < y.mentions → t ≡ low)
-      → (y.mentions ≡ 0 → t ≡ Some (lower_of low id)) → Well (instances_at (with_instance m id y)) made t names
-  less_well t same less held unheld =
+  pub less_well : (t : Unheld) → y.object ≡ was.object → y.mentions ≤ was.mentions
+      → ((held new : ℕ → Option ℕ) → KnowsUnheld held u → IsLetGo held new id y.mentions → KnowsUnheld new t)
+      → Well (instances_at (with_instance m id y)) made t names
+  less_well t same less noted =
       replaced_well t names (same_object same) (same_few same)
-      (less_lowest (instances_at m) (instances_at (with_instance m id y)) made id was y here (written m id was y here) low t well.1 less held unheld)
+      (noted (held_in (instances_at m)) (held_in (instances_at (with_instance m id y))) well.1
+      (is_let_go (instances_at m) (instances_at (with_instance m id y)) made id was y here (written m id was y here) less))
       (same_known (ap (λ (o : Object). o.values) same))
 
 -- one that is taken out
-module _ (at new : Lookup) (made : ℕ) (low : Option ℕ) (names : Namers) (id : ℕ) (replaces : Replaces at new id None) (well : Well at made low names) where
+module _ (at new : Lookup) (made : ℕ) (u : Unheld) (names : Namers) (id : ℕ) (replaces : Replaces at new id None) (well : Well at made u names) where
   none_there : (q : ℕ) → q ≡ id → object_in (new q) ≡ None
   none_there q is = ap object_in (ap new is ∙ replaces.changed)
 
@@ -236,8 +233,8 @@ module _ (at new : Lookup) (made : ℕ) (low : Option ℕ) (names : Namers) (id 
         | inr ne ↦ well.4 q x (sym (replaces.others q ne) ∙ e)
       ]
 
-  pub gone_well : (t : Option ℕ) (now : Namers)
-      → ((held : ℕ → Option ℕ) → IsLowestUnheld held low → IsHeldOrGone held (held_in new) id → IsLowestUnheld (held_in new) t)
+  pub gone_well : (t : Unheld) (now : Namers)
+      → ((held : ℕ → Option ℕ) → KnowsUnheld held u → IsHeldOrGone held (held_in new) id → KnowsUnheld (held_in new) t)
       → StaysBeside id names now → Well new made t now
   gone_well t now found beside = (
     gone_range,

@@ -28,3 +28,4 @@ pub mod Short
 pub mod Names
 pub mod Naming
 pub mod Following
+pub mod Noted

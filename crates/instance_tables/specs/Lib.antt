@@ -8,3 +8,4 @@ pub mod Index
 pub mod Lent
 pub mod Bounds
 pub mod Names
+pub mod Unheld

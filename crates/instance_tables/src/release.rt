@@ -13,7 +13,6 @@ ghost use Rattle.instance_tables.specs.Release.{emptied, in_strong, marks_in, na
 
 use crate::forgetting::forget_everywhere;
 use crate::table::Table;
-use crate::unheld::lowest_beside;
 use crate::weak::WeakSlots;
 use ui_machine::ObjectId;
 
@@ -132,7 +131,7 @@ impl Table {
         ensures { self.new ≡ with_objects self.old (put self.old.objects id.0 None) }
     {
         let gone = self.instances.remove(id);
-        self.unheld = lowest_beside(&self.instances, self.unheld, id);
+        self.unheld.remove(&self.instances, id);
         self.namers.remove_gone(gone, id);
     }
 }

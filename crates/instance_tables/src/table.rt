@@ -15,7 +15,7 @@ use crate::instances::Instances;
 use crate::namers::Namers;
 use crate::object::Object;
 use crate::object_values::named;
-use crate::unheld::{lower, lowest_beside, lowest_with};
+use crate::unheld::Unheld;
 use g_values::Value;
 use std::alloc::{AllocError, Global};
 use std::marker::Model;
@@ -29,8 +29,7 @@ pub struct Table {
     pub(crate) made: u64,
     limit: u32,
     pub(crate) floating: Vec<ObjectId>,
-    // The lowest object that nothing holds.
-    pub(crate) unheld: Option<ObjectId>,
+    pub(crate) unheld: Unheld,
     // The index of which objects name which.
     pub(crate) namers: Namers,
     pub(crate) alloc: Global,
@@ -41,15 +40,15 @@ impl Model for Table {
 
     ghost Value = { Store };
 
-    ghost use Rattle.instance_tables.specs.Store.{id_of};
-    ghost use Rattle.instance_tables.specs.View.{instances_at, store_of, held_in, InRange, IsLowestUnheld, KinInRange};
+    ghost use Rattle.instance_tables.specs.Unheld.{KnowsUnheld};
+    ghost use Rattle.instance_tables.specs.View.{instances_at, store_of, held_in, InRange, KinInRange};
     ghost use Rattle.instance_tables.specs.Names.{NamersKnow};
     ghost use Rattle.instance_tables.specs.Bounds.{AllHoldFew};
 
     ghost view = { λ t. store_of (instances_at t.instances) t.made t.limit t.floating.items };
 
     ghost invariant = { λ t. InRange (instances_at t.instances) t.made
-        × IsLowestUnheld (held_in (instances_at t.instances)) (id_of t.unheld)
+        × KnowsUnheld (held_in (instances_at t.instances)) t.unheld
         × KinInRange (instances_at t.instances) t.made
         × NamersKnow t.namers (instances_at t.instances)
         × AllHoldFew (instances_at t.instances) };
@@ -65,7 +64,7 @@ impl Table {
             made: 0,
             limit,
             floating: Vec::new(alloc),
-            unheld: None,
+            unheld: Unheld::new(alloc),
             namers: Namers::new(alloc),
             alloc,
         }
@@ -134,7 +133,7 @@ impl Table {
         };
         self.instances.insert(ObjectId(id), instance)?;
         self.made = id;
-        self.unheld = Some(lower(self.unheld, ObjectId(id)));
+        self.unheld.let_go(ObjectId(id), 0);
         Ok(ObjectId(id))
     }
 
@@ -302,7 +301,7 @@ impl Table {
             return;
         };
         instance.mentions = instance.mentions.saturating_sub(times);
-        self.unheld = lowest_with(self.unheld, id, instance.mentions);
+        self.unheld.let_go(id, instance.mentions);
     }
 
     /// Raises the hold count of an object by one.
@@ -315,7 +314,7 @@ impl Table {
             return;
         };
         instance.mentions += 1;
-        self.unheld = lowest_beside(&self.instances, self.unheld, id);
+        self.unheld.remove(&self.instances, id);
     }
 
     /// Lowers the hold count of an object by one.
@@ -327,7 +326,7 @@ impl Table {
             return;
         };
         instance.mentions -= 1;
-        self.unheld = lowest_with(self.unheld, id, instance.mentions);
+        self.unheld.let_go(id, instance.mentions);
     }
 
     /// Returns the lowest identity of an object that nothing holds. Looks at no object, since the table keeps track of it as objects are
@@ -338,6 +337,6 @@ impl Table {
         ensures live { IfSome result (λ id. IsSome (living self.now.objects id.0)) }
         ensures unheld { IfSome result (λ id. count_of self.now.counts id.0 ≡ 0) }
     {
-        self.unheld
+        self.unheld.lowest
     }
 }

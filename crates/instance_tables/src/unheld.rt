@@ -1,47 +1,99 @@
-//! Tracking of the lowest object that nothing holds.
+//! The objects that nothing holds.
 //!
-//! A table stores that object's identity. It changes when an object is made, let go for the last time, held again, or removed. Objects are
-//! searched only if the stored one is held or gone, and only from it on, since those below it are held.
+//! The lowest identity of them is noted, and the others are kept in order: so the next lowest is found without a search when that object is
+//! held again or removed. If memory ran out for the others, objects are searched from it on, since those below it are held.
 
-ghost use Rattle.std.specs.Prelude.{◌≡◌, ℕ, ◌<◌, Some, Option};
+ghost use Rattle.std.specs.Prelude.{◌≡◌, ◌≢◌, ℕ, Bool, true, false, Some, None, Option, cond, max, nat_eq};
+ghost use Rattle.std.specs.BTreeSet.{contains};
+ghost use Rattle.std.specs.Ordering.{nat_cmp};
 ghost use Rattle.instance_tables.specs.Store.{id_of};
-ghost use Rattle.instance_tables.specs.View.{held_in, instances_at, lower_of, IsHeldOrGone, IsLowestUnheld};
+ghost use Rattle.instance_tables.specs.Unheld.{Adds, KnowsUnheld, IsLetGo, LeavesNext};
+ghost use Rattle.instance_tables.specs.View.{held_in, instances_at, IsHeldOrGone};
 
 use crate::instances::Instances;
+use std::alloc::Global;
+use std::collections::BTreeSet;
 use ui_machine::ObjectId;
 
-/// Returns the lower one of `noted`, if there is one, and `id`.
-pub(crate) fn lower(noted: Option<ObjectId>, id: ObjectId) -> ObjectId
-    ensures { result.0 ≡ lower_of (id_of noted) id.0 }
-{
-    match noted {
-        Some(lowest) => ObjectId(lowest.0.min(id.0)),
-        None => id,
-    }
+/// The identities of the objects that nothing holds.
+#[derive(Drop)]
+pub(crate) struct Unheld {
+    pub(crate) lowest: Option<ObjectId>,
+    pub(crate) others: BTreeSet<u64>,
+    // Whether `others` has all others.
+    pub(crate) is_whole: bool,
 }
 
-/// Returns the lowest object that nothing holds, given the one before and that `id` is now held `mentions` times.
-pub(crate) fn lowest_with(noted: Option<ObjectId>, id: ObjectId, mentions: u128) -> Option<ObjectId>
-    ensures held { 0 < mentions → result ≡ noted }
-    ensures unheld { mentions ≡ 0 → id_of result ≡ Some (lower_of (id_of noted) id.0) }
-{
-    if mentions > 0 {
-        return noted;
+impl Unheld {
+    /// Creates a collection without identities. Takes no memory.
+    pub(crate) fn new(alloc: Global) -> Self
+        ensures { KnowsUnheld (λ _. None) result }
+    {
+        Unheld {
+            lowest: None,
+            others: BTreeSet::new(alloc),
+            is_whole: true,
+        }
     }
-    Some(lower(noted, id))
-}
 
-/// Returns the lowest object that nothing holds, given the one before and that `id` is now held or gone.
-pub(crate) fn lowest_beside(
-    instances: &Instances,
-    noted: Option<ObjectId>,
-    id: ObjectId,
-) -> Option<ObjectId>
-    ensures { (held : ℕ → Option ℕ) → IsLowestUnheld held (id_of noted) → IsHeldOrGone held (held_in (instances_at instances.now)) id.0
-        → IsLowestUnheld (held_in (instances_at instances.now)) (id_of result) }
-{
-    if noted != Some(id) {
-        return noted;
+    /// Notes how often an object is held that was made or let go.
+    pub(crate) fn let_go(&mut self, id: ObjectId, mentions: u128)
+        ensures { (held new : ℕ → Option ℕ) → KnowsUnheld held self.old → IsLetGo held new id.0 mentions → KnowsUnheld new self.new }
+    {
+        if mentions == 0 {
+            self.add(id);
+        }
     }
-    instances.first_unheld(id)
+
+    // Adds the identity of an object that nothing holds now.
+    fn add(&mut self, id: ObjectId)
+        ensures { (held new : ℕ → Option ℕ) → KnowsUnheld held self.old → IsLetGo held new id.0 0 → KnowsUnheld new self.new }
+    {
+        let Some(lowest) = self.lowest else {
+            self.lowest = Some(id);
+            return;
+        };
+        if lowest == id {
+            return;
+        }
+        self.lowest = Some(ObjectId(lowest.0.min(id.0)));
+        self.add_other(lowest.0.max(id.0));
+    }
+
+    // Adds an identity beside the lowest one, unless memory ran out.
+    fn add_other(&mut self, id: u64)
+        ensures lowest { self.new.lowest ≡ self.old.lowest }
+        ensures others { self.new.is_whole ≡ true → Adds self.old self.new id }
+    {
+        if !self.is_whole {
+            return;
+        }
+        let Ok(_is_new) = self.others.insert(id) else {
+            self.is_whole = false;
+            return;
+        };
+    }
+
+    /// Notes that an object is held now or gone.
+    pub(crate) fn remove(&mut self, instances: &Instances, id: ObjectId)
+        ensures { (held : ℕ → Option ℕ) → KnowsUnheld held self.old → IsHeldOrGone held (held_in (instances_at instances.now)) id.0
+            → KnowsUnheld (held_in (instances_at instances.now)) self.new }
+    {
+        if self.lowest == Some(id) {
+            self.lowest = self.take_next(instances, id);
+        } else {
+            self.others.remove(&id.0);
+        }
+    }
+
+    // Takes the lowest one behind this one, which is held now or gone.
+    fn take_next(&mut self, instances: &Instances, id: ObjectId) -> Option<ObjectId>
+        ensures { LeavesNext instances.now id.0 self.old self.new (id_of result) }
+    {
+        if !self.is_whole {
+            return instances.first_unheld(id);
+        }
+        let next = self.others.pop_first()?;
+        Some(ObjectId(next))
+    }
 }

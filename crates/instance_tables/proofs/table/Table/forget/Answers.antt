@@ -26,7 +26,7 @@ returns c d knows =
 pub invariant_of-self : goal.invariant_of-self
 invariant_of-self c =
     still_known (instances_at c.self.inside.instances) (instances_at c.forget_everywhere.new.instances) c.self.inside.made
-    (id_of c.self.inside.unheld) c.self.inside.namers c.forget_everywhere.new.namers (forgotten_in c.args.weak.now c.args.id.0)
+    c.self.inside.unheld c.self.inside.namers c.forget_everywhere.new.namers (forgotten_in c.args.weak.now c.args.id.0)
     (λ x. refl) (λ x. record { children = refl; parent = refl }) (λ x few. forgetting_few c.args.weak.now c.args.id.0 x.object few)
     c.forget_everywhere.ensures.forgotten c.forget_everywhere.ensures.known
     c.self.invariant

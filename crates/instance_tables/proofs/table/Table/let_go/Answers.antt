@@ -30,5 +30,5 @@ pub invariant_of-self-2 : goal.invariant_of-self-2
 invariant_of-self-2 c =
     let here = sym c.get_mut.ensures.value ∙ ap option_copied_mut c.in-Some.is in
     let y : Instance = record { object = c.in-Some.instance.now.object; mentions = c.in-Some.instance.now.mentions - 1 } in
-    less_well c.self.inside.instances _ _ c.self.inside.namers _ _ y here c.self.invariant (id_of c.lowest_with-self-inside.result) refl
-    (omega arith) (λ more. ap id_of (c.lowest_with-self-inside.ensures.held more)) c.lowest_with-self-inside.ensures.unheld
+    less_well c.self.inside.instances _ _ c.self.inside.namers _ _ y here c.self.invariant c.let_go.new.self refl
+    (omega arith) c.let_go.ensures

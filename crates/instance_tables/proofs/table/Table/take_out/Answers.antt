@@ -13,4 +13,4 @@ pub invariant_of-self : goal.invariant_of-self
 invariant_of-self c =
     gone_well (instances_at c.self.inside.instances) (instances_at c.remove-gone.new.self) _ _ c.self.inside.namers _
     c.remove-gone.ensures.gone c.self.invariant
-    (id_of c.lowest_beside-self-inside.result) c.remove_gone.new.self c.lowest_beside-self-inside.ensures c.remove_gone.ensures
+    c.remove.new.self c.remove_gone.new.self c.remove.ensures c.remove_gone.ensures
