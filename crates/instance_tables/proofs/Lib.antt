@@ -7,6 +7,7 @@ pub mod Written
 pub mod Able
 pub mod Held
 pub mod Exact
+pub mod Counted
 pub mod WriteExact
 pub mod Shown
 pub mod Scan

@@ -1,4 +1,5 @@
 pub mod Store
+pub mod Children
 pub mod Family
 pub mod Weak
 pub mod Release

@@ -8,6 +8,7 @@
 #![tactic(auto)]
 
 mod bounds;
+mod children;
 mod error;
 mod family;
 mod forgetting;

@@ -14,7 +14,7 @@ ghost use Rattle.instance_tables.specs.Names.{names_any};
 ghost use Rattle.instance_tables.specs.Release.{emptied, name_in};
 ghost use Rattle.instance_tables.specs.Store.{id_of, ids_of, made_object};
 
-use crate::ids::remove_id;
+use crate::children::Children;
 use crate::object_values::{drop_values, forget_values, is_named, named};
 use crate::weak::WeakSlots;
 use g_values::Value;
@@ -36,7 +36,7 @@ pub struct Object {
     place: Place,
     values: Vec<Value>,
     queue: NotifyQueue,
-    children: Vec<ObjectId>,
+    children: Children,
     parent: Option<ObjectId>,
     disposed: bool,
     peer: Option<usize>,
@@ -57,7 +57,7 @@ impl Model for Object {
       values = map value_view o.values.items;
       freezes = o.queue.freezes;
       queue = o.queue.queue;
-      children = map (λ (i : ObjectId). i.0) o.children.items;
+      children = o.children;
       parent = option_map (λ (i : ObjectId). i.0) o.parent;
       disposed = o.disposed;
       peer = o.peer;
@@ -82,7 +82,7 @@ impl Object {
             place,
             values,
             queue,
-            children: Vec::new(alloc),
+            children: Children::new(alloc),
             parent: None,
             disposed: false,
             peer,
@@ -167,8 +167,7 @@ impl Object {
         ensures few { OnOk result (HoldsFew self.new) }
         ensures err { OnErr result (self.new ≡ self.old) }
     {
-        self.children.push(child)?;
-        Ok(())
+        self.children.add(child)
     }
 
     // Removes a child, and returns how often it was one.
@@ -176,7 +175,7 @@ impl Object {
         ensures object { self.new ≡ without_child child.0 self.old }
         ensures count { result + length self.new.children ≡ length self.old.children }
     {
-        remove_id(&mut self.children, child)
+        self.children.remove(child)
     }
 
     // Sets the weak values that name the other object to null.
@@ -215,7 +214,7 @@ impl Object {
     {
         drop_values(&mut self.values, weak.of(self.class));
         self.disposed = true;
-        mem::replace(&mut self.children, Vec::new(alloc))
+        mem::replace(&mut self.children, Children::new(alloc)).into_ids()
     }
 
     /// Returns the value in a slot that the object has.
