@@ -61,7 +61,8 @@ name_more bs old new h name =
 
 -- ** names of signals
 
-named_there : (signals : List Signal) (i : ℕ) (name : List ℕ)
+-- a name among those of signals
+pub named_there : (signals : List Signal) (i : ℕ) (name : List ℕ)
     → is_some (place_from (λ (s : Signal). s.name) i signals name) ≡ list_any (λ (s : Signal). same_name s.name name) signals
 named_there [] i name = refl
 named_there (s ∷ ss) i name = by (same_name s.name name) (named_there ss (suc i) name)
@@ -70,36 +71,6 @@ named_there (s ∷ ss) i name = by (same_name s.name name) (named_there ss (suc 
         → is_some (cond b (Some i) (place_from (λ (s : Signal). s.name) (suc i) ss name)) ≡ (b || list_any (λ (s : Signal). same_name s.name name) ss)
     by true rest = refl
     by false rest = rest
-
--- among the first signals, and one more
-pub names_turn : (signals : List Signal) (n : ℕ) (s : Signal) (name : List ℕ) (new mid had : Bool) → n < length signals → slice_get signals n ≡ Some s
-    → new ≡ (if bytes_eq s.name name then true else mid)
-    → mid ≡ (had || list_any (λ (x : Signal). same_name x.name name) (take n signals))
-    → new ≡ (had || list_any (λ (x : Signal). same_name x.name name) (take (n + 1) signals))
-names_turn signals n s name new mid had small at is before =
-    is
-    ∙ ap (λ b. if b then true else mid) (sym (same_bytes s.name name))
-    ∙ ap (λ m. if same_name s.name name then true else m) before
-    ∙ by (same_name s.name name) had (list_any (λ (x : Signal). same_name x.name name) (take n signals))
-    ∙ ap (λ b. had || b) (sym (list_any-append (λ (x : Signal). same_name x.name name) (take n signals) (s ∷ [])))
-    ∙ ap (λ (l : List Signal). had || list_any (λ (x : Signal). same_name x.name name) l)
-    (sym (take_more signals n s small ∙ ap (λ (x : Signal). take n signals ++ x ∷ []) (get_or_from_slice_get signals n s s at)))
-  where
-    by : (b had rest : Bool) → (if b then true else (had || rest)) ≡ (had || (rest || (b || false)))
-    by true true rest = refl
-    by true false true = refl
-    by true false false = refl
-    by false true rest = refl
-    by false false true = refl
-    by false false false = refl
-
-pub names_whole : (signals : List Signal) (n : ℕ) (name : List ℕ) (new had : Bool) → length signals ≤ n
-    → new ≡ (had || list_any (λ (x : Signal). same_name x.name name) (take n signals))
-    → new ≡ (had || is_some (place_named (λ (s : Signal). s.name) signals name))
-names_whole signals n name new had all is =
-    is
-    ∙ ap (λ (l : List Signal). had || list_any (λ (x : Signal). same_name x.name name) l) (take_all n signals all)
-    ∙ ap (λ b. had || b) (sym (named_there signals 0 name))
 
 -- ** parts
 

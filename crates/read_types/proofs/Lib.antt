@@ -10,3 +10,4 @@ pub mod Drafting
 pub mod HandlerParts
 pub mod ImplementParts
 pub mod AddedShapes
+pub mod SignalNames

@@ -4,3 +4,4 @@ pub mod HandlerDrafts
 pub mod ImplementDrafts
 pub mod Drafted
 pub mod OwnParts
+pub mod SignalNames

@@ -1,17 +1,17 @@
 //! The interfaces of a class while they are read. The names of the signals of the parent, and of those that the interfaces bring, are also
 //! kept in a set, so that a further name is found without a search of all these types.
 
-ghost use Rattle.std.specs.Prelude.{◌≡◌, ◌||◌, [], IfOk, List, ℕ, is_some, OnOk};
+ghost use Rattle.std.specs.Prelude.{◌≡◌, [], IfOk, OnOk};
 ghost use Rattle.std.specs.List.{list_any};
-ghost use Rattle.ui_machine.specs.Definition.Names.{canonical, place_named, same_name};
+ghost use Rattle.ui_machine.specs.Definition.Names.{canonical, same_name};
 ghost use Rattle.signal_core.specs.Sources.{signals_of};
 ghost use Rattle.read_types.specs.ImplementDrafts.{has_name, parts_of, parts_seen, with_interface};
 
+use crate::signal_names::add_names;
 use signal_core::SignalTable;
 use std::alloc::{AllocError, Global};
 use std::collections::BTreeSet;
 use type_tree::{TypeId, TypeTree, has_canonical_bytes, is_spelling};
-use ui_machine::SignalId;
 
 /// The interfaces of a class, and the names of all signals that its parent has or that they bring.
 #[derive(Drop)]
@@ -35,7 +35,7 @@ impl<'a> ImplementDraft<'a> {
         ensures { IfOk result (λ draft. parts_seen draft ≡ parts_of (signals_of types.now signals.now.signals) parent []) }
     {
         let mut names = BTreeSet::new(alloc);
-        add_names(&mut names, types, signals, parent)?;
+        add_names(alloc, &mut names, types, signals, parent)?;
         Ok(ImplementDraft {
             types: Vec::new(alloc),
             names,
@@ -74,25 +74,8 @@ impl<'a> ImplementDraft<'a> {
         ensures { OnOk result (parts_seen self.new ≡ with_interface (signals_of types.now signals.now.signals) interface (parts_seen self.old)) }
     {
         self.types.push(interface)?;
-        add_names(&mut self.names, types, signals, interface)?;
+        let alloc = *self.types.allocator();
+        add_names(alloc, &mut self.names, types, signals, interface)?;
         Ok(())
     }
-}
-
-// Adds the names of all signals of a type.
-fn add_names<'a>(
-    names: &mut BTreeSet<&'a str>,
-    types: &TypeTree,
-    signals: &'a SignalTable,
-    t: TypeId,
-) -> Result<(), AllocError>
-    ensures { (name : List ℕ) → OnOk result (has_name names.new name ≡ (has_name names.old name || is_some (place_named (λ s. s.name) (signals_of types.now signals.now.signals t) name))) }
-{
-    for number in 0..signals.signal_count(types, t) {
-        let Some(signal) = signals.signal(types, t, number as SignalId) else {
-            unreachable!()
-        };
-        names.insert(signal.name)?;
-    }
-    Ok(())
 }

@@ -17,6 +17,7 @@ mod interfaces;
 mod overrides;
 mod own_signals;
 mod shapes;
+mod signal_names;
 mod types;
 
 pub use class_drafts::ClassDraft;
