@@ -1,5 +1,5 @@
 -- The names of the signals of a type, collected type by type.
-use Rattle.std.proofs.Common.{◌≡◌, ◌∙◌, ℕ, ◌+◌, ◌<◌, ◌≤◌, Bool, true, false, cond, not, nat_eq, ◌||◌, if◌then◌else◌, List, [], ◌∷◌, ◌++◌, length, map, take, reverse, get_or, None, Some, Bor, refl, sym, ap, subst, arith}
+use Rattle.std.proofs.Common.{◌≡◌, ◌∙◌, ℕ, ◌+◌, ◌<◌, ◌≤◌, Bool, true, false, cond, not, nat_eq, ◌||◌, if◌then◌else◌, List, [], ◌∷◌, length, map, take, reverse, get_or, None, Some, Bor, refl, sym, ap, arith}
 use Rattle.std.specs.BTreeMap.{is_at}
 use Rattle.std.specs.BTreeSet.{BTreeSet, contains}
 use Rattle.std.specs.List.{filter, flat_map, list_any}
@@ -14,11 +14,10 @@ use Rattle.std.proofs.Math.Path.{fun_ext}
 use Rattle.ui_machine.specs.Definition.Names.{same_name}
 use Rattle.ui_machine.specs.Definition.Signals.{Signal}
 use Rattle.ui_machine.specs.Definition.Types.{GType}
-use Rattle.ui_machine.specs.Rules.Ancestry.{implemented_by, line_from, lineage, parent_of}
+use Rattle.ui_machine.specs.Rules.Ancestry.{line_from, lineage, parent_of}
 use Rattle.ui_machine.specs.Words.{notify}
 use Rattle.type_tree.specs.Tree.{IsTree}
 use Rattle.type_tree.proofs.Lines.{line_from-parent, line_from-root}
-use Rattle.g_values.proofs.Texts.{same_bytes}
 use Rattle.signal_core.specs.SignalView.{signal_view}
 use Rattle.signal_core.specs.Sources.{brought_by, declared_of, each_once, own_of, signals_of, sources_of}
 use Rattle.signal_core.specs.declared.signal.Signal as code

@@ -1,4 +1,4 @@
-use Rattle.std.proofs.Common.{◌∙◌, ◌||◌, ℕ, List, ap}
+use Rattle.std.proofs.Common.{◌∙◌, ◌||◌, List, ap}
 use Rattle.ui_machine.specs.Definition.Signals.{Signal}
 use Rattle.read_types.specs.ImplementDrafts.{has_name}
 use Rattle.read_types.specs.SignalNames.{has_signal}
