@@ -57,7 +57,7 @@ impl Occurrence {
 #[derive(Drop)]
 pub(crate) struct Children {
     ids: Vec<ObjectId>,
-    // A stamp beside each child. They rise, so that the index of a stamp is found by halves.
+    // A stamp beside each child. They rise, so that the index of a stamp is found by halves. A stamp only says where to look.
     stamps: Vec<u64>,
     // How often each identity is a child. One that is not a child has no entry.
     occurrences: BTreeMap<u64, Occurrence>,
@@ -129,10 +129,8 @@ impl Children {
         let Ok(_old) = self.occurrences.insert(child.0, occurrence) else {
             return Err(AllocError);
         };
-        // The room is reserved above.
-        let (Ok(()), Ok(())) = (self.ids.push(child), self.stamps.push(stamp)) else {
-            unreachable!()
-        };
+        self.ids.push_reserved(child);
+        self.stamps.push_reserved(stamp);
         Ok(())
     }
 
@@ -145,6 +143,7 @@ impl Children {
             return 0;
         };
         let Some(index) = occurrence.index_in(&self.ids, &self.stamps, child) else {
+            // The stamps may be beside other children from now on, which costs time but does no harm.
             let count = remove_id(&mut self.ids, child);
             self.stamps.truncate(self.ids.len());
             return count;

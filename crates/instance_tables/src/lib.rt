@@ -22,6 +22,8 @@ mod object;
 mod object_values;
 mod release;
 mod table;
+#[cfg(test)]
+mod tests;
 mod unheld;
 mod weak;
 

@@ -1,4 +1,4 @@
-use Rattle.std.proofs.Common.{◌≡◌, List, Some, slice_get, ap, sym, ◌∙◌}
+use Rattle.std.proofs.Common.{◌≡◌, List, slice_get, ap, sym, ◌∙◌}
 use Rattle.ui_machine.specs.State.Config.{without}
 use Rattle.ui_machine.specs.declared.ids.ObjectId.{ObjectId}
 use Rattle.instance_tables.specs.Store.{ids_of}
