@@ -58,12 +58,16 @@ def counts_instructions():
     return shutil.which("valgrind") is not None
 
 
+# Small pieces that were freed are joined at once, and not all together at a moment that depends on the length of a run.
+STEADY = {**os.environ, "GLIBC_TUNABLES": "glibc.malloc.mxfast=0"}
+
+
 def instructions(folder, words):
     """The instructions of a command, or None where they are not counted."""
     if not counts_instructions():
         return None
     done = subprocess.run(["valgrind", "--tool=callgrind", f"--callgrind-out-file={folder / 'callgrind'}", *words], stdout=subprocess.DEVNULL,
-                          stderr=subprocess.PIPE, universal_newlines=True, check=False)
+                          stderr=subprocess.PIPE, universal_newlines=True, check=False, env=STEADY)
     found = re.search(r"Collected : (\d+)", done.stderr)
     return int(found[1]) if found else None
 

@@ -379,14 +379,14 @@ ROWS = {
     "a turn beside timeouts that are not due": (lambda n: turns(n, 0, 1_000_000), 1, 255),
 }
 
-# The rows that grow with what the step changes or says.
+# The rows that grow with what the step changes or says: also how often each of the things is changed, and why.
 GROWING = {
-    "a join of texts": (joins, 2, 4096, "a join makes a text, and costs something for each of its bytes"),
-    "a block and an unblock of many handlers": (blocks, 1, 4096, "a block changes each handler that it matches"),
-    "a release of a parent": (releases_of_parents, 1, 7, "a dispose lets go of each child"),
-    "a release of an object with handlers": (releases_of_handlers, 1, 256, "a dispose removes each handler"),
-    "a release of an object with weak references": (releases_of_weak_targets, 1, 256, "a dispose makes each weak reference null"),
-    "a release of an object with bindings": (releases_of_sources, 1, 256, "a dispose ends each binding"),
+    "a join of texts": (joins, 2, 4096, 1, "a join makes a text, and costs something for each of its bytes"),
+    "a block and an unblock of many handlers": (blocks, 1, 4096, 2, "a block changes each handler that it matches, and so does an unblock"),
+    "a release of a parent": (releases_of_parents, 1, 7, 1, "a dispose lets go of each child"),
+    "a release of an object with handlers": (releases_of_handlers, 1, 256, 1, "a dispose removes each handler"),
+    "a release of an object with weak references": (releases_of_weak_targets, 1, 256, 1, "a dispose makes each weak reference null"),
+    "a release of an object with bindings": (releases_of_sources, 1, 256, 1, "a dispose ends each binding"),
 }
 
 # The rows that are not timed: their definitions have something for each step, so that there can't be as many as processor time needs, or each
