@@ -4,4 +4,7 @@ pub mod Least
 pub mod First
 pub mod LeastPriority
 mod Computed
+pub mod PlaceOrder
+pub mod Ranked
 pub mod Order
+pub mod Kept

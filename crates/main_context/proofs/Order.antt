@@ -67,7 +67,7 @@ module _ (moment number : ℕ) where
   abbrev pub restarted : Source → Source
   restarted s = cond (is_numbered number s) (record s { due = due_after moment s.interval }) s
 
-  same_number : (s : Source) → (restarted s).number ≡ s.number
+  pub same_number : (s : Source) → (restarted s).number ≡ s.number
   same_number s = by (is_numbered number s)
     where
       by : (b : Bool) → (cond b (record s { due = due_after moment s.interval }) s).number ≡ s.number

@@ -1,7 +1,10 @@
 -- What a context denotes.
-use Rattle.std.specs.Prelude.{ℕ, ◌+◌, ℤ, Bool, List, [], ◌∷◌, Option, None, cond, is_some}
+use Rattle.std.specs.Prelude.{◌≡◌, ℕ, ◌+◌, ℤ, Bool, List, [], ◌∷◌, Option, None, cond, is_some}
 use Rattle.std.specs.Option.{option_or}
 use Rattle.ui_machine.specs.State.Sources.{Source, attached, new_source, source_of}
+use Rattle.main_context.specs.Order.{AreInOrder}
+use Rattle.main_context.specs.Places.{program_rank, ranked}
+use Rattle.main_context.specs.declared.places.Place.{Place}
 
 -- the sources in order of attachment, the number of the last one attached and the latest moment; each 0 before any
 pub record Attached : Type 0 where
@@ -15,6 +18,11 @@ with_source context program priority interval arg = record context {
   sources = attached context.sources (new_source (context.last + 1) context.moment program priority interval arg);
   last = context.last + 1;
 }
+
+-- what a context keeps: sources in order, and their places by program
+pub record IsKept (sources : List Source) (programs : List Place) (last : ℕ) : Type 0 where
+  pub order : AreInOrder sources last
+  pub ranked : programs ≡ ranked program_rank sources
 
 abbrev pub is_attached : List Source → ℕ → Bool
 is_attached sources number = is_some (source_of number sources)

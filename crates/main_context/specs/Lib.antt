@@ -1,5 +1,6 @@
 pub mod Dues
 pub mod Attached
 pub mod Priorities
+pub mod Places
 pub mod Order
 pub mod Moments

@@ -4,10 +4,11 @@ ghost use Rattle.std.specs.Prelude.{◌≡◌, ◌<◌, ◌≤◌, length, ◌�
 ghost use Rattle.std.specs.List.{find, list_any};
 ghost use Rattle.main_context.specs.Moments.{is_from};
 ghost use Rattle.ui_machine.specs.Rules.MainLoop.{is_ready, ready, answered};
-ghost use Rattle.ui_machine.specs.State.Sources.{has_room, source_of, runs_program, without_first};
+ghost use Rattle.ui_machine.specs.State.Sources.{has_room, source_of, runs_program, without_first, without_source};
 
 use crate::batch::Batch;
 use crate::fault::{AttachError, TurnError};
+use crate::places::{self, Place};
 use crate::source::{Due, Source};
 use crate::sources;
 use std::alloc::Global;
@@ -17,23 +18,24 @@ use ui_machine::{ObjectId, ProgramId};
 /// The most sources that may be attached at a time. A source whose program runs is among them until it is removed.
 pub const MAX_SOURCES: usize = 256;
 
-/// Sources in order of attachment, at most 256, and the latest moment.
+/// Sources in order of attachment, at most 256, their places in order of their programs, and the latest moment.
 #[derive(Debug, Drop)]
 pub struct Context {
     sources: Vec<Source>,
+    programs: Vec<Place>,
     last: u64,
     moment: u64,
 }
 
 impl Model for Context {
     ghost use Rattle.main_context.specs.Attached.{Attached};
-    ghost use Rattle.main_context.specs.Order.{AreInOrder};
+    ghost use Rattle.main_context.specs.Attached.{IsKept};
 
     ghost Value = { Attached };
 
     ghost view = { λ c. record { sources = c.sources.items; last = c.last; moment = c.moment } };
 
-    ghost invariant = { λ c. AreInOrder c.sources.items c.last };
+    ghost invariant = { λ c. IsKept c.sources.items c.programs.items c.last };
 }
 
 impl Context {
@@ -46,6 +48,7 @@ impl Context {
     {
         Context {
             sources: Vec::new(alloc),
+            programs: Vec::new(alloc),
             last: 0,
             moment: 0,
         }
@@ -124,7 +127,10 @@ impl Context {
             return Err(AttachError::SourceLimit);
         };
         let source = Source::new(number, program, priority, interval, self.moment, arg);
+        let place = source.program_place();
+        self.programs.reserve(1)?;
         self.sources.push(source)?;
+        places::add(&mut self.programs, place);
         self.last = number;
         Ok(())
     }
@@ -135,7 +141,8 @@ impl Context {
         ensures left { self.new
             ≡ record self.old { sources = without_first (runs_program program) self.old.sources } }
     {
-        let source = sources::take_first(&mut self.sources, program)?;
+        let number = places::first_of(&self.programs, i128::from(program))?;
+        let source = self.take(number)?;
         Some(source.due())
     }
 
@@ -205,7 +212,17 @@ impl Context {
             sources::reschedule(&mut self.sources, source, self.moment);
             return false;
         }
-        sources::take(&mut self.sources, source).is_some()
+        self.take(source).is_some()
+    }
+
+    // Removes the source with this number and returns it.
+    fn take(&mut self, number: u64) -> Option<Source>
+        ensures given { result ≡ source_of number self.old.sources }
+        ensures left { self.new ≡ record self.old { sources = without_source number self.old.sources } }
+    {
+        let source = sources::take(&mut self.sources, number)?;
+        places::take(&mut self.programs, source.program_place());
+        Some(source)
     }
 }
 

@@ -24,6 +24,14 @@ impl<T: Drop> From<AllocFailed<T>> for AttachError {
     }
 }
 
+impl From<AllocError> for AttachError {
+    ghost from_gives = { λ _ e. e ≡ attaching.OutOfMemory };
+
+    fn from(_error: AllocError) -> AttachError {
+        AttachError::OutOfMemory
+    }
+}
+
 /// The reason for which an iteration does not begin.
 #[derive(Clone, Copy, Debug, PartialEq, Eq, Error)]
 pub enum TurnError {

@@ -9,8 +9,11 @@
 mod batch;
 mod context;
 mod fault;
+mod places;
 mod source;
 mod sources;
+#[cfg(test)]
+mod tests;
 
 pub use batch::Batch;
 pub use context::{Context, MAX_SOURCES};

@@ -3,8 +3,10 @@
 ghost use Rattle.std.specs.Prelude.{◌≡◌, ◌<◌, ◌^◌, ℕ};
 ghost use Rattle.main_context.specs.Moments.{is_from};
 ghost use Rattle.ui_machine.specs.Rules.MainLoop.{is_ready};
-ghost use Rattle.ui_machine.specs.State.Sources.{runs_program, due_after, new_source};
+ghost use Rattle.ui_machine.specs.State.Sources.{due_after, new_source};
+ghost use Rattle.main_context.specs.Places.{program_place};
 
+use crate::places::Place;
 use std::marker::Model;
 use ui_machine::{ObjectId, ProgramId};
 
@@ -74,16 +76,20 @@ impl Source {
         self.number
     }
 
+    /// Returns the place among the sources that are ranked by their program.
+    pub fn program_place(&self) -> Place
+        ensures { result ≡ program_place self.now }
+    {
+        Place {
+            rank: i128::from(self.program),
+            number: self.number,
+        }
+    }
+
     pub fn priority(&self) -> i32
         ensures { result ≡ self.now.priority }
     {
         self.priority
-    }
-
-    pub fn runs(&self, program: ProgramId) -> bool
-        ensures { result ≡ runs_program program self.now }
-    {
-        self.program == program
     }
 
     pub fn is_ready(&self, moment: u64) -> bool

@@ -1,14 +1,13 @@
 //! Operations on a list of sources in order of attachment.
 
 ghost use Rattle.std.specs.Prelude.{◌≡◌, option_map};
-ghost use Rattle.std.specs.List.{find, position};
-ghost use Rattle.ui_machine.specs.State.Sources.{is_numbered, runs_program, source_of, without_first, without_source};
+ghost use Rattle.std.specs.List.{position};
+ghost use Rattle.ui_machine.specs.State.Sources.{is_numbered, source_of, without_source};
 ghost use Rattle.ui_machine.specs.Rules.MainLoop.{rescheduled};
 ghost use Rattle.main_context.specs.Dues.{due_of};
 ghost use Rattle.main_context.specs.Order.{RisesFrom};
 
 use crate::source::{Due, Source};
-use ui_machine::ProgramId;
 
 /// Returns what is to run for the source with this number.
 pub(crate) fn find_due(sources: &[Source], number: u64) -> Option<Due>
@@ -26,15 +25,6 @@ pub(crate) fn take(sources: &mut Vec<Source>, number: u64) -> Option<Source>
     ensures left { sources.new.items ≡ without_source number sources.old.items }
 {
     let index = index_of(sources, number)?;
-    Some(sources.remove(index))
-}
-
-/// Removes the first source of a program and returns it.
-pub(crate) fn take_first(sources: &mut Vec<Source>, program: ProgramId) -> Option<Source>
-    ensures given { result ≡ find (runs_program program) sources.old.items }
-    ensures left { sources.new.items ≡ without_first (runs_program program) sources.old.items }
-{
-    let index = index_of_program(sources, program)?;
     Some(sources.remove(index))
 }
 
@@ -57,11 +47,4 @@ fn index_of(sources: &[Source], number: u64) -> Option<usize>
         Ok(index) => Some(index),
         Err(_) => None,
     }
-}
-
-// Returns the index of the first source of a program.
-fn index_of_program(sources: &[Source], program: ProgramId) -> Option<usize>
-    ensures { result ≡ position (runs_program program) sources.now }
-{
-    sources.iter().position(|source| source.runs(program))
 }
