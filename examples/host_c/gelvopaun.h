@@ -27,9 +27,9 @@
 
 /* The version of this header, which is that of the library beside it. */
 #define GELVOPAUN_VERSION_MAJOR 0
-#define GELVOPAUN_VERSION_MINOR 36
+#define GELVOPAUN_VERSION_MINOR 37
 #define GELVOPAUN_VERSION_MICRO 0
-#define GELVOPAUN_VERSION "0.36.0"
+#define GELVOPAUN_VERSION "0.37.0"
 
 /* Whether this header is of this version or a later one. */
 #define GELVOPAUN_CHECK_VERSION(major, minor, micro)                                                  \

@@ -63,6 +63,23 @@ def classes_by_interfaces_by_signals():
     return one(classes, interfaces=brought, objects=places(60)), []
 
 
+def signals_by_inherited_signals():
+    """A class with 120 interfaces of 64 signals, and 120 children with 64 signals of their own, all of names that differ at their ends."""
+    names, long = numbered("Iface", 120), "s" * 220
+    brought = [{"name": name, "signals": [{"name": f"{long}{i}-{k}"} for k in range(64)]} for i, name in enumerate(names)]
+    children = [box(name=f"Box{i}", parent="Box", signals=[f"{long}{i}x{k}" for k in range(64)]) for i in range(120)]
+    return one([box(implements=names), *children], interfaces=brought), []
+
+
+def interfaces_by_what_they_require():
+    """Each of 120 interfaces requires a class of 120 ancestors and the interfaces before it, and 12 classes implement all of them."""
+    names = numbered("Iface", 120)
+    line = [box(name="Line0"), *(box(name=f"Line{i}", parent=f"Line{i - 1}") for i in range(1, 15))]
+    brought = [{"name": name, "requires": [f"Line{i % 15}" for i in range(15)] + names[:i]} for i, name in enumerate(names)]
+    heirs = [box(name=f"Box{i}", parent="Line14", implements=names) for i in range(100)]
+    return one([*line, *heirs], interfaces=brought), []
+
+
 def classes_by_interfaces_by_properties():
     """Classes that override the same 64 properties of each of 190 interfaces."""
     brought = [{"name": f"I{i:02}", "properties": numbers()} for i in range(190)]
@@ -357,6 +374,8 @@ ROWS = {
     "properties by words of flags by members": words_of_flags,
     "interfaces by interfaces that they require": interfaces_that_require_interfaces,
     "classes by interfaces by signals": classes_by_interfaces_by_signals,
+    "signals by inherited signals": signals_by_inherited_signals,
+    "interfaces by what they require": interfaces_by_what_they_require,
     "classes by interfaces by properties": classes_by_interfaces_by_properties,
     "classes by properties": classes_by_properties,
     "classes by ancestors": classes_by_ancestors,
