@@ -1,9 +1,8 @@
 -- The least rank of what is ready in a list.
-use Rattle.std.proofs.Common.{◌≡◌, ℕ, ◌+◌, ◌<◌, ℤ, Bool, true, false, not, ◌&&◌, ◌||◌, inl, inr, List, [], ◌∷◌, length, get_or, take, refl, int_le}
+use Rattle.std.proofs.Common.{◌≡◌, ℤ, Bool, true, false, not, ◌&&◌, ◌||◌, inl, inr, List, [], ◌∷◌, Option, None, Some, refl, subst, sym, int_le}
 use Rattle.std.specs.List.{list_any, list_all, filter}
 use Rattle.std.specs.Ordering.{int_eq}
 use Rattle.std.specs.Int.{int_min}
-use Rattle.std.proofs.lemmas.List.Folds.{list_any_more, list_all_more}
 use Rattle.main_context.proofs.Joined.{both_of, and_of, either_of, or_of, implied_of, implies_of, neither_of, same_of}
 use Rattle.main_context.proofs.Integers.{int_le_same, int_le_through, int_min_left, int_min_right, int_min_either, same_from_int_eq, int_eq_same, int_eq_both}
 
@@ -37,30 +36,36 @@ beaten ready rank p q (x ∷ xs) h k =
       | inr later ↦ beaten ready rank p q xs later w.1
     ]
 
--- ** one more in a loop
+-- ** one more
 
-pub none_passed : {X : Type 0} (ready : X → Bool) (xs : List X) (i : ℕ) (x : X) → i < length xs → x ≡ get_or xs i x → ready x ≡ false → list_any ready (take i xs) ≡ false → list_any ready (take (i + 1) xs) ≡ false
-none_passed ready xs i x lt at idle h = rw (list_any_more ready xs i x lt, ← at, h) idle
+-- what is least in a list, if anything is ready
+abbrev pub IsLeastOf : {X : Type 0} → (X → Bool) → (X → ℤ) → List X → Option ℤ → Type 0
+IsLeastOf ready rank xs None = list_any ready xs ≡ false
+IsLeastOf ready rank xs (Some p) = (list_any (has_rank ready rank p) xs ≡ true) × (is_below ready rank p xs ≡ true)
 
-pub least_passed : {X : Type 0} (ready : X → Bool) (rank : X → ℤ) (xs : List X) (i : ℕ) (x : X) (p : ℤ) → i < length xs → x ≡ get_or xs i x → ready x ≡ false → (list_any (has_rank ready rank p) (take i xs) ≡ true) × (is_below ready rank p (take i xs) ≡ true) → (list_any (has_rank ready rank p) (take (i + 1) xs) ≡ true) × (is_below ready rank p (take (i + 1) xs) ≡ true)
-least_passed ready rank xs i x p lt at idle h = (
-  rw (list_any_more (has_rank ready rank p) xs i x lt, h.0) refl,
-  rw (list_all_more (λ y. not (ready y) || int_le p (rank y)) xs i x lt, h.1, ← at, idle) refl,
+-- the lower of the two, if there are two
+abbrev pub lower : Option ℤ → Option ℤ → Option ℤ
+lower None o = o
+lower (Some a) None = Some a
+lower (Some a) (Some b) = Some (int_min a b)
+
+-- one that is not ready
+pub least_passed : {X : Type 0} (ready : X → Bool) (rank : X → ℤ) (x : X) (xs : List X) (o : Option ℤ) → ready x ≡ false → IsLeastOf ready rank xs o → IsLeastOf ready rank (x ∷ xs) o
+least_passed ready rank x xs None idle h = rw idle h
+least_passed ready rank x xs (Some p) idle h = (rw idle h.0, rw idle h.1)
+
+-- one that is
+pub least_more : {X : Type 0} (ready : X → Bool) (rank : X → ℤ) (x : X) (xs : List X) (o : Option ℤ) → ready x ≡ true → IsLeastOf ready rank xs o → IsLeastOf ready rank (x ∷ xs) (lower (Some (rank x)) o)
+least_more ready rank x xs None on h = (
+  rw (on, int_eq_same (rank x)) refl,
+  and_of _ _ (implies_of (ready x) _ (λ _. int_le_same (rank x))) (below_none ready rank (rank x) xs h),
 )
-
-pub least_first : {X : Type 0} (ready : X → Bool) (rank : X → ℤ) (xs : List X) (i : ℕ) (x : X) → i < length xs → x ≡ get_or xs i x → ready x ≡ true → list_any ready (take i xs) ≡ false → (list_any (has_rank ready rank (rank x)) (take (i + 1) xs) ≡ true) × (is_below ready rank (rank x) (take (i + 1) xs) ≡ true)
-least_first ready rank xs i x lt at on h = (
-  rw (list_any_more (has_rank ready rank (rank x)) xs i x lt, ← at) (or_of _ _ (and_of _ _ on (int_eq_same (rank x)))),
-  rw (list_all_more (λ y. not (ready y) || int_le (rank x) (rank y)) xs i x lt, ← at) (and_of _ _ (below_none ready rank (rank x) (take i xs) h) (implies_of _ _ (λ _. int_le_same (rank x)))),
-)
-
-pub least_more : {X : Type 0} (ready : X → Bool) (rank : X → ℤ) (xs : List X) (i : ℕ) (x : X) (p : ℤ) → i < length xs → x ≡ get_or xs i x → ready x ≡ true → (list_any (has_rank ready rank p) (take i xs) ≡ true) × (is_below ready rank p (take i xs) ≡ true) → (list_any (has_rank ready rank (int_min p (rank x))) (take (i + 1) xs) ≡ true) × (is_below ready rank (int_min p (rank x)) (take (i + 1) xs) ≡ true)
-least_more ready rank xs i x p lt at on h = (
-  rw (list_any_more (has_rank ready rank (int_min p (rank x))) xs i x lt, ← at) (elim (int_min_either p (rank x)) [
-    | inl e ↦ rw (e, h.0) refl
-    | inr e ↦ rw e (or_of _ _ (and_of _ _ on (int_eq_same (rank x))))
-  ]),
-  rw (list_all_more (λ y. not (ready y) || int_le (int_min p (rank x)) (rank y)) xs i x lt, ← at) (and_of _ _ (below_lower ready rank p (int_min p (rank x)) (take i xs) (int_min_left p (rank x)) h.1) (implies_of _ _ (λ _. int_min_right p (rank x)))),
+least_more ready rank x xs (Some p) on h = (
+  elim (int_min_either (rank x) p) [
+    | inl e ↦ rw (e, on, int_eq_same (rank x)) refl
+    | inr e ↦ subst (λ m. list_any (has_rank ready rank m) (x ∷ xs) ≡ true) (sym e) (or_of (has_rank ready rank p x) (list_any (has_rank ready rank p) xs) h.0)
+  ],
+  and_of _ _ (implies_of (ready x) _ (λ _. int_min_left (rank x) p)) (below_lower ready rank p (int_min (rank x) p) xs (int_min_right (rank x) p) h.1),
 )
 
 -- ** the foremost

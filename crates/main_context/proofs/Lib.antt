@@ -8,3 +8,5 @@ pub mod PlaceOrder
 pub mod Ranked
 pub mod Order
 pub mod Kept
+pub mod Turns
+pub mod Foremost

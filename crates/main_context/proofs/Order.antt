@@ -170,7 +170,7 @@ module _ (l : List Source) (rising : RisesFrom 0 l) (k : ℕ) where
 -- ** what a restart of one source does to the list
 
 module _ (moment number : ℕ) where
-  not_numbered : (l : List Source) (above : ℕ) → RisesFrom above l → number ≤ above → l ≡ rescheduled moment number l
+  pub not_numbered : (l : List Source) (above : ℕ) → RisesFrom above l → number ≤ above → l ≡ rescheduled moment number l
   not_numbered [] above rises le = refl
   not_numbered (s ∷ l) above rises le =
       let other : is_numbered number s ≡ false = grind (arith, nat_tests, rises.0, le) in

@@ -1,13 +1,13 @@
 -- Places in order: what a search finds, and what one place more or less leaves.
-use Rattle.std.proofs.Common.{◌≡◌, ℕ, zero, suc, ◌+◌, ◌<◌, ◌≤◌, ℤ, Bool, true, false, cond, not, ◌&&◌, ◌||◌, List, [], ◌∷◌, ◌++◌, length, get_or, slice_get, take, drop, Option, None, Some, refl, sym, ap, ◌∙◌, arith, inl, inr, nat_lt, int_lt}
-use Rattle.std.specs.List.{AllByRecursion, find, insert, prefix_len, remove}
+use Rattle.std.proofs.Common.{◌≡◌, ℕ, zero, suc, ◌+◌, ◌<◌, ◌≤◌, ℤ, Bool, true, false, cond, List, [], ◌∷◌, ◌++◌, length, get_or, slice_get, take, Option, None, Some, refl, sym, ap, ◌∙◌, arith, inl, inr}
+use Rattle.std.specs.List.{AllByRecursion, filter, find, insert, prefix_len, remove}
 use Rattle.std.specs.List.Sorted.{IsPartitionedBy, IsPartitionPoint}
-use Rattle.std.specs.Ordering.{int_eq}
 use Rattle.std.proofs.lemmas.Bool.{cases_Bool}
 use Rattle.std.proofs.lemmas.Bool.Decides.{nat_tests}
 use Rattle.std.proofs.lemmas.Int.{ints}
+use Rattle.std.proofs.lemmas.List.{take_more}
 use Rattle.std.proofs.lemmas.Option.{slice_get_past, slice_get_read}
-use Rattle.main_context.specs.Places.{IsAscending, has_rank, index_from, is_before, with_place, without_place}
+use Rattle.main_context.specs.Places.{IsAscending, all_added, has_rank, index_from, is_before, is_up_to, with_place, without_place}
 use Rattle.main_context.specs.declared.places.Place.{Place}
 
 -- ** the order
@@ -197,3 +197,78 @@ first_past rank l up past = first_at rank l up ∙ ap (of_rank rank) (slice_get_
 pub first_here : (rank : ℤ) (l : List Place) (q : Place) → IsAscending l → index_from (place rank 0) l < length l → q ≡ get_or l (index_from (place rank 0) l) q
     → find (has_rank rank) l ≡ cond (has_rank rank q) (Some q) None
 first_here rank l q up within at = first_at rank l up ∙ ap (of_rank rank) (slice_get_read l (length l) (index_from (place rank 0) l) q refl within at)
+
+-- ** the places up to a rank
+
+-- a place that is not after one of at most a rank has at most that rank
+up_to_through : (rank : ℤ) (q a : Place) → is_before a q ≡ false → is_up_to rank a ≡ true → is_up_to rank q ≡ true
+unfolding is_before
+up_to_through rank q a h k = grind (arith, ints, nat_tests)
+
+pub parted_by_rank : (rank : ℤ) (l : List Place) → IsAscending l → IsPartitionedBy (is_up_to rank) l
+parted_by_rank rank [] up i j d le small h = absurd (omega (arith, small))
+parted_by_rank rank (q ∷ l) up zero zero d le small h = h
+parted_by_rank rank (q ∷ l) up zero (suc j) d le small h = up_to_through rank q (get_or l j d) (all_at (λ a. is_before a q ≡ false) l j d up.0 (omega (arith, small))) h
+parted_by_rank rank (q ∷ l) up (suc i) zero d le small h = absurd (omega (arith, le))
+parted_by_rank rank (q ∷ l) up (suc i) (suc j) d le small h = parted_by_rank rank l up.1 i j d (omega (arith, le)) (omega (arith, small)) h
+
+pub taken : {A : Type 0} (t : A → Bool) (l : List A) (i : ℕ) → i ≤ length l → IsPartitionPoint (λ a. t a ≡ true) (λ a. t a ≡ false) l i → take i l ≡ filter t l
+taken t [] zero le h = refl
+taken t [] (suc i) le h = refl
+taken t (a ∷ l) zero le h = rw (h.1 0 a (omega arith) (omega arith)) (taken t l zero (omega arith) (λ k d low small. absurd (omega (arith, small)), λ k d low small. h.1 (suc k) d (omega arith) (omega (arith, small))))
+taken t (a ∷ l) (suc i) le h =
+    rw (h.0 0 a (omega arith) (omega arith))
+    (ap (λ m. a ∷ m) (taken t l i (omega (arith, le)) (λ k d low small. h.0 (suc k) d (omega arith) (omega (arith, small)), λ k d low small. h.1 (suc k) d (omega (arith, low)) (omega (arith, small)))))
+
+-- ** the places with more
+
+pub all_added_more : (more : List Place) (p : Place) (l : List Place) → all_added (more ++ p ∷ []) l ≡ with_place p (all_added more l)
+all_added_more [] p l = refl
+all_added_more (q ∷ more) p l = ap (with_place q) (all_added_more more p l) ∙ with_both q p (all_added more l)
+
+pub all_added_with : (more : List Place) (p : Place) (l : List Place) → all_added more (with_place p l) ≡ with_place p (all_added more l)
+all_added_with [] p l = refl
+all_added_with (q ∷ more) p l = ap (with_place q) (all_added_with more p l) ∙ with_both q p (all_added more l)
+
+pub all_added_ascend : (more l : List Place) → IsAscending l → IsAscending (all_added more l)
+all_added_ascend [] l up = up
+all_added_ascend (q ∷ more) l up = ascending_with q (all_added more l) (all_added_ascend more l up)
+
+pub all_added_take : (more : List Place) (i : ℕ) (d : Place) (l : List Place) → i < length more → all_added (take (i + 1) more) l ≡ with_place (get_or more i d) (all_added (take i more) l)
+all_added_take more i d l small = ap (λ m. all_added m l) (take_more more i d small) ∙ all_added_more (take i more) (get_or more i d) l
+
+-- ** the places that pass
+
+-- one that does not pass
+pub without_it : (t : Place → Bool) (q : Place) (l : List Place) → t q ≡ false → filter t (with_place q l) ≡ filter t l
+without_it t q [] h = rw h refl
+without_it t q (a ∷ l) h = elim (cases_Bool (is_before a q)) [
+  | inl e ↦ let rest = without_it t q l h in simp e (ap (λ m. cond (t a) (a ∷ m) m) rest)
+  | inr e ↦ simp (e, h) refl
+]
+
+-- one that is before all others
+pub put_first : (q : Place) (l : List Place) → AllByRecursion (λ a. is_before a q ≡ false) l → with_place q l ≡ q ∷ l
+put_first q [] h = refl
+put_first q (a ∷ l) h = rw h.0 refl
+
+pub all_added_passing : (t : Place → Bool) (q : Place) (l base : List Place) → all_added (filter t (with_place q l)) base ≡ cond (t q) (with_place q (all_added (filter t l) base)) (all_added (filter t l) base)
+all_added_passing t q [] base = elim (cases_Bool (t q)) [
+  | inl e ↦ simp e refl
+  | inr e ↦ simp e refl
+]
+all_added_passing t q (a ∷ l) base = elim (cases_Bool (is_before a q)) [
+  | inl e ↦
+      let rest = all_added_passing t q l base in
+      elim (cases_Bool (t a)) [
+        | inl f ↦ elim (cases_Bool (t q)) [
+          | inl g ↦ let r = simp g at rest in simp (e, f, g) (ap (with_place a) r ∙ with_both a q (all_added (filter t l) base))
+          | inr g ↦ let r = simp g at rest in simp (e, f, g) (ap (with_place a) r)
+        ]
+        | inr f ↦ simp (e, f) rest
+      ]
+  | inr e ↦ elim (cases_Bool (t q)) [
+    | inl g ↦ simp (e, g) refl
+    | inr g ↦ simp (e, g) refl
+  ]
+]

@@ -1,22 +1,35 @@
 -- The places of sources that have a rank.
-use Rattle.std.proofs.Common.{◌≡◌, ℕ, ◌<◌, ◌≤◌, ◌+◌, ℤ, pos, Bool, true, false, cond, nat_eq, List, [], ◌∷◌, ◌++◌, length, map, option_map, Option, None, Some, refl, sym, ap, ◌∙◌, arith, inl, inr}
+use Rattle.std.proofs.Common.{◌≡◌, ℕ, ◌<◌, ◌≤◌, ℤ, pos, Bool, true, false, cond, nat_eq, List, [], ◌∷◌, ◌++◌, map, option_map, Option, None, Some, refl, sym, ap, subst, ◌∙◌, arith, inl, inr}
 use Rattle.std.specs.List.{AllByRecursion, find}
 use Rattle.std.proofs.lemmas.Bool.{cases_Bool}
 use Rattle.std.proofs.lemmas.Bool.Decides.{nat_tests}
 use Rattle.std.proofs.lemmas.Int.{ints}
-use Rattle.ui_machine.specs.State.Sources.{Source, due_after, is_numbered, runs_program, source_of, without_first, without_source}
+use Rattle.ui_machine.specs.State.Sources.{Source, is_numbered, runs_program, source_of, without_first, without_source}
 use Rattle.ui_machine.specs.Rules.MainLoop.{rescheduled}
 use Rattle.main_context.specs.Order.{RisesFrom}
-use Rattle.main_context.specs.Places.{IsAscending, has_rank, is_before, placed, program_rank, ranked, with_place}
+use Rattle.main_context.specs.Places.{IsAscending, IsThere, has_rank, is_before, place_by, program_rank, ranked, with_any, with_place, without_any}
 use Rattle.main_context.specs.declared.places.Place.{Place}
-use Rattle.main_context.proofs.PlaceOrder.{all_mapped, all_with, ascending_with, place, with_both}
+use Rattle.main_context.proofs.Order.{not_numbered, restarted}
+use Rattle.main_context.proofs.PlaceOrder.{all_mapped, all_with, ascending_with, index_there, place, with_both, without_new}
 
 -- ** one source more or less
 
-placed_both : (r t : Option ℤ) (m n : ℕ) (l : List Place) → placed r m (placed t n l) ≡ placed t n (placed r m l)
+-- the places with one more, if there is a rank
+abbrev pub placed : Option ℤ → ℕ → List Place → List Place
+placed r n l = with_any (option_map (λ t. place t n) r) l
+
+pub placed_both : (r t : Option ℤ) (m n : ℕ) (l : List Place) → placed r m (placed t n l) ≡ placed t n (placed r m l)
 placed_both None t m n l = refl
 placed_both (Some r) None m n l = refl
 placed_both (Some r) (Some t) m n l = with_both (place r m) (place t n) l
+
+any_there : (p : Option Place) (l : List Place) → IsThere p (with_any p l)
+any_there None l = tt
+any_there (Some p) l = index_there p l
+
+any_taken : (p : Option Place) (l : List Place) → without_any p (with_any p l) ≡ l
+any_taken None l = refl
+any_taken (Some p) l = without_new p l
 
 module _ (rank : Source → Option ℤ) where
   placed_ascending : (r : Option ℤ) (n : ℕ) (l : List Place) → IsAscending l → IsAscending (placed r n l)
@@ -40,6 +53,40 @@ module _ (rank : Source → Option ℤ) where
         | true ↦ λ e. let same : x ≡ s = cc in rw same refl
         | false ↦ λ e. ap (placed (rank x) x.number) (ranked_without p s l e) ∙ placed_both (rank x) (rank s) x.number s.number (ranked rank (without_first p l))
       ] h
+
+  -- the place of a source that is removed is there, and leaves the others
+  pub place_there : (p : Source → Bool) (s : Source) (l : List Source) (places : List Place) → find p l ≡ Some s → places ≡ ranked rank l → IsThere (place_by rank s) places
+  place_there p s l places found are =
+      subst (IsThere (place_by rank s)) (sym (are ∙ ranked_without p s l found)) (any_there (place_by rank s) (ranked rank (without_first p l)))
+
+  pub place_taken : (p : Source → Bool) (s : Source) (l : List Source) (places : List Place) → find p l ≡ Some s → places ≡ ranked rank l
+      → without_any (place_by rank s) places ≡ ranked rank (without_first p l)
+  place_taken p s l places found are =
+      ap (without_any (place_by rank s)) (are ∙ ranked_without p s l found) ∙ any_taken (place_by rank s) (ranked rank (without_first p l))
+
+  pub places_ascend : (l : List Source) (places : List Place) → places ≡ ranked rank l → IsAscending places
+  places_ascend l places are = subst IsAscending (sym are) (ascending l)
+
+  -- of a source that is restarted
+  pub ranked_restarted : (moment number above : ℕ) (s : Source) (l : List Source) → RisesFrom above l → source_of number l ≡ Some s
+      → ranked rank (rescheduled moment number l) ≡ with_any (place_by rank (restarted moment number s)) (ranked rank (without_source number l))
+  ranked_restarted moment number above s [] rises h = cc
+  ranked_restarted moment number above s (x ∷ l) rises h = elim (cases_Bool (is_numbered number x)) [
+    | inl e ↦
+        let same : x ≡ s = let found = simp e at h in cc in
+        let low : number ≤ x.number = grind (arith, nat_tests) in
+        let rest = ap (ranked rank) (not_numbered moment number l x.number rises.1 low) in
+        rw (sym rest, same) (ap (λ t. with_any (place_by rank (restarted moment number s)) (ranked rank (cond t l (s ∷ without_source number l)))) (sym (ap (is_numbered number) (sym same) ∙ e)))
+    | inr e ↦
+        let found = simp e at h in
+        let rest = ranked_restarted moment number x.number s l rises.1 found in
+        let left : without_source number (x ∷ l) ≡ x ∷ without_source number l = rw e refl in
+        let same : restarted moment number x ≡ x = rw e refl in
+        ap (λ y. with_any (place_by rank y) (ranked rank (rescheduled moment number l))) same
+        ∙ ap (with_any (place_by rank x)) rest
+        ∙ placed_both (rank x) (rank (restarted moment number s)) x.number (restarted moment number s).number (ranked rank (without_source number l))
+        ∙ ap (λ m. with_any (place_by rank (restarted moment number s)) (ranked rank m)) (sym left)
+  ]
 
   -- of sources that are changed in neither rank nor number
   pub ranked_same : (f : Source → Source) → ((s : Source) → rank (f s) ≡ rank s) → ((s : Source) → (f s).number ≡ s.number) → (l : List Source) → ranked rank (map f l) ≡ ranked rank l

@@ -3,7 +3,7 @@ use Rattle.std.specs.Prelude.{◌≡◌, ℕ, ◌+◌, ℤ, Bool, List, [], ◌�
 use Rattle.std.specs.Option.{option_or}
 use Rattle.ui_machine.specs.State.Sources.{Source, attached, new_source, source_of}
 use Rattle.main_context.specs.Order.{AreInOrder}
-use Rattle.main_context.specs.Places.{program_rank, ranked}
+use Rattle.main_context.specs.Places.{idle_rank, program_rank, ranked, timeout_rank}
 use Rattle.main_context.specs.declared.places.Place.{Place}
 
 -- the sources in order of attachment, the number of the last one attached and the latest moment; each 0 before any
@@ -19,10 +19,12 @@ with_source context program priority interval arg = record context {
   last = context.last + 1;
 }
 
--- what a context keeps: sources in order, and their places by program
-pub record IsKept (sources : List Source) (programs : List Place) (last : ℕ) : Type 0 where
+-- what a context keeps: sources in order, and the places of all, of the idles and of the timeouts
+pub record IsKept (sources : List Source) (programs idles timeouts : List Place) (last : ℕ) : Type 0 where
   pub order : AreInOrder sources last
-  pub ranked : programs ≡ ranked program_rank sources
+  pub by_program : programs ≡ ranked program_rank sources
+  pub by_priority : idles ≡ ranked idle_rank sources
+  pub by_due : timeouts ≡ ranked timeout_rank sources
 
 abbrev pub is_attached : List Source → ℕ → Bool
 is_attached sources number = is_some (source_of number sources)

@@ -1,7 +1,6 @@
 -- The priorities of sources that are ready.
 use Rattle.std.specs.Prelude.{◌≡◌, ℕ, ℤ, Bool, true, false, not, ◌&&◌, ◌||◌, List, Option, Some, None, int_le}
 use Rattle.std.specs.Ordering.{int_eq}
-use Rattle.std.specs.Int.{int_min}
 use Rattle.std.specs.List.{list_any, list_all}
 use Rattle.ui_machine.specs.State.Sources.{Source}
 use Rattle.ui_machine.specs.Rules.MainLoop.{is_ready}
@@ -13,11 +12,6 @@ is_ready_at moment priority s = is_ready moment s && int_eq s.priority priority
 -- whether no ready source has a lower priority number than this
 abbrev pub is_lowest : (moment : ℕ) → ℤ → List Source → Bool
 is_lowest moment priority sources = list_all (λ t. not (is_ready moment t) || int_le priority t.priority) sources
-
--- the lower of the two, if there are two
-abbrev pub lower : Option ℤ → ℤ → ℤ
-lower None priority = priority
-lower (Some least) priority = int_min least priority
 
 -- the least priority number of the ready sources, or nothing where none is ready
 abbrev pub IsLeast : (moment : ℕ) → List Source → Option ℤ → Type 0

@@ -1,11 +1,13 @@
 //! The sources of one iteration.
 
-ghost use Rattle.std.specs.Prelude.{◌≡◌, [], ◌∷◌, map, MatchOption, IfOk};
-ghost use Rattle.std.specs.List.{filter};
-ghost use Rattle.ui_machine.specs.Rules.MainLoop.{is_ready, ready};
-ghost use Rattle.main_context.specs.Priorities.{is_ready_at, lower, IsLeast};
+ghost use Rattle.std.specs.Prelude.{◌≡◌, [], ◌∷◌, map, slice_get, MatchOption, IfOk};
+ghost use Rattle.ui_machine.specs.Rules.MainLoop.{ready};
+ghost use Rattle.main_context.specs.Order.{RisesFrom};
+ghost use Rattle.main_context.specs.Places.{IsAscending, by_priority, idle_rank, least_rank, ranked, timeout_rank, up_to};
 
+use crate::places::{self, Place};
 use crate::source::Source;
+use crate::sources;
 use std::alloc::{AllocError, Global};
 use std::marker::Model;
 
@@ -27,18 +29,31 @@ impl Model for Batch {
 }
 
 impl Batch {
-    /// Collects the ready sources with the least priority number.
-    pub(crate) fn ready(alloc: Global, sources: &[Source], moment: u64) -> Result<Self, AllocError>
+    /// Collects the ready sources with the least priority number, from the places of the idles by priority and of the timeouts by due
+    /// moment. Looks at the timeouts that are ready and at the sources that it collects.
+    pub(crate) fn ready(
+        alloc: Global,
+        sources: &[Source],
+        idles: &[Place],
+        timeouts: &[Place],
+        moment: u64,
+    ) -> Result<Self, AllocError>
+        requires rising { RisesFrom 0 sources.now }
+        requires by_priority { idles.now ≡ ranked idle_rank sources.now }
+        requires by_due { timeouts.now ≡ ranked timeout_rank sources.now }
         ensures { IfOk result (λ batch. batch ≡ map (λ s. s.number) (ready moment sources.now)) }
     {
-        let Some(least) = least_priority(sources, moment) else {
-            return Ok(Batch {
-                numbers: Vec::new(alloc),
-                taken: 0,
-            });
-        };
-        let numbers = numbers_at(alloc, sources, moment, least)?;
-        Ok(Batch { numbers, taken: 0 })
+        let due = places::up_to(timeouts, i128::from(moment));
+        let mut ready = by_priority(alloc, sources, due)?;
+        if let Some(least) = least_rank(idles, &ready) {
+            places::add_all(&mut ready, places::up_to(idles, least))?;
+            let numbers = numbers_up_to(alloc, &ready, least)?;
+            return Ok(Batch { numbers, taken: 0 });
+        }
+        Ok(Batch {
+            numbers: Vec::new(alloc),
+            taken: 0,
+        })
     }
 
     /// Takes the next number, or returns `None` if none is left.
@@ -51,41 +66,41 @@ impl Batch {
     }
 }
 
-// Returns the least priority number of the ready sources, or `None` if no source is ready.
-fn least_priority(sources: &[Source], moment: u64) -> Option<i32>
-    ensures { IsLeast moment sources.now result }
-{
-    let mut least: Option<i32> = None;
-    for source in sources {
-        if source.is_ready(moment) {
-            least = Some(lower(least, source.priority()));
-        }
-    }
-    least
-}
-
-// Returns the lower one of `least`, if there is one, and `priority`.
-fn lower(least: Option<i32>, priority: i32) -> i32
-    ensures { result ≡ lower least priority }
-{
-    match least {
-        None => priority,
-        Some(least) => least.min(priority),
-    }
-}
-
-// Collects the numbers of the ready sources with this priority.
-fn numbers_at(
+// Collects the places by priority of the sources that have these places.
+fn by_priority(
     alloc: Global,
     sources: &[Source],
-    moment: u64,
-    priority: i32,
-) -> Result<Vec<u64>, AllocError>
-    ensures { IfOk result (λ numbers. numbers.items ≡ map (λ s. s.number) (filter (is_ready_at moment priority) sources.now)) }
+    places: &[Place],
+) -> Result<Vec<Place>, AllocError>
+    requires { RisesFrom 0 sources.now }
+    ensures { IfOk result (λ found. found.items ≡ by_priority sources.now places.now) }
 {
-    sources
+    let mut found = Vec::new(alloc);
+    for place in places {
+        found.reserve(1)?;
+        places::add_any(&mut found, sources::priority_place(sources, place.number));
+    }
+    Ok(found)
+}
+
+// Returns the least rank, which is that of the first place of one list.
+fn least_rank(left: &[Place], right: &[Place]) -> Option<i128>
+    ensures { result ≡ least_rank (slice_get left.now 0) (slice_get right.now 0) }
+{
+    match (left.first(), right.first()) {
+        (None, None) => None,
+        (Some(place), None) | (None, Some(place)) => Some(place.rank),
+        (Some(left), Some(right)) => Some(left.rank.min(right.rank)),
+    }
+}
+
+// Collects the numbers of the places of at most this rank.
+fn numbers_up_to(alloc: Global, places: &[Place], rank: i128) -> Result<Vec<u64>, AllocError>
+    requires { IsAscending places.now }
+    ensures { IfOk result (λ numbers. numbers.items ≡ map (λ p. p.number) (up_to rank places.now)) }
+{
+    places::up_to(places, rank)
         .iter()
-        .filter(|source| source.is_ready(moment) && source.priority() == priority)
-        .map(|source| source.number())
+        .map(|place| place.number)
         .collect(alloc)
 }

@@ -3,7 +3,7 @@
 ghost use Rattle.std.specs.Prelude.{◌≡◌, ◌<◌, ◌≤◌, length, ◌↔◌, ◌&&◌, ◌||◌, ◌^◌, ℕ, not, false, [], None, Some, map, option_map, OnOk, OnErr, IfOk};
 ghost use Rattle.std.specs.List.{find, list_any};
 ghost use Rattle.main_context.specs.Moments.{is_from};
-ghost use Rattle.ui_machine.specs.Rules.MainLoop.{is_ready, ready, answered};
+ghost use Rattle.ui_machine.specs.Rules.MainLoop.{is_ready, ready, answered, rescheduled};
 ghost use Rattle.ui_machine.specs.State.Sources.{has_room, source_of, runs_program, without_first, without_source};
 
 use crate::batch::Batch;
@@ -18,11 +18,14 @@ use ui_machine::{ObjectId, ProgramId};
 /// The most sources that may be attached at a time. A source whose program runs is among them until it is removed.
 pub const MAX_SOURCES: usize = 256;
 
-/// Sources in order of attachment, at most 256, their places in order of their programs, and the latest moment.
+/// Sources in order of attachment, at most 256, the places of all of them in order of their programs, of the idles in order of their
+/// priorities and of the timeouts in order of the moments at which they are due, and the latest moment.
 #[derive(Debug, Drop)]
 pub struct Context {
     sources: Vec<Source>,
     programs: Vec<Place>,
+    idles: Vec<Place>,
+    timeouts: Vec<Place>,
     last: u64,
     moment: u64,
 }
@@ -35,7 +38,7 @@ impl Model for Context {
 
     ghost view = { λ c. record { sources = c.sources.items; last = c.last; moment = c.moment } };
 
-    ghost invariant = { λ c. IsKept c.sources.items c.programs.items c.last };
+    ghost invariant = { λ c. IsKept c.sources.items c.programs.items c.idles.items c.timeouts.items c.last };
 }
 
 impl Context {
@@ -49,6 +52,8 @@ impl Context {
         Context {
             sources: Vec::new(alloc),
             programs: Vec::new(alloc),
+            idles: Vec::new(alloc),
+            timeouts: Vec::new(alloc),
             last: 0,
             moment: 0,
         }
@@ -127,10 +132,16 @@ impl Context {
             return Err(AttachError::SourceLimit);
         };
         let source = Source::new(number, program, priority, interval, self.moment, arg);
-        let place = source.program_place();
+        let program = source.program_place();
+        let idle = source.idle_place();
+        let timeout = source.timeout_place();
         self.programs.reserve(1)?;
+        self.idles.reserve(1)?;
+        self.timeouts.reserve(1)?;
         self.sources.push(source)?;
-        places::add(&mut self.programs, place);
+        places::add(&mut self.programs, program);
+        places::add_any(&mut self.idles, idle);
+        places::add_any(&mut self.timeouts, timeout);
         self.last = number;
         Ok(())
     }
@@ -164,7 +175,13 @@ impl Context {
         if moment < self.moment {
             return Err(TurnError::ClockBack);
         }
-        let batch = Batch::ready(*self.sources.allocator(), &self.sources, moment)?;
+        let batch = Batch::ready(
+            *self.sources.allocator(),
+            &self.sources,
+            &self.idles,
+            &self.timeouts,
+            moment,
+        )?;
         self.moment = moment;
         Ok(batch)
     }
@@ -209,7 +226,7 @@ impl Context {
             ≡ record self.old { sources = answered self.old.moment source keep self.old.sources } }
     {
         if keep {
-            sources::reschedule(&mut self.sources, source, self.moment);
+            self.restart(source);
             return false;
         }
         self.take(source).is_some()
@@ -222,7 +239,23 @@ impl Context {
     {
         let source = sources::take(&mut self.sources, number)?;
         places::take(&mut self.programs, source.program_place());
+        places::take_any(&mut self.idles, source.idle_place());
+        places::take_any(&mut self.timeouts, source.timeout_place());
         Some(source)
+    }
+
+    // Restarts the interval of the source with this number at the latest moment.
+    fn restart(&mut self, number: u64)
+        ensures { self.new ≡ record self.old { sources = rescheduled self.old.moment number self.old.sources } }
+    {
+        let before = sources::timeout_place(&self.sources, number);
+        sources::reschedule(&mut self.sources, number, self.moment);
+        let Some(before) = before else {
+            return;
+        };
+        let after = sources::timeout_place(&self.sources, number);
+        places::take(&mut self.timeouts, before);
+        places::add_any(&mut self.timeouts, after);
     }
 }
 

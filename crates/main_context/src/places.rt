@@ -1,8 +1,10 @@
 //! Places of sources in order of a rank. Places of the same rank are in order of attachment.
 
-ghost use Rattle.std.specs.Prelude.{◌≡◌, ◌<◌, length, option_map, vec_len, vec_capacity};
+ghost use Rattle.std.specs.Prelude.{◌≡◌, ◌<◌, length, option_map, vec_len, vec_capacity, OnOk};
 ghost use Rattle.std.specs.List.{find};
-ghost use Rattle.main_context.specs.Places.{IsAscending, has_rank, index_from, is_before, with_place, without_place};
+ghost use Rattle.main_context.specs.Places.{IsAscending, IsThere, all_added, has_rank, index_from, is_before, is_up_to, up_to, with_any, with_place, without_any, without_place};
+
+use std::alloc::AllocError;
 
 /// The place of a source: its rank and its number.
 #[derive(Clone, Copy, Debug, PartialEq, Eq)]
@@ -12,6 +14,12 @@ pub(crate) struct Place {
 }
 
 impl Place {
+    fn is_up_to(self, rank: i128) -> bool
+        ensures { result ≡ is_up_to rank self }
+    {
+        self.rank <= rank
+    }
+
     fn has_rank(self, rank: i128) -> bool
         ensures { result ≡ has_rank rank self }
     {
@@ -50,6 +58,28 @@ pub(crate) fn take(places: &mut Vec<Place>, place: Place)
     places.remove(index);
 }
 
+/// Adds a place, for which there is room, if there is one.
+pub(crate) fn add_any(places: &mut Vec<Place>, place: Option<Place>)
+    requires ascending { IsAscending places.old.items }
+    requires room { vec_len places.old < vec_capacity places.old }
+    ensures { places.new.items ≡ with_any place places.old.items }
+{
+    if let Some(place) = place {
+        add(places, place);
+    }
+}
+
+/// Removes a place, which has to be there, if there is one.
+pub(crate) fn take_any(places: &mut Vec<Place>, place: Option<Place>)
+    requires ascending { IsAscending places.old.items }
+    requires there { IsThere place places.old.items }
+    ensures { places.new.items ≡ without_any place places.old.items }
+{
+    if let Some(place) = place {
+        take(places, place);
+    }
+}
+
 /// Returns the number of the first source with this rank.
 pub(crate) fn first_of(places: &[Place], rank: i128) -> Option<u64>
     requires { IsAscending places.now }
@@ -57,6 +87,31 @@ pub(crate) fn first_of(places: &[Place], rank: i128) -> Option<u64>
 {
     let first = places.get(index_from(places, Place { rank, number: 0 }))?;
     first.has_rank(rank).then_some(first.number)
+}
+
+/// Adds places to others.
+///
+/// # Errors
+///
+/// `AllocError` if memory is refused.
+pub(crate) fn add_all(places: &mut Vec<Place>, more: &[Place]) -> Result<(), AllocError>
+    requires { IsAscending places.old.items }
+    ensures { OnOk result (places.new.items ≡ all_added more.now places.old.items) }
+{
+    for place in more {
+        places.reserve(1)?;
+        add(places, *place);
+    }
+    Ok(())
+}
+
+/// Returns the places of at most this rank.
+pub(crate) fn up_to(places: &[Place], rank: i128) -> &[Place]
+    requires { IsAscending places.now }
+    ensures { result.now ≡ up_to rank places.now }
+{
+    let count = places.partition_point(|place| place.is_up_to(rank));
+    &places[..count]
 }
 
 // Returns the index of the first place that is not before this one, which is searched by halves.

@@ -4,7 +4,7 @@ ghost use Rattle.std.specs.Prelude.{◌≡◌, ◌<◌, ◌^◌, ℕ};
 ghost use Rattle.main_context.specs.Moments.{is_from};
 ghost use Rattle.ui_machine.specs.Rules.MainLoop.{is_ready};
 ghost use Rattle.ui_machine.specs.State.Sources.{due_after, new_source};
-ghost use Rattle.main_context.specs.Places.{program_place};
+ghost use Rattle.main_context.specs.Places.{idle_rank, place_by, program_place, timeout_rank};
 
 use crate::places::Place;
 use std::marker::Model;
@@ -86,18 +86,36 @@ impl Source {
         }
     }
 
-    pub fn priority(&self) -> i32
-        ensures { result ≡ self.now.priority }
-    {
-        self.priority
-    }
-
-    pub fn is_ready(&self, moment: u64) -> bool
-        ensures { result ≡ is_ready moment self.now }
+    /// Returns the place of an idle among the idles, which are ranked by their priority.
+    pub fn idle_place(&self) -> Option<Place>
+        ensures { result ≡ place_by idle_rank self.now }
     {
         match self.interval {
-            None => true,
-            Some(interval) => { self.since <= moment && u64::from(interval) <= moment - self.since }
+            None => Some(self.priority_place()),
+            Some(_) => None,
+        }
+    }
+
+    /// Returns the place of a timeout among the timeouts, which are ranked by the moment at which they are due.
+    pub fn timeout_place(&self) -> Option<Place>
+        ensures { result ≡ place_by timeout_rank self.now }
+    {
+        match self.interval {
+            None => None,
+            Some(interval) => Some(Place {
+                rank: i128::from(self.since) + i128::from(interval),
+                number: self.number,
+            }),
+        }
+    }
+
+    /// Returns the place in order of the priorities.
+    pub fn priority_place(&self) -> Place
+        ensures { result ≡ record { rank = self.now.priority; number = self.now.number } }
+    {
+        Place {
+            rank: i128::from(self.priority),
+            number: self.number,
         }
     }
 

@@ -1,12 +1,14 @@
 //! Operations on a list of sources in order of attachment.
 
-ghost use Rattle.std.specs.Prelude.{◌≡◌, option_map};
+ghost use Rattle.std.specs.Prelude.{◌≡◌, option_and_then, option_map};
 ghost use Rattle.std.specs.List.{position};
 ghost use Rattle.ui_machine.specs.State.Sources.{is_numbered, source_of, without_source};
 ghost use Rattle.ui_machine.specs.Rules.MainLoop.{rescheduled};
 ghost use Rattle.main_context.specs.Dues.{due_of};
+ghost use Rattle.main_context.specs.Places.{place_by, priority_place, timeout_rank};
 ghost use Rattle.main_context.specs.Order.{RisesFrom};
 
+use crate::places::Place;
 use crate::source::{Due, Source};
 
 /// Returns what is to run for the source with this number.
@@ -16,6 +18,24 @@ pub(crate) fn find_due(sources: &[Source], number: u64) -> Option<Due>
 {
     let index = index_of(sources, number)?;
     Some(sources[index].due())
+}
+
+/// Returns the place by priority of the source with this number.
+pub(crate) fn priority_place(sources: &[Source], number: u64) -> Option<Place>
+    requires { RisesFrom 0 sources.now }
+    ensures { result ≡ priority_place sources.now number }
+{
+    let index = index_of(sources, number)?;
+    Some(sources[index].priority_place())
+}
+
+/// Returns the place among the timeouts of the source with this number, if it is a timeout.
+pub(crate) fn timeout_place(sources: &[Source], number: u64) -> Option<Place>
+    requires { RisesFrom 0 sources.now }
+    ensures { result ≡ option_and_then (place_by timeout_rank) (source_of number sources.now) }
+{
+    let index = index_of(sources, number)?;
+    sources[index].timeout_place()
 }
 
 /// Removes the source with this number and returns it.

@@ -1,0 +1,15 @@
+use Rattle.std.proofs.Common.{Some, option_map, sym, ◌∙◌, ap}
+use Rattle.ui_machine.specs.State.Sources.{Source, is_numbered}
+use Rattle.main_context.proofs.First.{absent, first}
+use Rattle.main_context.proofs.PlaceOrder.{place}
+use Rattle.main_context.proofs.sources.priority_place.Goals as goal
+
+pub returns-in_err-index : goal.returns-in_err-index
+returns-in_err-index c =
+    let none = absent (is_numbered c.args.number) c.args.sources.now (sym c.in_err-index.ensures) in
+    c.from_residual.ensures ∙ sym (ap (option_map (λ (s : Source). place s.priority s.number)) none.found)
+
+pub returns : goal.returns
+returns c =
+    let here = first (is_numbered c.args.number) c.args.sources.now c.in_ok-index.index c.index-sources-index.result (sym c.in_ok-index.ensures) c.index-sources-index.is in
+    ap Some c.priority_place.ensures ∙ sym (ap (option_map (λ (s : Source). place s.priority s.number)) here.found)
