@@ -383,6 +383,7 @@ ROWS = {
 GROWING = {
     "a join of texts": (joins, 2, 4096, 1, "a join makes a text, and costs something for each of its bytes"),
     "a block and an unblock of many handlers": (blocks, 1, 4096, 2, "a block changes each handler that it matches, and so does an unblock"),
+    "a turn beside timeouts that are ready": (lambda n: turns(n, 9, 1), 1, 255, 1, "a turn looks at each timeout that is ready"),
     "a release of a parent": (releases_of_parents, 1, 7, 1, "a dispose lets go of each child"),
     "a release of an object with handlers": (releases_of_handlers, 1, 256, 1, "a dispose removes each handler"),
     "a release of an object with weak references": (releases_of_weak_targets, 1, 256, 1, "a dispose makes each weak reference null"),
