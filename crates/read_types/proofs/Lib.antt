@@ -11,3 +11,4 @@ pub mod HandlerParts
 pub mod ImplementParts
 pub mod AddedShapes
 pub mod SignalNames
+pub mod HeirTypes

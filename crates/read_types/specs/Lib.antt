@@ -5,3 +5,4 @@ pub mod ImplementDrafts
 pub mod Drafted
 pub mod OwnParts
 pub mod SignalNames
+pub mod HeirTypes

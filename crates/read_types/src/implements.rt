@@ -8,11 +8,13 @@ ghost use Rattle.type_tree.specs.Adding.{interface_named};
 ghost use Rattle.signal_core.specs.SignalView.{signal_view};
 ghost use Rattle.definition_format.specs.Refusals.{Gives, Leads, IsRefusal, shape, unknown, or_refused};
 ghost use Rattle.definition_format.specs.Document.{path_of, each, at_entry};
+ghost use Rattle.read_types.specs.HeirTypes.{HasTypes};
 ghost use Rattle.read_types.specs.OverrideView.{heir_of, names_of};
 ghost use Rattle.read_types.specs.ImplementDrafts.{has_name, is_again_in, brings_again_in, check_brought_in, implemented_once_in, parts_seen};
 ghost use Rattle.definition_format.specs.Denoted.Drafts.{draft_of};
 ghost use Rattle.definition_format.specs.Denoted.Implements.{type_with, named_at, check_prerequisites, check_overrides, implemented_at, implements_listed, implements_at, interface_at_entry};
 
+use crate::ancestry::heir_types;
 use crate::implement_drafts::ImplementDraft;
 use crate::overrides::{Heir, read_own};
 use crate::own_signals::{OwnSignals, has_own_signal, read_own_signals};
@@ -110,12 +112,10 @@ fn interface_of(part: Part<'_>, types: &TypeTree) -> Result<TypeId, ReadError>
 
 // Checks that a class is everything that an interface requires.
 fn check_prerequisites(part: Part<'_>, heir: &Heir<'_>, interface: TypeId) -> Result<(), ReadError>
+    requires { HasTypes heir.now }
     ensures { Gives (λ _. tt) result (check_prerequisites (path_of part.entry.path) (heir_of heir.now) interface) }
 {
-    match heir
-        .types
-        .missing_prerequisite(heir.parent, heir.named, interface)
-    {
+    match heir.missing_prerequisite(interface) {
         None => Ok(()),
         Some(missing) => {
             let path = path_text(part.alloc, part.path)?;
@@ -191,6 +191,7 @@ fn implement<'a>(
     interface: TypeId,
     implemented: &mut ImplementDraft<'a>,
 ) -> Result<(), ReadError>
+    requires { HasTypes heir.now }
     ensures { Leads result (implemented_once_in (path_of part.entry.path) (heir_of heir.now) interface (parts_seen implemented.old)) (parts_seen implemented.new) }
 {
     if is_listed(implemented.types.as_slice(), interface) {
@@ -204,6 +205,7 @@ fn implement<'a>(
 }
 
 impl<'a> Reads<ImplementDraft<'a>> for Heir<'a> {
+    ghost use Rattle.read_types.specs.HeirTypes.{HasTypes};
     ghost use Rattle.read_types.specs.OverrideView.{heir_of};
     ghost use Rattle.read_types.specs.ImplementDrafts.{ImplementParts, implement_part_at, parts_seen};
 
@@ -215,7 +217,7 @@ impl<'a> Reads<ImplementDraft<'a>> for Heir<'a> {
 
     ghost kept = { λ draft. tt };
 
-    ghost known = { λ r. Unit {0} };
+    ghost known = { λ r. HasTypes r };
 
     ghost step = { λ r path p d. implement_part_at path (heir_of r) p d };
 
@@ -229,6 +231,7 @@ impl<'a> Reads<ImplementDraft<'a>> for Heir<'a> {
 
 // Reads the interfaces that a class implements from a list.
 fn read_heir(list: Entries<'_>, heir: &Heir<'_>) -> Result<Vec<TypeId>, ReadError>
+    requires { HasTypes heir.now }
     ensures { Gives (λ v. v.items) result (each (at_entry (λ entry. implemented_at entry (heir_of heir.now)) list.entry.path.now) 0 [] (items_view list.entry.items.now)) }
 {
     let mut implemented = ImplementDraft::new(list.alloc, heir.types, heir.signals, heir.parent)?;
@@ -256,6 +259,8 @@ fn read_listed(
         items,
     };
     let named = read_named(list, types)?;
+    let interfaces = named.as_slice();
+    let ancestry = heir_types(part.alloc, types, parent, interfaces)?;
     let own = read_own(part, types, names, specs, parent)?;
     let own_signals = read_own_signals(part)?;
     let heir = Heir {
@@ -263,7 +268,8 @@ fn read_listed(
         specs,
         signals,
         parent,
-        named: named.as_slice(),
+        named: interfaces,
+        ancestry: &ancestry,
         own: &own,
         own_signals: &own_signals,
     };

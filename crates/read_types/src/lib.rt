@@ -2,6 +2,7 @@
 //! the programs and shapes that they name. Reads the shapes as well.
 #![tactic(auto)]
 
+mod ancestry;
 mod by_type;
 mod class_drafts;
 mod class_handlers;

@@ -13,9 +13,12 @@ ghost use Rattle.definition_format.specs.Document.{path_of, each, at_entry};
 ghost use Rattle.definition_format.specs.Refusals.{Gives};
 ghost use Rattle.definition_format.specs.Denoted.Properties.{inherited_of, spec_at};
 ghost use Rattle.definition_format.specs.Denoted.Overrides.{if_read, own_name, is_own, own_named, compared, override_by, override_of, is_missing, is_different, override_cause, own_at, own_ahead};
+ghost use Rattle.type_tree.specs.Adding.{missing_of};
 ghost use Rattle.read_types.specs.Drafted.{drafted};
+ghost use Rattle.read_types.specs.HeirTypes.{HasTypes};
 ghost use Rattle.read_types.specs.OverrideView.{own_view, override_view};
 
+use crate::ancestry::HeirTypes;
 use crate::own_signals::OwnSignals;
 use definition_format::{ReadError, SpecCause};
 use json_trees::Value;
@@ -196,7 +199,7 @@ fn compared(spec: Option<&Spec>, wanted: &Spec) -> Override
 }
 
 // The context in which the interfaces of a class are judged: the types before it with their properties and signals, its parent, the
-// interfaces that it names, its own properties, and the names of its own signals.
+// interfaces that it names, the types that it is, its own properties, and the names of its own signals.
 #[derive(Clone, Copy)]
 pub(crate) struct Heir<'a> {
     pub(crate) types: &'a TypeTree,
@@ -204,6 +207,7 @@ pub(crate) struct Heir<'a> {
     pub(crate) signals: &'a SignalTable,
     pub(crate) parent: TypeId,
     pub(crate) named: &'a [TypeId],
+    pub(crate) ancestry: &'a HeirTypes,
     pub(crate) own: &'a OwnAhead,
     pub(crate) own_signals: &'a OwnSignals,
 }
@@ -221,6 +225,18 @@ fn override_by(own: &OwnAhead, inherited: Option<&Spec>, wanted: &Spec) -> Overr
 }
 
 impl<'a> Heir<'a> {
+    /// Returns the first type that an interface requires and that the class is not.
+    pub(crate) fn missing_prerequisite(&self, interface: TypeId) -> Option<TypeId>
+        requires { HasTypes self.now }
+        ensures { result ≡ missing_of self.now.types.now self.now.parent self.now.named.now interface }
+    {
+        self.types
+            .interfaces(interface)
+            .iter()
+            .copied()
+            .find(|t| !self.ancestry.contains(t))
+    }
+
     // Returns how the class has a property of an interface.
     fn has(&self, wanted: &Spec) -> Override
         ensures { override_view result ≡ override_of (specs_of self.now.types.now self.now.specs.now self.now.parent) (map own_view self.now.own.now.entries) (spec_view wanted.now) }

@@ -2,16 +2,16 @@
 
 ghost use Rattle.std.specs.Prelude.{◌≡◌, ◌||◌, List, ℕ, OnOk, map};
 ghost use Rattle.std.specs.List.{list_any};
-ghost use Rattle.ui_machine.specs.Rules.Ancestry.{implemented_by};
 ghost use Rattle.signal_core.specs.Sources.{brought_by, own_of, signals_of};
 ghost use Rattle.signal_core.specs.SignalView.{signal_view};
 ghost use Rattle.read_types.specs.ImplementDrafts.{has_name};
 ghost use Rattle.read_types.specs.SignalNames.{AreIncluded, has_signal};
 
+use crate::ancestry::implemented;
 use signal_core::{Signal, SignalTable};
 use std::alloc::{AllocError, Global};
 use std::collections::BTreeSet;
-use type_tree::{TypeId, TypeSort, TypeTree};
+use type_tree::{TypeId, TypeTree};
 
 // The name of the signal that each type has.
 const NOTIFY: &str = "notify";
@@ -86,17 +86,4 @@ fn add_listed<'a>(names: &mut BTreeSet<&'a str>, signals: &'a [Signal]) -> Resul
         names.insert(signal.name.as_str())?;
     }
     Ok(())
-}
-
-// Returns the interfaces that a class names. There are none for types that are not classes.
-fn implemented(types: &TypeTree, t: TypeId) -> &[TypeId]
-    ensures { result.now ≡ implemented_by types.now t }
-{
-    if t.index() >= types.len() {
-        return &[];
-    }
-    match types.sort(t) {
-        TypeSort::Class => types.interfaces(t),
-        TypeSort::Interface | TypeSort::Enum | TypeSort::Flags => &[],
-    }
 }

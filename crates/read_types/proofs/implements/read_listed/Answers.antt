@@ -48,10 +48,10 @@ returns-in_err-implemented c =
     let at_base : base ≡ under path (codes "implements") = c.as_str.ensures.value ∙ c.in_ok-path.ensures in
     let o = was_read own_named (own_ahead path c.args.types.now c.args.names.now (own_of c.args.specs.now) c.args.parent d) (own_named (map own_view c.in_ok-own.own.entries)) c.in_ok-own.ensures in
     let s = was_read are_named (own_signals_ahead path d) _ c.in_ok-own_signals.ensures in
-    let heir = heir_with draft c.args.parent c.as_slice.result.now (map own_view c.in_ok-own.own.entries) (names_of c.in_ok-own_signals.own_signals.keys) in
+    let heir = heir_with draft c.args.parent c.as_slice-interfaces.result.now (map own_view c.in_ok-own.own.entries) (names_of c.in_ok-own_signals.own_signals.keys) in
     let p = err_from_is_err_and c.from_residual-in_err-implemented.result c.from_residual-in_err-implemented.ensures.1 in
     rw (p.1, p.2) (fails_as c.in_err-implemented.field-0.0 _ _
-    (listed_with path c.args.names.now draft c.args.parent d base items c.as_slice.result.now c.in_ok-named.named.items o.0 s.0 at_base c.in_ok-named.ensures c.as_slice.ensures.value o.1 s.1
+    (listed_with path c.args.names.now draft c.args.parent d base items c.as_slice-interfaces.result.now c.in_ok-named.named.items o.0 s.0 at_base c.in_ok-named.ensures c.as_slice-interfaces.ensures.value o.1 s.1
     ∙ reads_same heir o.0 s.0 o.2 (λ name. ap (λ (f : List ℕ → Bool). f name) s.2 ∙ named_among c.in_ok-own_signals.own_signals name) base items)
     c.in_err-implemented.ensures)
 
@@ -65,7 +65,7 @@ returns c =
     let at_base : base ≡ under path (codes "implements") = c.as_str.ensures.value ∙ c.in_ok-path.ensures in
     let o = was_read own_named (own_ahead path c.args.types.now c.args.names.now (own_of c.args.specs.now) c.args.parent d) (own_named (map own_view c.in_ok-own.own.entries)) c.in_ok-own.ensures in
     let s = was_read are_named (own_signals_ahead path d) _ c.in_ok-own_signals.ensures in
-    let heir = heir_with draft c.args.parent c.as_slice.result.now (map own_view c.in_ok-own.own.entries) (names_of c.in_ok-own_signals.own_signals.keys) in
-    listed_with path c.args.names.now draft c.args.parent d base items c.as_slice.result.now c.in_ok-named.named.items o.0 s.0 at_base c.in_ok-named.ensures c.as_slice.ensures.value o.1 s.1
+    let heir = heir_with draft c.args.parent c.as_slice-interfaces.result.now (map own_view c.in_ok-own.own.entries) (names_of c.in_ok-own_signals.own_signals.keys) in
+    listed_with path c.args.names.now draft c.args.parent d base items c.as_slice-interfaces.result.now c.in_ok-named.named.items o.0 s.0 at_base c.in_ok-named.ensures c.as_slice-interfaces.ensures.value o.1 s.1
     ∙ reads_same heir o.0 s.0 o.2 (λ name. ap (λ (f : List ℕ → Bool). f name) s.2 ∙ named_among c.in_ok-own_signals.own_signals name) base items
     ∙ c.in_ok-implemented.ensures

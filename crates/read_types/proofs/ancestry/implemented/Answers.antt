@@ -2,7 +2,7 @@ use Rattle.std.proofs.Common.{◌≤◌, length, ap, sym, arith}
 use Rattle.ui_machine.specs.Output.Text.{no_type}
 use Rattle.ui_machine.specs.Rules.Ancestry.{implemented}
 use Rattle.type_tree.proofs.Entries.{read-past}
-use Rattle.read_types.proofs.signal_names.implemented.Goals as goal
+use Rattle.read_types.proofs.ancestry.implemented.Goals as goal
 
 pub returns-then-index-len : goal.returns-then-index-len
 returns-then-index-len c =
