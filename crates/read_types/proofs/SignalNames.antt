@@ -14,7 +14,7 @@ use Rattle.std.proofs.Math.Path.{fun_ext}
 use Rattle.ui_machine.specs.Definition.Names.{same_name}
 use Rattle.ui_machine.specs.Definition.Signals.{Signal}
 use Rattle.ui_machine.specs.Definition.Types.{GType}
-use Rattle.ui_machine.specs.Rules.Ancestry.{line_from, lineage, parent_of}
+use Rattle.ui_machine.specs.Rules.Ancestry.{lineage, parent_of}
 use Rattle.ui_machine.specs.Words.{notify}
 use Rattle.type_tree.specs.Tree.{IsTree}
 use Rattle.type_tree.proofs.Lines.{line_from-parent, line_from-root}
