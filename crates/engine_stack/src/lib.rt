@@ -13,8 +13,6 @@ mod plain_frames;
 mod stacks;
 mod stocks;
 mod task;
-#[cfg(test)]
-mod tests;
 
 pub use construction_frames::ConstructionFrame;
 pub use emission_frames::EmissionFrame;

@@ -22,8 +22,6 @@ mod object;
 mod object_values;
 mod release;
 mod table;
-#[cfg(test)]
-mod tests;
 mod unheld;
 mod weak;
 

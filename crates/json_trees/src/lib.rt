@@ -8,8 +8,6 @@ mod error;
 mod numbers;
 mod reading;
 mod scalars;
-#[cfg(test)]
-mod tests;
 mod value;
 
 pub use error::ReadFault;

@@ -12,8 +12,6 @@ mod fault;
 mod places;
 mod source;
 mod sources;
-#[cfg(test)]
-mod tests;
 
 pub use batch::Batch;
 pub use context::{Context, MAX_SOURCES};

@@ -1,6 +1,6 @@
 //! Frames of each kind, pushed out of vectors of any capacity, and popped; and vectors that a stock keeps.
 
-use crate::{Frame, Frames, Stock, Task};
+use engine_stack::{Frame, Frames, Stock, Task};
 use g_values::Value;
 use signal_core::{Emission, Handlers, SignalFlags};
 use std::test::Fail;

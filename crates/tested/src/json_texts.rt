@@ -1,6 +1,6 @@
 //! What no contract says of single texts.
 
-use crate::{ReadFault, Value};
+use json_trees::{ReadFault, Value};
 use std::test::Fail;
 
 #[test]

@@ -1,6 +1,6 @@
-//! Tests of what no proof shows: that calls succeed, and that the clauses mean what a reader expects.
+//! Tests of the main context: removals, turns and restarts.
 
-use crate::{Batch, Context, Due};
+use main_context::{Batch, Context, Due};
 use std::test::Fail;
 
 #[test]
