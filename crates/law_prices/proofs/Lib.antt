@@ -41,3 +41,7 @@ pub mod SaidSteps
 pub mod MadeProofs
 pub mod MadeTasks
 pub mod MadeSteps
+pub mod PartPrices
+pub mod SettlesPrices
+pub mod BoundProofs
+pub mod CallProofs

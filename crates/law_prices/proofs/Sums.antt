@@ -1,9 +1,10 @@
 -- Sums and greatest values.
-use Rattle.std.proofs.Common.{◌≡◌, refl, ℕ, suc, ◌+◌, ◌≤◌, Bool, true, false, cond, List, [], ◌∷◌, ◌++◌, map, Option, None, Some, arith}
+use Rattle.std.proofs.Common.{◌≡◌, inl, inr, refl, ℕ, suc, ◌+◌, ◌≤◌, Bool, true, false, cond, List, [], ◌∷◌, ◌++◌, map, Option, None, Some, arith}
 use Rattle.std.specs.List.{filter}
 use Rattle.ui_machine.specs.Definition.Places.{Bind}
 use Rattle.ui_machine.specs.Seq.{total}
 use Rattle.law_typing.specs.Graph.Tables.{greatest}
+use Rattle.law_typing.specs.Laws.{IsIn}
 use Rattle.law_prices.specs.Prices.{by_number, price_of}
 
 pub cond_zero : (b : Bool) (n : ℕ) → n ≡ 0 → cond b n 0 ≡ 0
@@ -66,6 +67,10 @@ total_map f m (x ∷ xs) = let h = total_map f m xs in omega (arith, h)
 pub by_number_same : (f g : ℕ → Bind → ℕ) (n : ℕ) (bs : List Bind) → ((n : ℕ) (b : Bind) → f n b ≡ g n b) → by_number f n bs ≡ by_number g n bs
 by_number_same f g n [] same = refl
 by_number_same f g n (b ∷ bs) same = let h = by_number_same f g (suc n) bs same in let s = same n b in omega (arith, h, s)
+
+pub by_number_in : (f g : ℕ → Bind → ℕ) (n : ℕ) (bs : List Bind) → ((n : ℕ) (b : Bind) → IsIn b bs → f n b ≡ g n b) → by_number f n bs ≡ by_number g n bs
+by_number_in f g n [] same = refl
+by_number_in f g n (b ∷ bs) same = let h = by_number_in f g (suc n) bs (λ n x k. same n x (inr k)) in let s = same n b (inl refl) in omega (arith, h, s)
 
 pub by_number_less : (f g : ℕ → Bind → ℕ) (n : ℕ) (bs : List Bind) → ((n : ℕ) (b : Bind) → f n b ≤ g n b) → by_number f n bs ≤ by_number g n bs
 by_number_less f g n [] less = omega arith

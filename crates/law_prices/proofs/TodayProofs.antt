@@ -94,7 +94,7 @@ module _ (d : Definition) where
 -- ** pairs
 
 -- two channels that are one both with a third are one
-share_one : (a b c : Channel) → same_channel a c ≡ true → same_channel b c ≡ true → same_channel a b ≡ true
+pub share_one : (a b c : Channel) → same_channel a c ≡ true → same_channel b c ≡ true → same_channel a b ≡ true
 share_one a b c e f =
     let s = same_channel_true a c e in
     let t = same_channel_true b c f in

@@ -5,6 +5,8 @@ pub mod Prices
 pub mod Steps
 pub mod Potential
 pub mod Dispatches
+pub mod Bounds
+pub mod Calls
 pub mod Falls
 pub mod Paid
 pub mod Solved

@@ -1,6 +1,8 @@
 //! Prices: what each dispatch of an accepted definition may cost at most, by any price list.
 #![tactic(auto)]
 
+ghost use Rattle.law_prices.specs.Bounds.{CostIsWithin, LinesAreWithin, ObjectsAreWithin, PricesAreFound, PricesAreOnce, RepliesAreWithin, StepsAreWithin, ZeroIsNever};
+ghost use Rattle.law_prices.specs.Calls.{CallsAreWithin, EachIsAskedFor, EachIsToOne, ZeroIsNoCall};
 ghost use Rattle.law_prices.specs.Dispatches.{DispatchesPay, FreeIsNever, LinesAreFew, ObjectsAreFew, RepliesAreFew, StepsAreFew};
 ghost use Rattle.law_prices.specs.Falls.{PricesFall};
 ghost use Rattle.law_prices.specs.Solved.{PricesAreSolved};
@@ -35,4 +37,30 @@ pub fn law()
     ensures replies { RepliesAreFew }
     ensures lines { LinesAreFew }
     ensures objects { ObjectsAreFew }
+{}
+
+/// By any price list each accepted definition has its prices: going on from 0 computes them, and nothing else solves their equations.
+pub fn found()
+    ensures found { PricesAreFound }
+    ensures once { PricesAreOnce }
+{}
+
+/// So each way into an accepted definition has a bound by any price list, a number that is computed from the definition alone, and all that
+/// the law says of a dispatch is so by this bound.
+pub fn bounds()
+    ensures cost { CostIsWithin }
+    ensures never { ZeroIsNever }
+    ensures steps { StepsAreWithin }
+    ensures replies { RepliesAreWithin }
+    ensures lines { LinesAreWithin }
+    ensures objects { ObjectsAreWithin }
+{}
+
+/// A dispatch takes no more replies of peers to a method of a shape than its bound by the list of these calls says, and none where that is 0.
+/// Each reply that it takes is one to the method that the peer was asked for.
+pub fn calls()
+    ensures within { CallsAreWithin }
+    ensures never { ZeroIsNoCall }
+    ensures each { EachIsToOne }
+    ensures asked { EachIsAskedFor }
 {}
