@@ -45,3 +45,4 @@ pub mod PartPrices
 pub mod SettlesPrices
 pub mod BoundProofs
 pub mod CallProofs
+pub mod BegunProofs

@@ -7,6 +7,7 @@ pub mod Potential
 pub mod Dispatches
 pub mod Bounds
 pub mod Calls
+pub mod Begun
 pub mod Falls
 pub mod Paid
 pub mod Solved

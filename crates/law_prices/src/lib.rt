@@ -1,6 +1,7 @@
 //! Prices: what each dispatch of an accepted definition may cost at most, by any price list.
 #![tactic(auto)]
 
+ghost use Rattle.law_prices.specs.Begun.{EmissionsAreWithin, ProgramsAreWithin};
 ghost use Rattle.law_prices.specs.Bounds.{CostIsWithin, LinesAreWithin, ObjectsAreWithin, PricesAreFound, PricesAreOnce, RepliesAreWithin, StepsAreWithin, ZeroIsNever};
 ghost use Rattle.law_prices.specs.Calls.{CallsAreWithin, EachIsAskedFor, EachIsToOne, ZeroIsNoCall};
 ghost use Rattle.law_prices.specs.Dispatches.{DispatchesPay, FreeIsNever, LinesAreFew, ObjectsAreFew, RepliesAreFew, StepsAreFew};
@@ -63,4 +64,11 @@ pub fn calls()
     ensures never { ZeroIsNoCall }
     ensures each { EachIsToOne }
     ensures asked { EachIsAskedFor }
+{}
+
+/// A dispatch begins no more emissions at a channel than its bound by the list of these emissions says, and a program no more often than its
+/// bound by the list of the program's runs says.
+pub fn begun()
+    ensures emissions { EmissionsAreWithin }
+    ensures programs { ProgramsAreWithin }
 {}
