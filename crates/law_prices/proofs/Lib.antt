@@ -46,3 +46,4 @@ pub mod SettlesPrices
 pub mod BoundProofs
 pub mod CallProofs
 pub mod BegunProofs
+pub mod PlacedProofs

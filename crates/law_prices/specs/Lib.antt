@@ -8,6 +8,7 @@ pub mod Dispatches
 pub mod Bounds
 pub mod Calls
 pub mod Begun
+pub mod Placed
 pub mod Falls
 pub mod Paid
 pub mod Solved

@@ -37,6 +37,11 @@ abbrev pub objects : PriceList
 objects (make place) = 1
 objects _ = 0
 
+-- the objects that are made of a place
+abbrev pub objects_at : ℕ → PriceList
+objects_at place (make p) = cond (nat_eq p place) 1 0
+objects_at place _ = 0
+
 -- what a peer of the shape is asked for by the method
 abbrev pub calls : (shape method : ℕ) → PriceList
 calls shape method (answer s m) = cond (nat_eq s shape && nat_eq m method) 1 0

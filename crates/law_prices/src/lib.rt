@@ -6,6 +6,7 @@ ghost use Rattle.law_prices.specs.Bounds.{CostIsWithin, LinesAreWithin, ObjectsA
 ghost use Rattle.law_prices.specs.Calls.{CallsAreWithin, EachIsAskedFor, EachIsToOne, ZeroIsNoCall};
 ghost use Rattle.law_prices.specs.Dispatches.{DispatchesPay, FreeIsNever, LinesAreFew, ObjectsAreFew, RepliesAreFew, StepsAreFew};
 ghost use Rattle.law_prices.specs.Falls.{PricesFall};
+ghost use Rattle.law_prices.specs.Placed.{PlacesAreWithin};
 ghost use Rattle.law_prices.specs.Solved.{PricesAreSolved};
 ghost use Rattle.law_prices.specs.Today.{CountedIsToday};
 ghost use Rattle.law_prices.specs.Worked.Knobs as knobs_case;
@@ -71,4 +72,9 @@ pub fn calls()
 pub fn begun()
     ensures emissions { EmissionsAreWithin }
     ensures programs { ProgramsAreWithin }
+{}
+
+/// A dispatch makes no more objects of a place than its bound by the list of these objects says.
+pub fn placed()
+    ensures places { PlacesAreWithin }
 {}
