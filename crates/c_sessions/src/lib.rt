@@ -18,6 +18,8 @@ mod session_handle;
 mod starts;
 mod status;
 mod taken_lines;
+#[cfg(test)]
+mod tests;
 mod verdicts;
 
 pub use faults::HostedFault;

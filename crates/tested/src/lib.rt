@@ -8,10 +8,4 @@ mod contexts;
 #[cfg(test)]
 mod json_texts;
 #[cfg(test)]
-mod pools;
-#[cfg(test)]
-mod sessions;
-#[cfg(test)]
 mod stacks;
-#[cfg(test)]
-mod stand_ins;

@@ -1,4 +1,4 @@
-//! Tests of pools, with a peer that adds up whole numbers.
+//! An example of a peer: a tally, which adds up whole numbers.
 
 ghost use Rattle.std.specs.Prelude.{◌≡◌, ◌∷◌, [], IfOk, IfSome, IsTrue, map, true};
 ghost use Rattle.ui_machine.specs.State.Peers.{PeerState};
@@ -8,8 +8,12 @@ ghost use Rattle.native_peers.specs.Moves.{ArgsFit};
 ghost use Rattle.native_peers.specs.Pool.{entries, seen};
 ghost use Rattle.native_peers.specs.Tallies.{IsTallyAt, Tallies, first_number, number, number_in, sum_after, tally_shape};
 
+use crate::faults::{AddFault, MatchFault, PeerFault};
+use crate::needs::Need;
+use crate::peers::Peer;
+use crate::pools::PeerPool;
 use g_values::{Kind, Value};
-use native_peers::{AddFault, MatchFault, Method, Need, Peer, PeerFault, PeerPool, Peers, Shape};
+use peer_shapes::{Method, Shape};
 use std::alloc::{AllocError, Global};
 use std::test::Fail;
 

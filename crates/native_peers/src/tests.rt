@@ -3,7 +3,11 @@
 ghost use Rattle.std.specs.Prelude.{IsSomeAnd, IsTrue, slice_get};
 ghost use Rattle.native_peers.specs.StandIns.{stand_ins};
 
-use native_peers::{MatchFault, Need, Peers, Shape, StandIn};
+use crate::faults::MatchFault;
+use crate::needs::Need;
+use crate::pooled_peers::Peers;
+use crate::stand_ins::StandIn;
+use peer_shapes::Shape;
 use std::test::Fail;
 
 // Closes the first peer, which is an open stand-in.

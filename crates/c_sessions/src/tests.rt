@@ -1,6 +1,6 @@
 //! Tests that start a session, give it event lines, and take its own lines through buffers of any size.
 
-use c_sessions::{SessionHandle, Status, verify};
+use crate::{SessionHandle, Status, verify};
 
 const DEFINITION: &str =
     "{\"format\":1,\"classes\":[{\"name\":\"Box\",\"properties\":[{\"name\":\"n\",\"kind\":\"int\"}]}],\
