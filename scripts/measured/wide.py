@@ -71,6 +71,13 @@ def signals_by_inherited_signals():
     return one([box(implements=names), *children], interfaces=brought), []
 
 
+def signals_of_one_name_by_classes():
+    """A class with 120 interfaces, and 133 children that each declare signals of the same 64 names."""
+    names = numbered("Iface", 120)
+    children = [box(name=f"Box{i}", parent="Box", signals=[f"s{k}" for k in range(64)]) for i in range(133)]
+    return one([box(implements=names), *children], interfaces=[{"name": name} for name in names]), []
+
+
 def interfaces_by_what_they_require():
     """Each of 120 interfaces requires those before it, and 100 classes with 14 ancestors implement all of them."""
     names = numbered("Iface", 120)
@@ -375,6 +382,7 @@ ROWS = {
     "interfaces by interfaces that they require": interfaces_that_require_interfaces,
     "classes by interfaces by signals": classes_by_interfaces_by_signals,
     "signals by inherited signals": signals_by_inherited_signals,
+    "signals of one name by classes": signals_of_one_name_by_classes,
     "interfaces by what they require": interfaces_by_what_they_require,
     "classes by interfaces by properties": classes_by_interfaces_by_properties,
     "classes by properties": classes_by_properties,

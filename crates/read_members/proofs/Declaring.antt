@@ -18,12 +18,6 @@ pub signals_of-is : (types : List GType) (table : List (List Signal)) → signal
 unfolding declared_of
 signals_of-is types table = refl
 
--- nothing forbids a signal that passed the tests
-pub nothing_forbids : (types : List GType) (table : List (List Signal)) (t : ℕ) (s : Signal) → is_property_name s.name ≡ true
-    → is_some (number_named (signals_of types table t) s.name) ≡ false → takes_result s.accumulator s.result ≡ true → nat_le 64 (line_count types table t) ≡ false
-    → declare_fault types table t s ≡ None
-nothing_forbids types table t s named new fits room = rw (named, new, fits, room) refl
-
 pub added : (old new : List (List Signal)) (t : ℕ) (s : Signal) → AddsSignal old new t (canonical_signal s)
     → add_signal (own_of old) t (canonical_signal s) ≡ own_of new
 added old new t s adds = sym (fun_ext adds)

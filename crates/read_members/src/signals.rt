@@ -1,6 +1,6 @@
 //! Reads the signals of classes and interfaces.
 
-ghost use Rattle.std.specs.Prelude.{◌≡◌, ◌<◌, [], codes, length, is_some, false, true, map, option_map, string_bytes, nat_le, None, Some, Ok, IfOk};
+ghost use Rattle.std.specs.Prelude.{◌≡◌, ◌<◌, ◌≤◌, [], codes, length, is_some, true, map, option_map, string_bytes, Some, IfOk};
 ghost use Rattle.json_trees.specs.View.{view, items_view};
 ghost use Rattle.type_tree.specs.Adding.{sort_of};
 ghost use Rattle.type_tree.specs.Entry.{view_of_sort};
@@ -9,7 +9,7 @@ ghost use Rattle.g_values.specs.View.{kind_view};
 ghost use Rattle.signal_core.specs.Emission.{accumulator_of};
 ghost use Rattle.signal_core.specs.SignalView.{signal_view};
 ghost use Rattle.signal_core.specs.Sources.{number_named, own_of, signals_of};
-ghost use Rattle.signal_core.specs.Table.{canonical_signal, declare_fault, line_count, takes_result};
+ghost use Rattle.signal_core.specs.Table.{line_count, takes_result};
 ghost use Rattle.definition_format.specs.declared.faults.DefinitionFault.TheVariants as faults;
 ghost use Rattle.definition_format.specs.declared.faults.ReadError.TheVariants as errors;
 ghost use Rattle.definition_format.specs.declared.faults.SpecCause.TheVariants as causes;
@@ -25,8 +25,9 @@ use read_parts::document::{Entries, Part, bad_shape, entry_name, path_under};
 use read_parts::entries::TypeNames;
 use read_parts::kinds::kind_of_word;
 use read_parts::reads::{Reads, read_each};
-use signal_core::{Accumulator, MOST_SIGNALS, Signal, SignalError, SignalFault, SignalTable};
-use type_tree::{TypeId, TypeSort, TypeTree, is_property_name};
+use signal_core::{Accumulator, MOST_SIGNALS, Signal, SignalFault, SignalTable};
+use std::alloc::{AllocError, Global};
+use type_tree::{TypeId, TypeSort, TypeTree, canonical_name, is_property_name};
 
 const MEMBERS: [&str; 5] = ["name", "params", "result", "flags", "accumulator"];
 
@@ -163,7 +164,6 @@ fn accumulator_called(
     value: &Value,
 ) -> Result<Option<Accumulator>, ReadError>
     ensures accumulator { Gives (option_map accumulator_of) result (accumulator_called (under (path_of part.entry.path) (codes "accumulator")) (option_map kind_view result_kind.now) (view value.now)) }
-    ensures fits { IfOk result (λ a. takes_result (option_map accumulator_of a) (option_map kind_view result_kind.now) ≡ true) }
 {
     let Some(word) = value.as_str() else {
         return Err(bad_shape(part.alloc, part.path, "accumulator")?);
@@ -184,7 +184,6 @@ fn accumulator_in(
     result_kind: &Option<Kind>,
 ) -> Result<Option<Accumulator>, ReadError>
     ensures accumulator { Gives (option_map accumulator_of) result (accumulator_at (path_of part.entry.path) (option_map kind_view result_kind.now) (view part.entry.value.now)) }
-    ensures fits { IfOk result (λ a. takes_result (option_map accumulator_of a) (option_map kind_view result_kind.now) ≡ true) }
 {
     match part.value.get("accumulator") {
         None => Ok(None),
@@ -202,7 +201,8 @@ fn not_declared(path: String, cause: SignalFault) -> ReadError
 // Checks that a type has room for another signal.
 fn check_room(types: &TypeTree, signals: &SignalTable, t: TypeId) -> Result<(), ReadError>
     ensures room { Gives (λ _. tt) result (room_for_signal (line_count types.now signals.now.signals t)) }
-    ensures fine { IfOk result (λ _. nat_le 64 (line_count types.now signals.now.signals t) ≡ false) }
+    ensures own { IfOk result (λ _. length (own_of signals.now.signals t) < 64) }
+    ensures few { length types.now ≤ 256 }
 {
     if signals.line_count(types, t) >= MOST_SIGNALS {
         return Err(ReadError::Refused(DefinitionFault::Limit(DefinitionLimit::Signals)));
@@ -224,6 +224,21 @@ fn name_again(part: Part<'_>, sort: TypeSort) -> Result<ReadError, ReadError>
     }
 }
 
+// Returns whether a type has a signal of this name, in any spelling.
+fn has_signal(
+    alloc: Global,
+    types: &TypeTree,
+    signals: &SignalTable,
+    t: TypeId,
+    name: &str,
+) -> Result<bool, AllocError>
+    requires { is_property_name name.now ≡ true }
+    ensures { IfOk result (λ there. there ≡ is_some (number_named (signals_of types.now signals.now.signals t) name.now)) }
+{
+    let name = canonical_name(alloc, name)?;
+    Ok(signals.has(types, t, name.as_str()))
+}
+
 // Checks that a name may be that of a signal, and that the type has no signal of this name.
 fn check_name(
     part: Part<'_>,
@@ -235,13 +250,12 @@ fn check_name(
     requires { t < length types.now }
     ensures name { Gives (λ _. tt) result (new_signal (under (path_of part.entry.path) (codes "name")) (sort_of types.now t) (signals_of types.now signals.now.signals t) name.now) }
     ensures named { IfOk result (λ _. is_property_name name.now ≡ true) }
-    ensures new { IfOk result (λ _. is_some (number_named (signals_of types.now signals.now.signals t) name.now) ≡ false) }
 {
     if !is_property_name(name) {
         let path = path_under(part.alloc, part.path, "name")?;
         return Err(not_declared(path, SignalFault::BadName));
     }
-    if signals.find(types, t, name).is_some() {
+    if has_signal(part.alloc, types, signals, t, name)? {
         return Err(name_again(part, types.sort(t))?);
     }
     Ok(())
@@ -258,7 +272,9 @@ fn signal_in(
 ) -> Result<Signal, ReadError>
     requires { t < length types.now }
     ensures signal { Gives signal_view result (signal_of_entry (path_of part.entry.path) types.now names.now t (line_count types.now signals.now.signals t) (signals_of types.now signals.now.signals t) (view part.entry.value.now)) }
-    ensures fine { IfOk result (λ s. declare_fault types.now signals.now.signals t (signal_view s) ≡ None) }
+    ensures named { IfOk result (λ s. is_property_name (string_bytes s.name) ≡ true) }
+    ensures own { IfOk result (λ _. length (own_of signals.now.signals t) < 64) }
+    ensures few { IfOk result (λ _. length types.now ≤ 256) }
 {
     let members = part.members()?;
     check_room(types, signals, t)?;
@@ -279,25 +295,6 @@ fn signal_in(
     })
 }
 
-// Declares a signal that has passed all tests.
-fn declare(
-    types: &TypeTree,
-    signals: &mut SignalTable,
-    t: TypeId,
-    signal: Signal,
-) -> Result<(), ReadError>
-    requires within { t < length types.now }
-    requires fine { declare_fault types.now signals.old.signals t (signal_view signal) ≡ None }
-    ensures signals { Leads result (Ok (add_signal (own_of signals.old.signals) t (canonical_signal (signal_view signal)))) (own_of signals.new.signals) }
-    ensures handlers { signals.new.handlers ≡ signals.old.handlers }
-{
-    match signals.declare(types, t, signal) {
-        Ok(()) => Ok(()),
-        Err(SignalError::OutOfMemory) => Err(ReadError::OutOfMemory),
-        Err(SignalError::Refused(_)) => unreachable!(),
-    }
-}
-
 // Reads the signal of an entry and declares it for a type.
 fn read_signal(
     part: Part<'_>,
@@ -311,7 +308,7 @@ fn read_signal(
     ensures handlers { signals.new.handlers ≡ signals.old.handlers }
 {
     let signal = signal_in(part, types, names, signals, t)?;
-    declare(types, signals, t, signal)?;
+    signals.append(t, signal)?;
     Ok(())
 }
 

@@ -56,19 +56,6 @@ pub name_more : (bs : List ℕ) (old new : BTreeSet (Bor (List ℕ))) → Update
 name_more bs old new h name =
     h.0 (record { ref_ptr = (0, 0); now = name }) ∙ ap (λ b. if b then true else has_name old name) (is_eq-slice_cmp bs name)
 
--- ** names of signals
-
--- a name among those of signals
-pub named_there : (signals : List Signal) (i : ℕ) (name : List ℕ)
-    → is_some (place_from (λ (s : Signal). s.name) i signals name) ≡ list_any (λ (s : Signal). same_name s.name name) signals
-named_there [] i name = refl
-named_there (s ∷ ss) i name = by (same_name s.name name) (named_there ss (suc i) name)
-  where
-    by : (b : Bool) → is_some (place_from (λ (s : Signal). s.name) (suc i) ss name) ≡ list_any (λ (s : Signal). same_name s.name name) ss
-        → is_some (cond b (Some i) (place_from (λ (s : Signal). s.name) (suc i) ss name)) ≡ (b || list_any (λ (s : Signal). same_name s.name name) ss)
-    by true rest = refl
-    by false rest = rest
-
 -- ** parts
 
 pub same_parts : (ts us : List ℕ) (has names : List ℕ → Bool) → ts ≡ us → ((name : List ℕ) → has name ≡ names name)

@@ -22,8 +22,9 @@ use Rattle.signal_core.specs.SignalView.{signal_view}
 use Rattle.signal_core.specs.Sources.{brought_by, declared_of, each_once, own_of, signals_of, sources_of}
 use Rattle.signal_core.specs.declared.signal.Signal as code
 use Rattle.read_types.specs.ImplementDrafts.{has_name}
-use Rattle.read_types.specs.SignalNames.{AreIncluded, has_signal}
-use Rattle.read_types.proofs.ImplementParts.{named_there}
+use Rattle.signal_core.specs.Owners.{has_signal}
+use Rattle.read_types.specs.SignalNames.{AreIncluded}
+use Rattle.signal_core.proofs.Owned.{any_flat, any_once, named_there}
 use Rattle.read_types.proofs.NamesAhead.{any_map}
 
 -- ** truth values
@@ -115,33 +116,6 @@ included_more own seen new names more t included keys added u h name has = by (i
     by false e there = added name ∙ ap (λ b. b || has_signal (own_of own t) name) (included u there name has)
 
 -- ** tests over lists of types
-
-any_flat : {A : Type 0} (test : A → Bool) (f : ℕ → List A) (xs : List ℕ) → list_any test (flat_map f xs) ≡ list_any (λ x. list_any test (f x)) xs
-any_flat test f [] = refl
-any_flat test f (x ∷ xs) = list_any-append test (f x) (flat_map f xs) ∙ ap (λ b. list_any test (f x) || b) (any_flat test f xs)
-
--- without an element that fails the test
-any_others : (test : ℕ → Bool) (x : ℕ) (ys : List ℕ) → test x ≡ false → list_any test (filter (λ y. not (nat_eq x y)) ys) ≡ list_any test ys
-any_others test x [] fails = refl
-any_others test x (y ∷ ys) fails = by (nat_eq x y) refl (any_others test x ys fails)
-  where
-    same : nat_eq x y ≡ true → x ≡ y
-    same h = grind (arith, nat_tests)
-
-    by : (b : Bool) → nat_eq x y ≡ b → list_any test (filter (λ z. not (nat_eq x z)) ys) ≡ list_any test ys
-        → list_any test (cond (not b) (y ∷ filter (λ z. not (nat_eq x z)) ys) (filter (λ z. not (nat_eq x z)) ys)) ≡ (test y || list_any test ys)
-    by true e rest = rest ∙ ap (λ b. b || list_any test ys) (sym fails ∙ ap test (same e))
-    by false e rest = ap (λ b. test y || b) rest
-
--- what occurs twice counts once
-any_once : (test : ℕ → Bool) (xs : List ℕ) → list_any test (each_once xs) ≡ list_any test xs
-any_once test [] = refl
-any_once test (x ∷ xs) = by (test x) refl (any_once test xs)
-  where
-    by : (b : Bool) → test x ≡ b → list_any test (each_once xs) ≡ list_any test xs
-        → (b || list_any test (filter (λ y. not (nat_eq x y)) (each_once xs))) ≡ (b || list_any test xs)
-    by true e rest = refl
-    by false e rest = any_others test x (each_once xs) e ∙ rest
 
 any_reversed : (test : ℕ → Bool) (xs : List ℕ) → list_any test (reverse xs) ≡ list_any test xs
 any_reversed test xs = sym (list_any-IsPermutation test xs (reverse xs) (IsPermutation-reverse xs))

@@ -5,7 +5,8 @@ ghost use Rattle.std.specs.List.{list_any};
 ghost use Rattle.signal_core.specs.Sources.{brought_by, own_of, signals_of};
 ghost use Rattle.signal_core.specs.SignalView.{signal_view};
 ghost use Rattle.read_types.specs.ImplementDrafts.{has_name};
-ghost use Rattle.read_types.specs.SignalNames.{AreIncluded, has_signal};
+ghost use Rattle.signal_core.specs.Owners.{has_signal};
+ghost use Rattle.read_types.specs.SignalNames.{AreIncluded};
 
 use crate::ancestry::implemented;
 use signal_core::{Signal, SignalTable};

@@ -18,3 +18,4 @@ pub mod Inherited
 pub mod Telling
 pub mod Dashed
 pub mod PlacesOfSignals
+pub mod Owned

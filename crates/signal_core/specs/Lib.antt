@@ -5,6 +5,7 @@ pub mod Laws
 pub mod Growing
 pub mod SignalView
 pub mod Sources
+pub mod Owners
 pub mod Table
 pub mod TableLaws
 pub mod SignalRows

@@ -1,18 +1,19 @@
 //! Declaration of signals.
 
-ghost use Rattle.std.specs.Prelude.{◌≡◌, ◌<◌, ◌≤◌, IfNone, length, option_map, string_bytes, true};
+ghost use Rattle.std.specs.Prelude.{◌≡◌, ◌<◌, ◌≤◌, IfNone, OnErr, OnOk, length, option_map, string_bytes, true};
 ghost use Rattle.g_values.specs.View.{kind_view};
 ghost use Rattle.type_tree.specs.PropertyName.{is_property_name};
 ghost use Rattle.signal_core.specs.Emission.{accumulator_of};
 ghost use Rattle.signal_core.specs.SignalView.{signal_view};
 ghost use Rattle.signal_core.specs.Sources.{own_of};
-ghost use Rattle.signal_core.specs.Table.{Declares, declare_fault, takes_result};
+ghost use Rattle.signal_core.specs.Table.{AddsSignal, Declares, SameSignals, canonical_signal, declare_fault, takes_result};
 
 use crate::emission::Accumulator;
 use crate::fault::{SignalError, SignalFault};
 use crate::signal::Signal;
 use crate::table::{MOST_SIGNALS, SignalTable};
 use g_values::Kind;
+use std::alloc::AllocError;
 use type_tree::{TypeId, TypeTree, canonical_name, is_property_name};
 
 impl SignalTable {
@@ -31,6 +32,23 @@ impl SignalTable {
         if let Some(fault) = self.declare_fault(tree, t, &signal) {
             return Err(SignalError::Refused(fault));
         }
+        self.append(t, signal)?;
+        Ok(())
+    }
+
+    /// Appends a signal to a type's own, under its canonical name. Tests nothing.
+    ///
+    /// # Errors
+    ///
+    /// `AllocError` if memory is refused. The signals are unchanged then.
+    pub fn append(&mut self, t: TypeId, signal: Signal) -> Result<(), AllocError>
+        requires within { t < 256 }
+        requires named { is_property_name (string_bytes signal.name) ≡ true }
+        requires room { length (own_of self.old.signals t) < 64 }
+        ensures ok { OnOk result (AddsSignal self.old.signals self.new.signals t (canonical_signal (signal_view signal))) }
+        ensures err { OnErr result (SameSignals self.old.signals self.new.signals) }
+        ensures handlers { self.new.handlers ≡ self.old.handlers }
+    {
         let name = canonical_name(self.allocator(), signal.name.as_str())?;
         let signal = renamed(signal, name);
         self.add_own(t, signal)?;

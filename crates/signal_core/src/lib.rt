@@ -29,6 +29,7 @@ mod handlers;
 mod laws;
 mod listing;
 mod listings;
+mod owners;
 mod signal;
 mod signal_rows;
 mod sources;

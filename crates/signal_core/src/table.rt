@@ -1,10 +1,13 @@
 //! The table of the signals of types, and of the programs that classes name for them.
 
-ghost use Rattle.std.specs.Prelude.{◌≡◌, ◌*◌, ◌+◌, ◌<◌, ◌≤◌, ◌++◌, List, [], None, Some, IfErr, IfNone, IfOk, IfSome, OnErr, OnOk, length, map, option_and_then, option_map, position, slice_get, string_bytes, true};
+ghost use Rattle.std.specs.List.{list_any};
+ghost use Rattle.std.specs.Prelude.{◌≡◌, ◌&&◌, ◌*◌, ◌+◌, ◌<◌, ◌≤◌, ◌++◌, List, [], None, Some, IfErr, IfNone, IfOk, IfSome, OnErr, OnOk, bytes_eq, length, map, option_and_then, option_map, position, slice_get, string_bytes, true};
 ghost use Rattle.ui_machine.specs.Definition.Names.{canonical, place_named, same_name};
 ghost use Rattle.ui_machine.specs.Definition.Signals as signals;
+ghost use Rattle.ui_machine.specs.Rules.Ancestry.{is_a};
 ghost use Rattle.ui_machine.specs.Words as machine;
 ghost use Rattle.type_tree.specs.Tree.{IsTree};
+ghost use Rattle.signal_core.specs.Owners.{has_signal};
 ghost use Rattle.signal_core.specs.SignalRows.{ArePlaces, HasSignals};
 ghost use Rattle.signal_core.specs.SignalView.{declared_view, signal_view};
 ghost use Rattle.signal_core.specs.Sources.{AreMarked, added_at, brought_by, brought_until, declared_of, declared_until, number_named, own_of, signals_of};
@@ -13,6 +16,7 @@ ghost use Rattle.signal_core.specs.Table.{AddsHandler, AddsSignal, RenamesHandle
 use crate::class_handler::ClassHandler;
 use crate::flags::SignalFlags;
 use crate::growing::add;
+use crate::owners::Owners;
 use crate::signal::{DeclaredSignal, Signal};
 use crate::signal_rows::{SignalPlace, SignalRows, add_places};
 use crate::sources::{ancestor, came_before, mark, root, source_at, source_count, unmarked};
@@ -35,18 +39,20 @@ const MOST_DECLARED: usize = 16384;
 pub struct SignalTable {
     own: Vec<Vec<Signal>>,
     handlers: Vec<Vec<ClassHandler>>,
+    owners: Owners,
 }
 
 impl Model for SignalTable {
     ghost use Rattle.std.specs.Prelude.{map};
     ghost use Rattle.signal_core.specs.SignalView.{signals_in};
+    ghost use Rattle.signal_core.specs.Owners.{AreOwners};
     ghost use Rattle.signal_core.specs.Table.{Declared, IsTable};
 
     ghost Value = { Declared };
 
     ghost view = { λ t. record { signals = signals_in (λ v. v.items) t.own.items; handlers = map (λ v. v.items) t.handlers.items } };
 
-    ghost invariant = { λ t. IsTable (signals_in (λ v. v.items) t.own.items) };
+    ghost invariant = { λ t. IsTable (signals_in (λ v. v.items) t.own.items) × AreOwners t.owners (signals_in (λ v. v.items) t.own.items) };
 }
 
 impl SignalTable {
@@ -57,6 +63,7 @@ impl SignalTable {
         SignalTable {
             own: Vec::new(alloc),
             handlers: Vec::new(alloc),
+            owners: Owners::new(alloc),
         }
     }
 
@@ -74,6 +81,7 @@ impl SignalTable {
         ensures handlers { self.new.handlers ≡ self.old.handlers }
     {
         let alloc = *self.own.allocator();
+        self.owners.add(alloc, signal.name.as_str(), t)?;
         add(alloc, &mut self.own, t.index(), signal)
     }
 
@@ -378,6 +386,34 @@ impl SignalTable {
         }
     }
 
+    /// Returns whether a type has a signal with this canonical name. Takes time by the number of types that declare one.
+    pub fn has(&self, tree: &TypeTree, t: TypeId, name: &str) -> bool
+        ensures { result ≡ has_signal (signals_of tree.now self.now.signals t) name.now }
+    {
+        NOTIFY == name || self.inherits(tree, t, name)
+    }
+
+    // Returns whether one of the types that declare a signal with this canonical name gives it to a type.
+    fn inherits(&self, tree: &TypeTree, t: TypeId, name: &str) -> bool
+        ensures { result ≡ has_signal (declared_of tree.now self.now.signals t) name.now }
+    {
+        self.is_given(tree, self.owners.listed(name), t, name)
+    }
+
+    // Returns whether one of these owners gives a type a signal with this canonical name.
+    fn is_given(&self, tree: &TypeTree, owners: &[TypeId], t: TypeId, name: &str) -> bool
+        ensures { result ≡ list_any (λ owner. is_a tree.now t owner && has_signal (own_of self.now.signals owner) name.now) owners.now }
+    {
+        owners.iter().any(|owner| self.gives(tree, *owner, t, name))
+    }
+
+    // Returns whether an owner declares a signal with this canonical name and a type is of the owner's type.
+    fn gives(&self, tree: &TypeTree, owner: TypeId, t: TypeId, name: &str) -> bool
+        ensures { result ≡ (is_a tree.now t owner && has_signal (own_of self.now.signals owner) name.now) }
+    {
+        tree.is_a(t, owner) && has_own(self.own(owner), name)
+    }
+
     /// Returns the signal with this number, or `None` if the type has not so many.
     pub fn signal(&self, tree: &TypeTree, t: TypeId, number: SignalId) -> Option<DeclaredSignal<'_>>
         ensures { option_map declared_view result ≡ slice_get (signals_of tree.now self.now.signals t) number }
@@ -390,6 +426,13 @@ impl SignalTable {
             Err(_) => None,
         }
     }
+}
+
+// Returns whether one of these signals has this canonical name.
+fn has_own(signals: &[Signal], name: &str) -> bool
+    ensures { result ≡ list_any (λ s. bytes_eq (string_bytes s.name) name.now) signals.now }
+{
+    signals.iter().any(|signal| signal.name.as_str() == name)
 }
 
 // Sets the program of the class handlers for the signal with this canonical name.

@@ -3,7 +3,7 @@ use Rattle.std.specs.List.{list_any}
 use Rattle.ui_machine.specs.Rules.Ancestry.{implemented_by}
 use Rattle.signal_core.specs.Sources.{own_of}
 use Rattle.read_types.specs.ImplementDrafts.{has_name}
-use Rattle.read_types.specs.SignalNames.{has_signal}
+use Rattle.signal_core.specs.Owners.{has_signal}
 use Rattle.read_types.proofs.SignalNames.{all_seen, first_and_rest, none_yet, one_more}
 use Rattle.read_types.proofs.signal_names.add_brought.Goals as goal
 

@@ -2,7 +2,8 @@ use Rattle.std.proofs.Common.{◌≡◌, ◌||◌, ℕ, List, take}
 use Rattle.std.specs.List.{list_any}
 use Rattle.signal_core.specs.Sources.{own_of}
 use Rattle.read_types.specs.ImplementDrafts.{has_name}
-use Rattle.read_types.specs.SignalNames.{AreIncluded, has_signal}
+use Rattle.signal_core.specs.Owners.{has_signal}
+use Rattle.read_types.specs.SignalNames.{AreIncluded}
 use Rattle.read_types.proofs.signal_names.add_brought.Given as goal
 
 abbrev pub invariant-loop-interface : goal.invariant-loop-interface

@@ -1,7 +1,7 @@
 use Rattle.std.proofs.Common.{◌∙◌, ◌||◌, List, ap}
 use Rattle.ui_machine.specs.Definition.Signals.{Signal}
 use Rattle.read_types.specs.ImplementDrafts.{has_name}
-use Rattle.read_types.specs.SignalNames.{has_signal}
+use Rattle.signal_core.specs.Owners.{has_signal}
 use Rattle.read_types.proofs.SignalNames.{included_more}
 use Rattle.read_types.proofs.signal_names.add_own.Goals as goal
 

@@ -10,13 +10,13 @@ use Rattle.signal_core.proofs.table.SignalTable.find.Goals as goal
 
 pub overflow_add-result : goal.overflow_add-result
 overflow_add-result c =
-    let few = declared_few c.args.tree.now c.args.self.now.signals (subst (λ d. IsTable d.signals) c.self.view_is c.self.invariant) c.args.t in
+    let few = declared_few c.args.tree.now c.args.self.now.signals (subst (λ d. IsTable d.signals) c.self.view_is c.self.invariant.0) c.args.t in
     let within = place_within (λ (s : Signal). s.name) (canonical c.args.name.now) (declared_of c.args.tree.now c.args.self.now.signals c.args.t) c.in-Ok.place c.in-Ok.ensures.found in
     omega (arith, few, within)
 
 pub overflow_cast-result : goal.overflow_cast-result
 overflow_cast-result c =
-    let few = declared_few c.args.tree.now c.args.self.now.signals (subst (λ d. IsTable d.signals) c.self.view_is c.self.invariant) c.args.t in
+    let few = declared_few c.args.tree.now c.args.self.now.signals (subst (λ d. IsTable d.signals) c.self.view_is c.self.invariant.0) c.args.t in
     let within = place_within (λ (s : Signal). s.name) (canonical c.args.name.now) (declared_of c.args.tree.now c.args.self.now.signals c.args.t) c.in-Ok.place c.in-Ok.ensures.found in
     omega (arith, few, within)
 

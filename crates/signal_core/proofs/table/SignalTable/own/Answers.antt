@@ -19,7 +19,7 @@ returns-then-at-len-clause-few c =
     let lt : c.index-at.result < length c.self.inside.own.items = omega (arith, c.self.inside.own.ok.0) in
     let same = ap (map signal_view) c.as_slice.ensures.value ∙ ap (λ v. map signal_view v.items) c.index.ensures
     ∙ sym (read-map (λ v. map signal_view v.items) [] c.index.result.now c.self.inside.own.items c.index-at.result lt) in
-    subst (λ n. n ≤ 64) (sym (sym (length-map c.as_slice.result.now signal_view) ∙ ap length same)) (c.self.invariant.own c.index-at.result)
+    subst (λ n. n ≤ 64) (sym (sym (length-map c.as_slice.result.now signal_view) ∙ ap length same)) (c.self.invariant.0.own c.index-at.result)
 
 pub returns-else-at-len-clause-own : goal.returns-else-at-len-clause-own
 returns-else-at-len-clause-own c =

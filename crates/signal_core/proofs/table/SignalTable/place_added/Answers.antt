@@ -14,7 +14,7 @@ overflow_add-result c =
     let lt : c.loop-at.at < length (brought_by c.args.tree.now c.args.t) = omega (arith, c.loop-at-test.true, c.source_count-at-end.ensures) in
     let long = sym (length-map c.added-added.result.now signal_view) ∙ ap length c.added-added.ensures in
     let next = count_next c.args.tree.now c.args.self.now.signals c.args.t c.loop-at.at c.loop-at.count (length c.added-added.result.now) lt c.loop-at.invariant.1 long in
-    let few = until_few c.args.tree.now c.args.self.now.signals (subst (λ d. IsTable d.signals) c.self.view_is c.self.invariant) c.args.t (c.loop-at.at + 1) in
+    let few = until_few c.args.tree.now c.args.self.now.signals (subst (λ d. IsTable d.signals) c.self.view_is c.self.invariant.0) c.args.t (c.loop-at.at + 1) in
     omega (arith, next, few, c.in-Some.ensures.within)
 
 pub overflow_add-count : goal.overflow_add-count
@@ -22,7 +22,7 @@ overflow_add-count c =
     let lt : c.loop-at.at < length (brought_by c.args.tree.now c.args.t) = omega (arith, c.loop-at-test.true, c.source_count-at-end.ensures) in
     let long = sym (length-map c.added-added.result.now signal_view) ∙ ap length c.added-added.ensures in
     let next = count_next c.args.tree.now c.args.self.now.signals c.args.t c.loop-at.at c.loop-at.count (length c.added-added.result.now) lt c.loop-at.invariant.1 long in
-    let few = until_few c.args.tree.now c.args.self.now.signals (subst (λ d. IsTable d.signals) c.self.view_is c.self.invariant) c.args.t (c.loop-at.at + 1) in
+    let few = until_few c.args.tree.now c.args.self.now.signals (subst (λ d. IsTable d.signals) c.self.view_is c.self.invariant.0) c.args.t (c.loop-at.at + 1) in
     omega (arith, next, few)
 
 pub returns-in-Some-clause-found : goal.returns-in-Some-clause-found

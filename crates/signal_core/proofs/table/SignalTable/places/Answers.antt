@@ -30,7 +30,7 @@ returns-then-height-eq0-clause-few c =
     let signals = c.args.self.now.signals in
     let long = length-map c.add_brought.new.places.items (signal_at signals) in
     let seen = ap length c.in_ok-add_brought.ensures.places.1 in
-    omega (arith, long, seen, declared_few types signals (subst (λ d. IsTable d.signals) c.self.view_is c.self.invariant) c.line.class)
+    omega (arith, long, seen, declared_few types signals (subst (λ d. IsTable d.signals) c.self.view_is c.self.invariant.0) c.line.class)
 
 pub line-preserved : goal.line-preserved
 line-preserved c =

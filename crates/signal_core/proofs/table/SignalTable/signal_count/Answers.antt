@@ -9,6 +9,6 @@ use Rattle.signal_core.proofs.table.SignalTable.signal_count.Goals as goal
 pub unreachable-requires : goal.unreachable-requires
 unreachable-requires c =
     let signals = declared_of c.args.tree.now c.args.self.now.signals c.args.t in
-    let few = declared_few c.args.tree.now c.args.self.now.signals (subst (λ d. IsTable d.signals) c.self.view_is c.self.invariant) c.args.t in
+    let few = declared_few c.args.tree.now c.args.self.now.signals (subst (λ d. IsTable d.signals) c.self.view_is c.self.invariant.0) c.args.t in
     let within = slice_get_within signals 16384 (signal_view c.in-Ok.field-0.now) c.in-Ok.ensures.found in
     absurd (omega (arith, few, within))
