@@ -1,2 +1,3 @@
 pub mod LeftProofs
 pub mod BrokenProofs
+pub mod FinishedProofs

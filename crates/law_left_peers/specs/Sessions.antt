@@ -1,1 +1,2 @@
 pub mod LeftPeers
+pub mod FinishedPeers

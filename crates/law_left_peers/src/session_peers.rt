@@ -1,5 +1,6 @@
 //! What a run leaves of each peer of its pool: its replies lead it on, the lines with its name say them, and it is closed once at most.
 
+ghost use Rattle.law_left_peers.specs.Sessions.FinishedPeers.{PoolsHoldNone, SessionsFinish};
 ghost use Rattle.law_left_peers.specs.Sessions.LeftPeers.{BuildBreaksOff, BuildLeaves, CutLeaves, EventLeaves, RunBreaksOff, RunLeaves, WorkedLeft};
 
 use native_peers::Peers;
@@ -12,6 +13,12 @@ pub fn left()
     ensures build { BuildLeaves }
     ensures event { EventLeaves }
     ensures worked { WorkedLeft }
+{}
+
+/// A session that is finished after a run leaves the peers of the machine's end of a session.
+pub fn finished()
+    ensures none { PoolsHoldNone }
+    ensures sessions { SessionsFinish }
 {}
 
 /// Each peer of any pool is left so also where no memory was found: in an event, in a run that breaks off in one, and in a build. A peer

@@ -195,7 +195,7 @@ module _ (d : Definition) (a : Accepted d) (most : ℕ) where
   -- ** along some steps
 
   module _ (well : WellRead d) (few : most ≤ most_steps) where
-    all_count : (t : Tables) (n : ℕ) (replies : List Reply) → Each (Fits d) replies → (c e : Config) → IsGood d a most c → (s : Steps d n replies c e) → NoneHasEnded d n replies c e s → n ≤ steps_price d steps n replies c e s
+    pub all_count : (t : Tables) (n : ℕ) (replies : List Reply) → Each (Fits d) replies → (c e : Config) → IsGood d a most c → (s : Steps d n replies c e) → NoneHasEnded d n replies c e s → n ≤ steps_price d steps n replies c e s
     all_count t zero replies fit c e good s none = omega arith
     all_count t (suc n) replies fit c e good s none =
         let both = first_fits d s.reply s.later (subst (Each (Fits d)) s.replied fit) in

@@ -1,0 +1,5 @@
+pub mod AskedProofs
+pub mod SumProofs
+pub mod ReplyProofs
+pub mod PeerProofs
+pub mod MetProofs

@@ -1,0 +1,13 @@
+pub mod Changes
+pub mod Keeping
+pub mod PartProofs
+pub mod InstructionProofs
+pub mod TaskProofs
+pub mod OwnProofs
+pub mod HolderProofs
+pub mod HeldProofs
+pub mod EndingProofs
+pub mod Seats
+pub mod SeatInstructionProofs
+pub mod SeatTaskProofs
+pub mod QuestionProofs

@@ -1,0 +1,3 @@
+pub mod Holders
+pub mod Endings
+pub mod Questions

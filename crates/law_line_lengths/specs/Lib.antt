@@ -1,0 +1,4 @@
+pub mod LineLengths
+pub mod StepLines
+pub mod DispatchBytes
+pub mod WorkedLines

@@ -1,0 +1,3 @@
+pub mod ShortValues
+pub mod ShortTexts
+pub mod WorkedTexts
