@@ -29,7 +29,7 @@
 #define GELVOPAUN_VERSION_MAJOR 0
 #define GELVOPAUN_VERSION_MINOR 37
 #define GELVOPAUN_VERSION_MICRO 0
-#define GELVOPAUN_VERSION "0.37.0"
+#define GELVOPAUN_VERSION "0.38.0"
 
 /* Whether this header is of this version or a later one. */
 #define GELVOPAUN_CHECK_VERSION(major, minor, micro)                                                  \
@@ -81,6 +81,10 @@ enum {
   GELVOPAUN_DUE_AT = 2,
 };
 
+/* Writes the version of the library to `out`, as much of it as there is room for, and a zero byte behind it where there is room. The answer is the
+ * whole length. A program that was built with another version of this header finds out by it: GELVOPAUN_VERSION is the header's. */
+size_t gelvopaun_version(uint8_t *out, size_t room);
+
 /* Judges a definition without running anything, and writes what `ui verify` prints to `report`, as much of it as there is room for: the
  * report with the bound on the steps of each dispatch, or the line of the refusal. Where there is room for it, a zero byte follows; the rest of
  * `report` stays as it was. The text itself has no zero byte, so where none is found it may have been cut, and a host comes again with more
@@ -91,6 +95,10 @@ uint8_t gelvopaun_verify(const uint8_t *definition, size_t length, uint8_t *repo
  * definition is refused, the reason is written to `refusal`, as much of it as there is room for. Where there is room for it, a zero byte
  * follows; the rest of `refusal` stays as it was. Where it is not refused, the reason is empty. */
 uint8_t gelvopaun_start(const uint8_t *definition, size_t length, gelvopaun_ui *ui, uint8_t *refusal, size_t room);
+
+/* Like gelvopaun_start, for a definition of which no dispatch may count more steps than `most`: neither the build, nor what an event, a source or
+ * a call begins. Where one may, the definition is refused as `StepLimit`, and nothing of it is built. gelvopaun_verify tells each bound. */
+uint8_t gelvopaun_start_within(const uint8_t *definition, size_t length, gelvopaun_ui *ui, uint64_t most, uint8_t *refusal, size_t room);
 
 /* Has the session carry out one event line, without its LF. Where the line is refused, the name of the reason is written to `refusal`, as
  * much of it as there is room for. Where there is room for it, a zero byte follows; the rest of `refusal` stays as it was. Where the line is

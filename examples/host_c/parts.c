@@ -2,6 +2,7 @@
 #include "gelvopaun.h"
 
 #include <stdio.h>
+#include <stdlib.h>
 #include <string.h>
 
 static const char *emits =
@@ -118,6 +119,32 @@ static void cut_report(void) {
   }
 }
 
+static uint8_t start_within(uint64_t most) { return gelvopaun_start_within((const uint8_t *)emits, strlen(emits), &ui, most, (uint8_t *)text, sizeof text); }
+
+/* The greatest bound of a report. A definition starts with this limit, and not with a lower one. */
+static uint64_t greatest_bound(void) {
+  static char report[4096];
+  uint64_t greatest = 0;
+  want("verify", gelvopaun_verify((const uint8_t *)emits, strlen(emits), (uint8_t *)report, sizeof report), GELVOPAUN_DONE);
+  for (const char *at = strstr(report, " bound "); at != NULL; at = strstr(at, " bound ")) {
+    at += strlen(" bound ");
+    uint64_t bound = strtoull(at, NULL, 10);
+    if (bound > greatest) greatest = bound;
+  }
+  return greatest;
+}
+
+static void start_with_limits(void) {
+  uint64_t greatest = greatest_bound();
+  want("within", start_within(greatest), GELVOPAUN_DONE);
+  tell("within: no refusal", strlen(text), "");
+  want("beyond", start_within(greatest - 1), GELVOPAUN_DEFINITION_REFUSED);
+  tell("beyond: the reason", strlen(text), "StepLimit");
+  want("beyond: no session", gelvopaun_next_object(&ui, 1), 0);
+  want("not read", gelvopaun_start_within((const uint8_t *)"[", 1, &ui, 0, (uint8_t *)text, sizeof text), GELVOPAUN_DEFINITION_REFUSED);
+  gelvopaun_finish(&ui);
+}
+
 /* A session can be ended while an event is under way. */
 static void end_midway(void) {
   want("begin", begin("{\"emit\":[\"b\",\"s\",[]]}"), GELVOPAUN_UNDER_WAY);
@@ -127,10 +154,12 @@ static void end_midway(void) {
 }
 
 int main(void) {
+  tell("version", gelvopaun_version((uint8_t *)text, sizeof text), GELVOPAUN_VERSION);
   call_in_all_orders();
   wait_for_turns();
   end_midway();
   read_objects();
   cut_report();
+  start_with_limits();
   return failed;
 }

@@ -8,3 +8,4 @@ pub mod Streams
 pub mod Telling
 pub mod LineParts
 pub mod Parts
+mod Limits

@@ -15,3 +15,5 @@ pub mod Unread
 pub mod Verdicts
 pub mod Moments
 pub mod Told
+pub mod Limited
+pub mod Versions

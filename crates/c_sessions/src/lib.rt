@@ -21,12 +21,14 @@ mod taken_lines;
 #[cfg(test)]
 mod tests;
 mod verdicts;
+mod versions;
 
 pub use faults::HostedFault;
 pub use hosted_session::HostedSession;
 pub use kept::Kept;
 pub use moments::tell_due;
 pub use session_handle::SessionHandle;
-pub use starts::{Started, start};
+pub use starts::{LimitedStart, Started, start, start_within};
 pub use status::Status;
 pub use verdicts::verify;
+pub use versions::tell_version;

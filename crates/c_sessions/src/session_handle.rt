@@ -1,8 +1,10 @@
 //! The handle by which C holds a session.
 
-ghost use Rattle.std.specs.Prelude.{◌≡◌, [], IfSome, None, Some, option_map};
+ghost use Rattle.std.specs.Prelude.{◌≡◌, ℕ, List, [], IfSome, None, Some, option_map};
 ghost use Rattle.c_sessions.specs.Held.{is_kept};
+ghost use Rattle.c_sessions.specs.Limited.{BeginsWithin, EndsWithin, KeptWithin};
 ghost use Rattle.c_sessions.specs.Moments.{TellsNext};
+ghost use Rattle.c_sessions.specs.Starting.{StartsAs};
 ghost use Rattle.c_sessions.specs.Told.{Finds, FindsNext, Tells, number_of, object_told, value_told};
 ghost use Rattle.c_sessions.specs.Handles.{AdvancesAs, BeginsAs, Dispatches, FailsAs, KeepsAs, Starts, Takes, status_of_part};
 
@@ -11,7 +13,7 @@ use crate::faults::HostedFault;
 use crate::hosted_session::HostedSession;
 use crate::kept::Kept;
 use crate::readings::tell_text;
-use crate::starts::{Started, start};
+use crate::starts::{LimitedStart, Started, start, start_within};
 use crate::status::Status;
 use std::alloc::Global;
 use std::mem;
@@ -45,7 +47,37 @@ impl SessionHandle {
         ensures { Starts definition.now refusal.old result self.new.kept.session refusal.new }
     {
         drop(self.take(alloc));
-        match start(alloc, definition) {
+        self.keep_started(alloc, start(alloc, definition), refusal)
+    }
+
+    /// Like `start`, for a definition of which no dispatch may count more steps than `most`. Nothing is built of one that is not: it is
+    /// refused as `StepLimit`.
+    pub fn start_within(
+        &mut self,
+        alloc: Global,
+        definition: &[u8],
+        most: u64,
+        refusal: &mut [u8],
+    ) -> Status
+        ensures { EndsWithin definition.now most refusal.old result self.new.kept.session refusal.new }
+    {
+        drop(self.take(alloc));
+        match start_within(alloc, definition, most) {
+            LimitedStart::Within(started) => self.keep_started(alloc, started, refusal),
+            LimitedStart::Beyond => {
+                write_text(refusal, b"StepLimit");
+                Status::DefinitionRefused
+            }
+        }
+    }
+
+    // Keeps the session that a start came to, if it came to one, and writes the refusal of its definition.
+    fn keep_started(&mut self, alloc: Global, started: Started, refusal: &mut [u8]) -> Status
+        requires { self.now.kept.session ≡ None }
+        ensures starts { (bytes : List ℕ) → StartsAs bytes started → Starts bytes refusal.old result self.new.kept.session refusal.new }
+        ensures within { (bytes : List ℕ) → (most : ℕ) → BeginsWithin bytes most started → KeptWithin bytes most self.new.kept.session }
+    {
+        match started {
             Started::Built(session) => {
                 write_text(refusal, b"");
                 self.keep(alloc, session, Status::Done)

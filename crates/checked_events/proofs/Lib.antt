@@ -1,3 +1,4 @@
+pub mod EachView
 pub mod Emitting
 pub mod KnownKinds
 pub mod Zipping

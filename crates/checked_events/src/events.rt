@@ -7,13 +7,17 @@ ghost use Rattle.law_typing.specs.Good.Requests.{RequestRead};
 ghost use Rattle.law_typing.specs.Graph.Channels.{spec_at};
 ghost use Rattle.law_typing.specs.Laws.WellRead.{IsObject};
 ghost use Rattle.law_steps.specs.Served.Sessions.{EventRead};
+ghost use Rattle.law_short_texts.specs.ShortValues.{IsShortEvent};
 ghost use Rattle.g_values.specs.View.{kind_view};
 ghost use Rattle.param_specs.specs.View.{spec_view};
 ghost use Rattle.definition_format.specs.Meaning.{IsKnownKind, event_of, given_view, request_of};
+ghost use Rattle.checked_events.specs.Readable.{IsReadable};
 
 use crate::emissions::is_emission;
 use crate::givens::is_given_of_kind;
 use crate::objects::{is_object, object_class};
+use crate::readable_events::is_readable_event;
+use crate::short_texts::is_short_event;
 use definition_format::{Event, Given, Request};
 use definitions::Definition;
 use param_specs::Spec;
@@ -79,16 +83,24 @@ fn is_request_of(definition: &Definition, request: &Request) -> bool
     }
 }
 
-/// Returns whether an event meets all that reading an event line makes sure of for a definition, so that a session of the definition may be
-/// asked to carry it out. Whatever the event names has to exist: an object that is no prototype, a property of the object's class, a signal
-/// of it other than `notify`. The property has to be readable, or settable while the object lives. Each value has to be of the kind that is
-/// wanted, and each object that is given as a value of its type. An emission has to give as many arguments as the signal has parameters,
-/// and a detail only if the signal takes details. A turn may be of any moment, and a detail any text.
-pub fn is_event_of(definition: &Definition, event: &Event) -> bool
+// Returns whether what an event names is there and may be asked for, and what it gives is of the kinds that are wanted.
+fn is_fitting_event(definition: &Definition, event: &Event) -> bool
     ensures { IsTrue result ↔ EventRead definition.now (event_of event.now) }
 {
     match event {
         Event::Request(request) => is_request_of(definition, request),
         Event::Turn(_) => true,
     }
+}
+
+/// Returns whether an event meets all that reading an event line makes sure of for a definition, so that a session of the definition may be
+/// asked to carry it out. Whatever the event names has to exist: an object that is no prototype, a property of the object's class, a signal
+/// of it other than `notify`. The property has to be readable, or settable while the object lives. Each value has to be of the kind that is
+/// wanted, and each object that is given as a value of its type. An emission has to give as many arguments as the signal has parameters,
+/// and a detail only if the signal takes details. A text that is a value has at most 4,096 bytes, a detail is 1 to 64 ASCII letters, digits,
+/// `-` or `_`, and the moment of a turn is at most 2^53.
+pub fn is_event_of(definition: &Definition, event: &Event) -> bool
+    ensures { IsTrue result ↔ EventRead definition.now (event_of event.now) × IsShortEvent (event_of event.now) × IsReadable (event_of event.now) }
+{
+    is_fitting_event(definition, event) && is_short_event(event) && is_readable_event(event)
 }

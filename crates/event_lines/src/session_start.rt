@@ -66,6 +66,7 @@ fn fault_text(alloc: Global, fault: &StartFault) -> Option<String>
         StartFault::PeerClosed(name) => words(alloc, "PeerClosed", name.as_str()),
         StartFault::PeerShape(name) => words(alloc, "PeerShape", name.as_str()),
         StartFault::PeerUnused(name) => words(alloc, "PeerUnused", name.as_str()),
+        StartFault::StepLimit => None,
     }
 }
 

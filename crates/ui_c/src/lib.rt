@@ -7,15 +7,27 @@
 
 ghost use Rattle.std.specs.Prelude.{◌≡◌, None, Option, length};
 ghost use Rattle.ui_engine.specs.declared.next_due.NextDue.{NextDue};
+ghost use Rattle.c_sessions.specs.Buffers.{with_text};
 ghost use Rattle.c_sessions.specs.Handles.{AdvancesAs, BeginsAs, Dispatches, Starts, Takes};
+ghost use Rattle.c_sessions.specs.Limited.{EndsWithin};
 ghost use Rattle.c_sessions.specs.Moments.{TellsNext, code_of_due, moment_told};
 ghost use Rattle.c_sessions.specs.Statuses.{code_of};
 ghost use Rattle.c_sessions.specs.Told.{Finds, FindsNext, Tells, object_told, value_told};
 ghost use Rattle.c_sessions.specs.Verdicts.{Verifies};
+ghost use Rattle.c_sessions.specs.Versions.{version};
 ghost use Rattle.c_sessions.specs.declared.status.Status.{Status};
 
-use c_sessions::{SessionHandle, tell_due, verify};
+use c_sessions::{SessionHandle, tell_due, tell_version, verify};
 use std::alloc::Global;
+
+/// Writes the version of the library, as `c_sessions::tell_version` does.
+#[unsafe(no_mangle)]
+pub extern "C" fn gelvopaun_version(out: &mut [u8]) -> usize
+    ensures told { out.new ≡ with_text out.old version }
+    ensures length { result ≡ length version }
+{
+    tell_version(out)
+}
 
 /// Judges a definition and writes its report, as `c_sessions::verify` does.
 #[unsafe(no_mangle)]
@@ -36,6 +48,20 @@ pub extern "C" fn gelvopaun_start(
     ensures { (status : Status) × (result ≡ code_of status) × Starts definition.now refusal.old status ui.new.kept.session refusal.new }
 {
     ui.start(alloc, definition, refusal).code()
+}
+
+/// Starts a session of which no dispatch may count more steps than `most`, as `SessionHandle::start_within` does.
+#[unsafe(no_mangle)]
+pub extern "C" fn gelvopaun_start_within(
+    alloc: Global,
+    definition: &[u8],
+    ui: &mut SessionHandle,
+    most: u64,
+    refusal: &mut [u8],
+) -> u8
+    ensures { (status : Status) × (result ≡ code_of status) × EndsWithin definition.now most refusal.old status ui.new.kept.session refusal.new }
+{
+    ui.start_within(alloc, definition, most, refusal).code()
 }
 
 /// Makes the session carry out an event line, as `SessionHandle::dispatch` does.

@@ -6,3 +6,4 @@ mod TakenProofs
 mod Forgetting
 mod Widths
 pub mod Slices
+pub mod Limits

@@ -1,6 +1,6 @@
 -- How the boxes are closed whose peers objects have got.
-use Rattle.std.proofs.Common.{◌≡◌, refl, ap, sym, ◌∙◌, ℕ, zero, suc, ◌+◌, ◌<◌, ◌≤◌, Bool, true, false, List, [], ◌∷◌, length, take, Option, None, Some, arith}
-use Rattle.std.specs.Prelude.{is_some, slice_get, slice_set, option_map}
+use Rattle.std.proofs.Common.{◌≡◌, refl, ap, sym, ◌∙◌, ℕ, zero, suc, ◌+◌, ◌-◌, ◌^◌, ◌<◌, ◌≤◌, Bool, true, false, List, [], ◌∷◌, length, take, Option, None, Some, arith}
+use Rattle.std.specs.Prelude.{SomeIff, is_some, slice_get, slice_set, option_map}
 use Rattle.ui_machine.specs.Seq.{read}
 use Rattle.ui_machine.specs.State.Peers.{Peer}
 use Rattle.native_peers.specs.Moves.{closed}
@@ -87,3 +87,27 @@ pub none_taken : (peers : List Peer) (n : ℕ) → slice_get peers n ≡ None �
 none_taken [] n at = refl
 none_taken (x ∷ peers) zero at = absurd (cc at)
 none_taken (x ∷ peers) (suc n) at = none_taken peers n at
+
+-- ** closed once more
+
+-- closing what an object has got changes nothing of what is closed at the end
+taken_once : (k : ℕ) (peers : List Peer) (pool : List Seen) → taken_closed peers (closed_at_if (is_taken peers k) k pool) ≡ taken_closed peers pool
+taken_once k [] pool = closed_not k pool
+taken_once k (p ∷ peers) [] = refl
+taken_once zero (p ∷ peers) (s ∷ pool) = by (is_some p.holder)
+  where
+    by : (b : Bool) → closed_if b (closed_if b s) ∷ taken_closed peers pool ≡ closed_if b s ∷ taken_closed peers pool
+    by true = refl
+    by false = refl
+taken_once (suc k) (p ∷ peers) (s ∷ pool) = ap (λ (l : List Seen). closed_if (is_some p.holder) s ∷ l) (taken_once k peers pool)
+
+pub taken_again : (k : ℕ) (peers : List Peer) (old new : List Seen) → new ≡ closed_at_if (is_taken peers k) k old → taken_closed peers new ≡ taken_closed peers old
+taken_again k peers old new closes = ap (taken_closed peers) closes ∙ taken_once k peers old
+
+-- ** from identity to identity
+
+pub comes_nearer : (from id next : ℕ) (r : Option ℕ) → from ≤ id → SomeIff r (id + 1 < 2 ^ 64) (id + 1) → r ≡ Some next → 2 ^ 64 - next < 2 ^ 64 - from
+comes_nearer from id next None low is at = absurd (cc at)
+comes_nearer from id next (Some n) low is at =
+    let same : n ≡ next = cc at in
+    omega (arith, is.0, is.1, same, low)

@@ -7,6 +7,8 @@ use Rattle.ui_machine.specs.State.Config.{World}
 use Rattle.ui_machine.specs.State.Peers.{Peer}
 use Rattle.ui_machine.specs.State.Tasks.{Event, Task}
 use Rattle.g_values.specs.View.{value_view}
+use Rattle.law_typing.specs.Verdict.Accepted.{Accepted}
+use Rattle.verified_limits.specs.Limits.{is_within}
 use Rattle.law_peers.specs.Needs.{Mismatch, closed, misshapen, missing, unused}
 use Rattle.machine_laws.specs.FrontLaws.{fronted}
 use Rattle.native_peers.specs.Seen.{Relations, Seen}
@@ -133,3 +135,13 @@ IsWhy (starts.PeerMissing name) lack = lack ≡ Some (missing (string_bytes name
 IsWhy (starts.PeerClosed name) lack = lack ≡ Some (closed (string_bytes name))
 IsWhy (starts.PeerShape name) lack = lack ≡ Some (misshapen (string_bytes name))
 IsWhy (starts.PeerUnused name) lack = lack ≡ Some (unused (string_bytes name))
+IsWhy starts.StepLimit lack = ⊥
+
+-- why none began whose dispatches count at most so many steps: the definition is not within this limit, or how the pool failed to match
+abbrev pub IsWhyWithin : Definition → (most : ℕ) → StartFault → Option Mismatch → Type 0
+IsWhyWithin d most starts.OutOfMemory lack = ⊤
+IsWhyWithin d most (starts.PeerMissing name) lack = lack ≡ Some (missing (string_bytes name))
+IsWhyWithin d most (starts.PeerClosed name) lack = lack ≡ Some (closed (string_bytes name))
+IsWhyWithin d most (starts.PeerShape name) lack = lack ≡ Some (misshapen (string_bytes name))
+IsWhyWithin d most (starts.PeerUnused name) lack = lack ≡ Some (unused (string_bytes name))
+IsWhyWithin d most starts.StepLimit lack = (a : Accepted d) → is_within d a most ≡ false

@@ -5,7 +5,9 @@ ghost use Rattle.native_peers.specs.Seen.{SameRelations};
 ghost use Rattle.ui_engine.specs.Endings.{closed_at_if, is_taken, taken_closed};
 
 use engine_world::seats::Seats;
+use instance_tables::Table;
 use native_peers::Peers;
+use ui_machine::ObjectId;
 
 // Returns whether an object has got the peer with this number.
 fn is_taken(seats: &Seats, number: usize) -> bool
@@ -25,6 +27,33 @@ fn close_if_taken<P: Peers>(seats: &Seats, pool: &mut P, number: usize)
 {
     if is_taken(seats, number) && pool.is_open(number) {
         pool.close(number);
+    }
+}
+
+// Closes the box of an object's peer, if the object has one and its box is open.
+fn close_of<P: Peers>(table: &Table, seats: &Seats, pool: &mut P, id: ObjectId)
+    ensures taken { taken_closed seats.now (P.seen pool.new) ≡ taken_closed seats.now (P.seen pool.old) }
+    ensures same { SameRelations (P.relations pool.old) (P.relations pool.new) }
+{
+    if let Some(number) = table.peer_of(id) {
+        if number < pool.left() {
+            close_if_taken(seats, pool, number);
+        }
+    }
+}
+
+/// Closes the open boxes of the peers of all objects that live, the object of the lowest identity first.
+pub(crate) fn close_in_order<P: Peers>(table: &Table, seats: &Seats, pool: &mut P)
+    ensures taken { taken_closed seats.now (P.seen pool.new) ≡ taken_closed seats.now (P.seen pool.old) }
+    ensures same { SameRelations (P.relations pool.old) (P.relations pool.new) }
+{
+    let mut from = ObjectId(0);
+    'objects: while let Some(id) = table.next_live(from) {
+        close_of(table, seats, pool, id);
+        let Some(next) = id.0.checked_add(1) else {
+            return;
+        };
+        from = ObjectId(next);
     }
 }
 

@@ -26,7 +26,7 @@ impl From<AllocError> for SessionFault {
     }
 }
 
-/// The reason why no session began, with the name of the first peer that is not as the definition needs it.
+/// The reason why no session began. A peer that is not as the definition needs it is named, and it is the first such one.
 #[derive(Debug, Drop)]
 pub enum StartFault {
     /// Memory was refused before the build.
@@ -39,6 +39,8 @@ pub enum StartFault {
     PeerShape(String),
     /// The definition does not need the peer.
     PeerUnused(String),
+    /// A dispatch of the definition may count more steps than its host allows.
+    StepLimit,
 }
 
 impl From<AllocError> for StartFault {

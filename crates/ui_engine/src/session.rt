@@ -1,11 +1,13 @@
 //! A session: a verified definition, its pool of peers, and its state while its events come.
 
-ghost use Rattle.std.specs.Prelude.{◌≡◌, ◌≤◌, ◌+◌, ℕ, List, None, map, option_map, string_bytes, IfOk, IfErr, false};
+ghost use Rattle.std.specs.Prelude.{◌≡◌, ◌≤◌, ◌+◌, ℕ, List, None, map, option_map, string_bytes, IfOk, IfErr, IfNone, IfSome, Option, false, true};
 ghost use Rattle.ui_machine.specs.Prefix.{IsPrefix};
 ghost use Rattle.ui_machine.specs.Rules.Events.{refusal};
 ghost use Rattle.ui_machine.specs.State.Config.{World};
 ghost use Rattle.ui_machine.specs.State.Tasks as config;
-ghost use Rattle.law_peers.specs.Needs.{mismatch};
+ghost use Rattle.law_typing.specs.Verdict.Accepted.{Accepted};
+ghost use Rattle.verified_limits.specs.Limits.{is_within};
+ghost use Rattle.law_peers.specs.Needs.{Mismatch, mismatch};
 ghost use Rattle.law_steps.specs.Served.Sessions.{EventRead};
 ghost use Rattle.definition_format.specs.Meaning.{event_of};
 ghost use Rattle.g_values.specs.View.{kind_view};
@@ -19,10 +21,10 @@ ghost use Rattle.engine_dispatches.specs.PoolView.{world_at};
 ghost use Rattle.engine_dispatches.specs.Promises.{BuildKeeps, EventKeeps};
 ghost use Rattle.ui_engine.specs.AskedKinds.{kind_asked};
 ghost use Rattle.ui_engine.specs.BuildBegins.{IsBegun};
-ghost use Rattle.ui_engine.specs.SessionView.{AnswersEvent, BeginsEvent, Comes, ComesOn, HasCourse, InCourse, IsSeated, IsWhy, building, state_at, without_lines};
+ghost use Rattle.ui_engine.specs.SessionView.{AnswersEvent, BeginsEvent, Comes, ComesOn, HasCourse, InCourse, IsSeated, IsWhy, IsWhyWithin, building, state_at, without_lines};
 
 use crate::cores::{Core, Phase};
-use crate::endings::close_taken;
+use crate::endings::{close_in_order, close_taken};
 use crate::faults::{SessionFault, StartFault};
 use crate::starts::{Beginning, begin};
 use definition_format::Event;
@@ -33,6 +35,7 @@ use engine_world::places::FIRST_PLACE;
 use native_peers::Peers;
 use std::alloc::Global;
 use verified::Verified;
+use verified_limits::is_within;
 
 /// A session, which runs a verified definition with the pool of its peers. It knows the name and the methods of each peer, and whether the
 /// peer is open.
@@ -63,6 +66,18 @@ pub struct Refused<P> {
 pub struct Finished<P> {
     pub transcript: Vec<String>,
     pub pool: P,
+}
+
+// Returns why a definition may not start with a limit on the steps of each dispatch, or `None` if it may.
+fn limit_fault(alloc: Global, verified: &Verified, most: u64) -> Option<StartFault>
+    ensures may { (a : Accepted verified.now) → IfNone result (is_within verified.now a most ≡ true) }
+    ensures why { (lack : Option Mismatch) → IfSome result (λ fault. IsWhyWithin verified.now most fault lack) }
+{
+    match is_within(alloc, verified, most) {
+        Ok(true) => None,
+        Ok(false) => Some(StartFault::StepLimit),
+        Err(_) => Some(StartFault::OutOfMemory),
+    }
 }
 
 // Builds the objects of a verified definition, from the state with which a build begins.
@@ -137,6 +152,38 @@ impl<P: Peers> Session<P> {
                 pool,
             }),
         }
+    }
+
+    /// Like `start`, for a definition of which no dispatch may count more steps than `most`: neither the build, nor what an event, a source
+    /// or a call begins.
+    ///
+    /// # Errors
+    ///
+    /// Returns `Refused` with `StepLimit` if a dispatch may count more, and otherwise as `start` does. Nothing is built then.
+    pub fn start_within(
+        alloc: Global,
+        verified: Verified,
+        pool: P,
+        most: u64,
+    ) -> Result<Started<P>, Refused<P>>
+        ensures within { (a : Accepted verified) → IfOk result (λ _. is_within verified a most ≡ true) }
+        ensures matches { IfOk result (λ started. mismatch verified (as_peers (P.seen pool)) ≡ None) }
+        ensures built { IfOk result (λ started. Comes started.build (building (P.relations pool) verified (as_peers (P.seen pool))) verified
+            (state_at (P.seen started.session.pool) started.session.core)) }
+        ensures same { IfOk result (λ started. SameRelations (P.relations pool) (P.relations started.session.pool)) }
+        ensures keeps { mismatch verified (as_peers (P.seen pool)) ≡ None → BuildKeeps verified (as_peers (P.seen pool)) }
+        ensures refused { IfErr result (λ refused. (refused.verified ≡ verified) × (refused.pool ≡ pool) × IsWhyWithin verified most refused.fault (mismatch verified (as_peers (P.seen pool)))) }
+    {
+        // For the proof: some bytes denote the definition.
+        let _types = verified.definition().types();
+        if let Some(fault) = limit_fault(alloc, &verified, most) {
+            return Err(Refused {
+                fault,
+                verified,
+                pool,
+            });
+        }
+        Session::start(alloc, verified, pool)
     }
 
     /// Carries out an event with all that it leads to. The event has to be one that was read against the session's definition. It never
@@ -244,7 +291,8 @@ impl<P: Peers> Session<P> {
         core
     }
 
-    /// Ends the session, even if it has stopped. Closes each open peer that an object has got, and returns the lines and the pool.
+    /// Ends the session, even if it has stopped. Closes each open peer that an object has got, that of the object with the lowest identity
+    /// first, and returns the lines and the pool.
     pub fn finish(self) -> Finished<P>
         ensures lines { map string_bytes result.transcript.items ≡ self.core.world.transcript }
         ensures closed { (P.seen result.pool) ≡ taken_closed self.core.world.peers (P.seen self.pool) }
@@ -253,6 +301,7 @@ impl<P: Peers> Session<P> {
         let Session { core, mut pool } = self;
         let engine = core.engine;
         let world = engine.world;
+        close_in_order(&world.table, &world.seats, &mut pool);
         close_taken(&world.seats, &mut pool);
         Finished {
             transcript: world.transcript,

@@ -98,8 +98,8 @@ impl Verified {
         value_of(&self.busy, ranks, 0, channel)
     }
 
-    // Returns the bound of a channel of the definition.
-    fn bound_of(&self, channel: &Channel) -> u64
+    /// Returns the bound of a channel of the definition, as `bound` does.
+    pub fn bound_of(&self, channel: &Channel) -> u64
         ensures { IsIn (channel_of channel.now) (law.channels self.now) → IsBound self.now (law.at (channel_of channel.now)) result }
     {
         let bounds = self.numbers.bounds.as_slice();
@@ -124,7 +124,7 @@ impl Verified {
     }
 
     /// Returns the programs of sources with their bounds, in document order.
-    pub(crate) fn sources(&self) -> &[SourceBound]
+    pub fn sources(&self) -> &[SourceBound]
         ensures sources { AreSources self.now result.now }
         ensures accepted { Accepted self.now }
     {

@@ -1,27 +1,4 @@
-use Rattle.std.proofs.Common.{Option, ap, ◌∙◌}
-use Rattle.native_peers.specs.StandIns.{stand_ins}
-use Rattle.native_peers.specs.declared.stand_ins.StandIn.{StandIn}
-use Rattle.ui_engine.specs.SessionView.{state_at}
-use Rattle.c_sessions.specs.RunStates.{reached}
-use Rattle.c_sessions.proofs.Alone.{built_here, is_built, is_stopped, refused_alone, stopped_here}
 use Rattle.c_sessions.proofs.starts.start.Goals as goal
 
-pub returns-in-Refused : goal.returns-in-Refused
-returns-in-Refused c =
-    refused_alone c.args.definition.now c.in-Refused.text _ (c.in-Refused.ensures.opened c.args.definition.now c.judge.ensures)
-
-pub returns-in-Stopped : goal.returns-in-Stopped
-returns-in-Stopped c =
-    let opened = c.in-Stopped.ensures.opened c.args.definition.now c.judge.ensures in
-    let session = c.in-Stopped.session in
-    is_stopped c.args.definition.now (state_at (stand_ins session.pool) session.core) c.of.result
-    (ap reached c.of.ensures.running) c.of.ensures.unread
-    (stopped_here stand_ins c.args.definition.now session opened.opening opened.is opened.opens)
-
 pub returns : goal.returns
-returns c =
-    let opened = c.in-Built.ensures.opened c.args.definition.now c.judge.ensures in
-    let session = c.in-Built.session in
-    is_built c.args.definition.now (state_at (stand_ins session.pool) session.core) c.of-in-Built.result
-    (ap reached c.of-in-Built.ensures.running) c.of-in-Built.ensures.unread
-    (built_here stand_ins c.args.definition.now session opened.opening opened.is opened.opens)
+returns c = c.begin.ensures c.args.definition.now c.judge.ensures

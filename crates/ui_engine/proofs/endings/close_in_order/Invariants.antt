@@ -1,0 +1,13 @@
+use Rattle.std.proofs.Common.{◌≡◌, ◌-◌, ◌^◌}
+use Rattle.native_peers.specs.Seen.{SameRelations}
+use Rattle.ui_engine.specs.Endings.{taken_closed}
+use Rattle.ui_engine.proofs.endings.close_in_order.Given as goal
+
+abbrev pub invariant-objects : goal.invariant-objects
+invariant-objects g l = record {
+  taken : taken_closed l.seats (g.P.Peers.seen l.pool) ≡ taken_closed l.seats (g.P.Peers.seen l.initial.pool);
+  same : SameRelations (g.P.Peers.relations l.initial.pool) (g.P.Peers.relations l.pool);
+}
+
+abbrev pub decreases-objects : goal.decreases-objects
+decreases-objects g l = 2 ^ 64 - l.from.0
