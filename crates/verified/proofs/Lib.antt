@@ -1,3 +1,4 @@
+mod IdleNumbers
 pub mod LookUps
 pub mod Pieces
 pub mod ReportLines

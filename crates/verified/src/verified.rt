@@ -1,11 +1,11 @@
 //! Definitions that are verified.
 
-ghost use Rattle.std.specs.Prelude.{◌≡◌, true, string_bytes, IfOk};
+ghost use Rattle.std.specs.Prelude.{◌≡◌, true, false, string_bytes, IfOk};
 ghost use Rattle.law_typing.specs.Graph.Channels as law;
 ghost use Rattle.law_typing.specs.Graph.Channels.{is_channel};
 ghost use Rattle.law_typing.specs.Laws.{IsIn};
 ghost use Rattle.law_typing.specs.Verdict.Accepted.{Accepted};
-ghost use Rattle.law_idle.specs.Idle.{busy_channels};
+ghost use Rattle.law_idle.specs.Idle.{busy_channels, is_busy};
 ghost use Rattle.verify_graph.specs.ChannelView.{channel_of};
 ghost use Rattle.verified.specs.Entries.{entry_of, is_entry};
 ghost use Rattle.verified.specs.Lines.{line_in};
@@ -104,6 +104,20 @@ impl Verified {
     {
         let bounds = self.numbers.bounds.as_slice();
         value_of(&self.busy, bounds, self.numbers.idle, channel)
+    }
+
+    /// Returns the busy channels: all but the signals at which nothing runs, and which no program names.
+    pub fn busy(&self) -> &ChannelNumbers
+        ensures { result.now ≡ busy_channels self.now }
+    {
+        &self.busy
+    }
+
+    /// Returns the bound of each channel that is not busy. All idle channels have the same.
+    pub fn idle_bound(&self) -> u64
+        ensures { (c : law.Channel) → IsIn c (law.channels self.now) → is_busy self.now c ≡ false → IsBound self.now (law.at c) result }
+    {
+        self.numbers.idle
     }
 
     /// Returns the line of a channel of the definition in the report.

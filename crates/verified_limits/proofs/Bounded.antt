@@ -82,7 +82,7 @@ above n most h = grind (arith, nat_tests)
 
 -- ** the channels of a place
 
-in_place : (cs : List Channel) (k : ℕ) (c : Channel) → slice_get cs k ≡ Some c → IsIn c cs
+pub in_place : (cs : List Channel) (k : ℕ) (c : Channel) → slice_get cs k ≡ Some c → IsIn c cs
 in_place [] k c at = absurd (none-some c at)
 in_place (e ∷ cs) zero c at = inl (sym (same_Some _ _ at))
 in_place (e ∷ cs) (suc k) c at = inr (in_place cs k c at)

@@ -6,6 +6,7 @@ ghost use Rattle.law_typing.specs.Graph.{graph};
 ghost use Rattle.law_typing.specs.Graph.Channels.{channels, channels_at};
 ghost use Rattle.law_typing.specs.Graph.Channels as law;
 ghost use Rattle.law_typing.specs.Verdict.Accepted.{Accepted};
+ghost use Rattle.law_idle.specs.Idle.{busy_channels};
 ghost use Rattle.verify_graph.specs.ChannelView.{channels_of};
 ghost use Rattle.verified_limits.specs.Limits.{is_entry_within, is_within};
 
@@ -37,8 +38,21 @@ fn is_place_within(verified: &Verified, channels: &[Channel], most: u64) -> bool
     true
 }
 
-// Returns whether the bounds of all channels are within a limit. No list of them is made.
-fn are_channels_within(alloc: Global, verified: &Verified, most: u64) -> Result<bool, AllocError>
+// Returns whether the bounds of the busy channels are within a limit.
+fn are_busy_within(verified: &Verified, most: u64) -> bool
+    ensures { (a : Accepted verified.now) → result ≡ list_all (λ c. is_entry_within verified.now a most (law.at c)) (busy_channels verified.now) }
+{
+    let busy = verified.busy();
+    for number in 0..busy.count() {
+        if verified.bound_of(&busy.channel(number)) > most {
+            return false;
+        }
+    }
+    true
+}
+
+// Returns whether the bounds of all channels are within a limit. It looks at one place after the other, up to the first bound that is not.
+fn are_places_within(alloc: Global, verified: &Verified, most: u64) -> Result<bool, AllocError>
     ensures { (a : Accepted verified.now) → IfOk result (λ within. within ≡ list_all (λ c. is_entry_within verified.now a most (law.at c)) (channels verified.now)) }
 {
     let lookups = Lookups::new(alloc, verified.definition())?;
@@ -49,6 +63,21 @@ fn are_channels_within(alloc: Global, verified: &Verified, most: u64) -> Result<
         }
     }
     Ok(true)
+}
+
+// Returns whether the bounds of all channels are within a limit. All idle channels have the same bound, so where that one is greater than the
+// limit, the first idle channel settles it.
+fn are_channels_within(alloc: Global, verified: &Verified, most: u64) -> Result<bool, AllocError>
+    ensures { (a : Accepted verified.now) → IfOk result (λ within. within ≡ list_all (λ c. is_entry_within verified.now a most (law.at c)) (channels verified.now)) }
+{
+    if !are_busy_within(verified, most) {
+        return Ok(false);
+    }
+    if verified.idle_bound() <= most {
+        return Ok(true);
+    }
+    let within = are_places_within(alloc, verified, most)?;
+    Ok(within)
 }
 
 // Returns whether the bounds of the sources' programs are within a limit.
@@ -66,7 +95,7 @@ fn are_bounds_within(sources: &[SourceBound], most: u64) -> bool
 }
 
 /// Returns whether no dispatch of a definition may count more steps than `most`: neither the build, nor an event, a source or a call at
-/// any channel. It takes as much time as the report is long, and memory for one place.
+/// any channel. It takes time for each busy channel, and memory for the channels of one place.
 ///
 /// # Errors
 ///
