@@ -1,5 +1,6 @@
 mod Beginning
 mod Ending
+mod InOrder
 mod InParts
 mod Served
 mod TakenProofs

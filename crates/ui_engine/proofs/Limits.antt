@@ -2,7 +2,7 @@
 use Rattle.std.proofs.Common.{Err, IfErr, IfOk, Ok, Option, Result, ℕ}
 use Rattle.ui_machine.specs.Definition.{Definition}
 use Rattle.law_peers.specs.Needs.{Mismatch}
-use Rattle.ui_engine.specs.SessionView.{IsWhy, IsWhyWithin}
+use Rattle.ui_engine.specs.SessionView.{IsWhy, IsWhyWithin, IsWithin}
 use Rattle.ui_engine.specs.declared.faults.StartFault.{StartFault}
 use Rattle.ui_engine.specs.declared.faults.StartFault.TheVariants as starts
 
@@ -17,10 +17,10 @@ as_before (Ok x) f p = tt
 as_before (Err e) f p = f e p
 
 -- a start without a limit fails for the same reason
-pub why_within : (d : Definition) (most : ℕ) (fault : StartFault) (lack : Option Mismatch) → IsWhy fault lack → IsWhyWithin d most fault lack
-why_within d most starts.OutOfMemory lack is = is
-why_within d most (starts.PeerMissing name) lack is = is
-why_within d most (starts.PeerClosed name) lack is = is
-why_within d most (starts.PeerShape name) lack is = is
-why_within d most (starts.PeerUnused name) lack is = is
-why_within d most starts.StepLimit lack is = absurd is
+pub why_within : (d : Definition) (most : ℕ) → IsWithin d most → (fault : StartFault) (lack : Option Mismatch) → IsWhy fault lack → IsWhyWithin d most fault lack
+why_within d most within starts.OutOfMemory lack is = is
+why_within d most within (starts.PeerMissing name) lack is = (within, is)
+why_within d most within (starts.PeerClosed name) lack is = (within, is)
+why_within d most within (starts.PeerShape name) lack is = (within, is)
+why_within d most within (starts.PeerUnused name) lack is = (within, is)
+why_within d most within starts.StepLimit lack is = absurd is

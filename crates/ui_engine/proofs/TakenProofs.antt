@@ -1,6 +1,7 @@
 -- How the boxes are closed whose peers objects have got.
 use Rattle.std.proofs.Common.{◌≡◌, refl, ap, sym, ◌∙◌, ℕ, zero, suc, ◌+◌, ◌-◌, ◌^◌, ◌<◌, ◌≤◌, Bool, true, false, List, [], ◌∷◌, length, take, Option, None, Some, arith}
-use Rattle.std.specs.Prelude.{SomeIff, is_some, slice_get, slice_set, option_map}
+use Rattle.std.specs.Prelude.{MatchOption, is_some, slice_get, slice_set, option_map}
+use Rattle.ui_machine.specs.State.Objects.{most_identities}
 use Rattle.ui_machine.specs.Seq.{read}
 use Rattle.ui_machine.specs.State.Peers.{Peer}
 use Rattle.native_peers.specs.Moves.{closed}
@@ -91,7 +92,7 @@ none_taken (x ∷ peers) (suc n) at = none_taken peers n at
 -- ** closed once more
 
 -- closing what an object has got changes nothing of what is closed at the end
-taken_once : (k : ℕ) (peers : List Peer) (pool : List Seen) → taken_closed peers (closed_at_if (is_taken peers k) k pool) ≡ taken_closed peers pool
+pub taken_once : (k : ℕ) (peers : List Peer) (pool : List Seen) → taken_closed peers (closed_at_if (is_taken peers k) k pool) ≡ taken_closed peers pool
 taken_once k [] pool = closed_not k pool
 taken_once k (p ∷ peers) [] = refl
 taken_once zero (p ∷ peers) (s ∷ pool) = by (is_some p.holder)
@@ -101,13 +102,23 @@ taken_once zero (p ∷ peers) (s ∷ pool) = by (is_some p.holder)
     by false = refl
 taken_once (suc k) (p ∷ peers) (s ∷ pool) = ap (λ (l : List Seen). closed_if (is_some p.holder) s ∷ l) (taken_once k peers pool)
 
-pub taken_again : (k : ℕ) (peers : List Peer) (old new : List Seen) → new ≡ closed_at_if (is_taken peers k) k old → taken_closed peers new ≡ taken_closed peers old
-taken_again k peers old new closes = ap (taken_closed peers) closes ∙ taken_once k peers old
-
 -- ** from identity to identity
 
-pub comes_nearer : (from id next : ℕ) (r : Option ℕ) → from ≤ id → SomeIff r (id + 1 < 2 ^ 64) (id + 1) → r ≡ Some next → 2 ^ 64 - next < 2 ^ 64 - from
-comes_nearer from id next None low is at = absurd (cc at)
-comes_nearer from id next (Some n) low is at =
-    let same : n ≡ next = cc at in
-    omega (arith, is.0, is.1, same, low)
+-- what is told of the identity after this one
+abbrev After : ℕ → Option ℕ → Type 0
+After id r = MatchOption r (id ≡ most_identities) (λ next. (id < most_identities) × (next ≡ id + 1))
+
+pub has_next : (id next : ℕ) (r : Option ℕ) → After id r → r ≡ Some next → (id < most_identities) × (next ≡ id + 1)
+has_next id next None is at = absurd (cc at)
+has_next id next (Some n) is at = let same : n ≡ next = cc at in (is.0, sym same ∙ is.1)
+
+pub no_next : (id : ℕ) (r : Option ℕ) → After id r → r ≡ None → id ≡ most_identities
+no_next id None is at = is
+no_next id (Some n) is at = absurd (cc at)
+
+pub comes_nearer : (from id next : ℕ) (r : Option ℕ) → from ≤ id → After id r → r ≡ Some next → 2 ^ 64 - next < 2 ^ 64 - from
+comes_nearer from id next r low is at =
+    let found = has_next id next r is at in
+    let few : id < 18446744073709551615 = found.0 in
+    let after : next ≡ id + 1 = found.1 in
+    omega (arith, few, after, low)

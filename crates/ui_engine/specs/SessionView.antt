@@ -137,11 +137,15 @@ IsWhy (starts.PeerShape name) lack = lack ≡ Some (misshapen (string_bytes name
 IsWhy (starts.PeerUnused name) lack = lack ≡ Some (unused (string_bytes name))
 IsWhy starts.StepLimit lack = ⊥
 
--- why none began whose dispatches count at most so many steps: the definition is not within this limit, or how the pool failed to match
+-- no dispatch of the definition counts more steps, whatever it begins with
+abbrev pub IsWithin : Definition → (most : ℕ) → Type 0
+IsWithin d most = (a : Accepted d) → is_within d a most ≡ true
+
+-- Why none began whose dispatches count at most so many steps: the definition is not within this limit, or else how the pool failed to match.
 abbrev pub IsWhyWithin : Definition → (most : ℕ) → StartFault → Option Mismatch → Type 0
 IsWhyWithin d most starts.OutOfMemory lack = ⊤
-IsWhyWithin d most (starts.PeerMissing name) lack = lack ≡ Some (missing (string_bytes name))
-IsWhyWithin d most (starts.PeerClosed name) lack = lack ≡ Some (closed (string_bytes name))
-IsWhyWithin d most (starts.PeerShape name) lack = lack ≡ Some (misshapen (string_bytes name))
-IsWhyWithin d most (starts.PeerUnused name) lack = lack ≡ Some (unused (string_bytes name))
+IsWhyWithin d most (starts.PeerMissing name) lack = IsWithin d most × (lack ≡ Some (missing (string_bytes name)))
+IsWhyWithin d most (starts.PeerClosed name) lack = IsWithin d most × (lack ≡ Some (closed (string_bytes name)))
+IsWhyWithin d most (starts.PeerShape name) lack = IsWithin d most × (lack ≡ Some (misshapen (string_bytes name)))
+IsWhyWithin d most (starts.PeerUnused name) lack = IsWithin d most × (lack ≡ Some (unused (string_bytes name)))
 IsWhyWithin d most starts.StepLimit lack = (a : Accepted d) → is_within d a most ≡ false

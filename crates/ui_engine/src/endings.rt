@@ -1,8 +1,10 @@
 //! The end of a session, at which the boxes that objects have got are closed.
 
-ghost use Rattle.std.specs.Prelude.{◌≡◌, ◌<◌, length};
+ghost use Rattle.std.specs.Prelude.{◌≡◌, ◌<◌, ◌+◌, MatchOption, length};
+ghost use Rattle.ui_machine.specs.Rules.Disposal.{peer_of};
+ghost use Rattle.ui_machine.specs.State.Objects.{living, most_identities};
 ghost use Rattle.native_peers.specs.Seen.{SameRelations};
-ghost use Rattle.ui_engine.specs.Endings.{closed_at_if, is_taken, taken_closed};
+ghost use Rattle.ui_engine.specs.Endings.{closed_at, closed_at_if, closed_in_order, identified, is_taken, taken_closed};
 
 use engine_world::seats::Seats;
 use instance_tables::Table;
@@ -32,7 +34,7 @@ fn close_if_taken<P: Peers>(seats: &Seats, pool: &mut P, number: usize)
 
 // Closes the box of an object's peer, if the object has one and its box is open.
 fn close_of<P: Peers>(table: &Table, seats: &Seats, pool: &mut P, id: ObjectId)
-    ensures taken { taken_closed seats.now (P.seen pool.new) ≡ taken_closed seats.now (P.seen pool.old) }
+    ensures closed { (P.seen pool.new) ≡ closed_at seats.now (peer_of (living table.now.objects id.0)) (P.seen pool.old) }
     ensures same { SameRelations (P.relations pool.old) (P.relations pool.new) }
 {
     if let Some(number) = table.peer_of(id) {
@@ -42,15 +44,22 @@ fn close_of<P: Peers>(table: &Table, seats: &Seats, pool: &mut P, id: ObjectId)
     }
 }
 
+// Returns the identity after another, or `None` after the last that there can be.
+fn identity_after(id: u64) -> Option<u64>
+    ensures { MatchOption result (id ≡ most_identities) (λ next. (id < most_identities) × (next ≡ id + 1)) }
+{
+    id.checked_add(1)
+}
+
 /// Closes the open boxes of the peers of all objects that live, the object of the lowest identity first.
 pub(crate) fn close_in_order<P: Peers>(table: &Table, seats: &Seats, pool: &mut P)
-    ensures taken { taken_closed seats.now (P.seen pool.new) ≡ taken_closed seats.now (P.seen pool.old) }
+    ensures closed { (P.seen pool.new) ≡ closed_in_order seats.now (identified table.now.objects) (P.seen pool.old) }
     ensures same { SameRelations (P.relations pool.old) (P.relations pool.new) }
 {
     let mut from = ObjectId(0);
     'objects: while let Some(id) = table.next_live(from) {
         close_of(table, seats, pool, id);
-        let Some(next) = id.0.checked_add(1) else {
+        let Some(next) = identity_after(id.0) else {
             return;
         };
         from = ObjectId(next);

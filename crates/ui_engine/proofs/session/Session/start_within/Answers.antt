@@ -13,4 +13,4 @@ pub returns-clause-within : goal.returns-clause-within
 returns-clause-within g c a = whatever c.start.result (c.in_default.ensures.may a)
 
 pub returns-clause-refused : goal.returns-clause-refused
-returns-clause-refused g c = as_before c.start.result (λ refused is. (is.0, is.1, why_within c.args.verified c.args.most refused.fault _ is.2)) c.start.ensures.refused
+returns-clause-refused g c = as_before c.start.result (λ refused is. (is.0, is.1, why_within c.args.verified c.args.most c.in_default.ensures.may refused.fault _ is.2)) c.start.ensures.refused
