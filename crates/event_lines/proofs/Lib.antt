@@ -10,3 +10,4 @@ pub mod Openings
 pub mod CheckProofs
 pub mod CutReports
 pub mod SliceLemmas
+pub mod SameRuns

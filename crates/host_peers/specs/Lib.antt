@@ -1,3 +1,4 @@
 pub mod Screens
 pub mod Stock
 pub mod Tallies
+pub mod StockedPools

@@ -9,9 +9,11 @@ use Rattle.ui_machine.specs.Rules.Construction.{nearest_shape}
 use Rattle.ui_machine.specs.Rules.Transform.{same_bool}
 use Rattle.ui_machine.specs.State.Peers.{PeerState}
 use Rattle.law_peers.specs.Needs.{objects, prototypes}
-use Rattle.native_peers.specs.Seen.{Seen}
-use Rattle.host_peers.specs.Screens.{new_screen}
-use Rattle.host_peers.specs.Tallies.{new_tally}
+use Rattle.native_peers.specs.Moves.{Relation}
+use Rattle.native_peers.specs.Pool.{relations}
+use Rattle.native_peers.specs.Seen.{Relations, Seen}
+use Rattle.host_peers.specs.Screens.{Screens, new_screen}
+use Rattle.host_peers.specs.Tallies.{Tallies, new_tally}
 use Rattle.host_peers.specs.declared.stock_lists.StockKind.{StockKind}
 use Rattle.host_peers.specs.declared.stock_lists.StockKind.TheVariants as kinds
 use Rattle.host_peers.specs.declared.stock_lists.StockPeer.{StockPeer}
@@ -63,11 +65,34 @@ new_peer s = record { name = s.name; state = new_state s.kind }
 abbrev pub with_peer : List Seen → Seen → List Seen
 with_peer peers p = cond (is_some (place_named (λ (q : Seen). q.name) peers p.name)) peers (peers ++ p ∷ [])
 
--- new peers behind others, of each name the first
-abbrev pub stocked_after : List Seen → List Stocked → List Seen
-stocked_after peers [] = peers
-stocked_after peers (s ∷ stock) = stocked_after (with_peer peers (new_peer s)) stock
+-- one more peer to be made, unless one of its name is there
+abbrev pub with_stocked : List Stocked → Stocked → List Stocked
+with_stocked kept s = cond (is_some (place_named (λ (t : Stocked). t.name) kept s.name)) kept (kept ++ s ∷ [])
 
--- what is seen of the pool that the host makes for a definition
+-- more behind others, of each name the first
+abbrev pub kept_after : List Stocked → List Stocked → List Stocked
+kept_after kept [] = kept
+kept_after kept (s ∷ stock) = kept_after (with_stocked kept s) stock
+
+-- the peers that the host makes for a definition
+abbrev pub kept_of : Definition → List Stocked
+kept_of d = kept_after [] (stock_of d)
+
+-- what is seen of their pool
 abbrev pub stocked_pool : Definition → List Seen
-stocked_pool d = stocked_after [] (stock_of d)
+stocked_pool d = map new_peer (kept_of d)
+
+-- ** what they do
+
+-- what a peer of a kind may do
+abbrev pub moves_of : StockKind → Relation
+moves_of kinds.Screen = Screens
+moves_of kinds.Tally = Tallies
+
+-- what some peers may do
+abbrev pub relations_of : List Stocked → Relations
+relations_of kept = relations (λ (s : Stocked). moves_of s.kind) kept
+
+-- what each peer may do that the host makes for a definition: a screen shows, and a tally adds
+abbrev pub stocked_relations : Definition → Relations
+stocked_relations d = relations_of (kept_of d)

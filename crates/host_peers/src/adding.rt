@@ -1,9 +1,11 @@
 //! Additions of peers to the pool of a host.
 
-ghost use Rattle.std.specs.Prelude.{◌≡◌, IsSome, IsTrue, None, OnErr, OnOk, string_bytes};
+ghost use Rattle.std.specs.Prelude.{◌≡◌, IsSome, IsTrue, List, None, OnErr, OnOk, string_bytes};
 ghost use Rattle.std.specs.List.{All};
 ghost use Rattle.native_peers.specs.Pool.{AppendsOne, entries, number_of, seen};
-ghost use Rattle.host_peers.specs.Stock.{new_peer, new_state, with_peer};
+ghost use Rattle.native_peers.specs.Moves.{SameMoves};
+ghost use Rattle.host_peers.specs.Stock.{Stocked, moves_of, new_state, with_peer, with_stocked};
+ghost use Rattle.host_peers.specs.StockedPools.{AreStocked};
 
 use crate::stock_lists::StockKind;
 use native_peers::{AddFault, NotAdded, Peer, PeerPool};
@@ -53,8 +55,12 @@ pub(crate) fn put_new(
     peer: Box<dyn Peer>,
 ) -> Result<(), AllocError>
     requires new { (⟦<dyn Peer as Peer>⟧ peer.vtable).state peer.value ≡ new_state kind }
+    requires moves { SameMoves ((⟦<dyn Peer as Peer>⟧ peer.vtable).moves peer.value) (moves_of kind) }
     requires all { All (λ p. IsTrue ((⟦<dyn Peer as Peer>⟧ p.peer.vtable).state p.peer.value).is_open) (entries pool.old) }
-    ensures seen { OnOk result (seen (λ p. (⟦<dyn Peer as Peer>⟧ p.peer.vtable).state p.peer.value) (entries pool.new) ≡ with_peer (seen (λ p. (⟦<dyn Peer as Peer>⟧ p.peer.vtable).state p.peer.value) (entries pool.old)) (new_peer (record { name = name.now; kind = kind }))) }
+    ensures stocked { OnOk result ((kept : List Stocked) →
+        AreStocked (λ p. (⟦<dyn Peer as Peer>⟧ p.peer.vtable).state p.peer.value) (λ p. (⟦<dyn Peer as Peer>⟧ p.peer.vtable).moves p.peer.value) (entries pool.old) kept →
+        AreStocked (λ p. (⟦<dyn Peer as Peer>⟧ p.peer.vtable).state p.peer.value) (λ p. (⟦<dyn Peer as Peer>⟧ p.peer.vtable).moves p.peer.value) (entries pool.new)
+        (with_stocked kept (record { name = name.now; kind = kind }))) }
     ensures open { All (λ p. IsTrue ((⟦<dyn Peer as Peer>⟧ p.peer.vtable).state p.peer.value).is_open) (entries pool.new) }
 {
     put(pool, name, peer)?;

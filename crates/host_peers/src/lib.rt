@@ -10,8 +10,6 @@ mod screens;
 mod stock_lists;
 mod stocked_runs;
 mod tallies;
-#[cfg(test)]
-mod tests;
 
 pub use adding::put;
 pub use line_lists::{MOST_LINE_BYTES, MOST_LINES};

@@ -2,8 +2,8 @@
 
 ghost use Rattle.std.specs.Prelude.{◌≡◌, IfOk, List, ℕ};
 ghost use Rattle.ui_machine.specs.Definition as machine;
-ghost use Rattle.native_peers.specs.Seen.{Seen};
-ghost use Rattle.host_peers.specs.Stock.{stocked_pool};
+ghost use Rattle.native_peers.specs.Seen.{Relations, SameRelations, Seen};
+ghost use Rattle.host_peers.specs.Stock.{stocked_pool, stocked_relations};
 
 use crate::adding::put_new;
 use crate::screens::Screen;
@@ -21,7 +21,10 @@ pub trait PoolProgram: Drop {
     /// The names and initial states that it asks of its peers.
     ghost asks: { Self → List Seen → Type 0 };
 
-    /// The statuses that it may return, if its peers are as it asks.
+    /// What it expects that its peers do.
+    ghost expects: { Self → Relations };
+
+    /// The statuses that it may return, if its peers are as it asks and do what it expects.
     ghost answers: { Self → ℕ → Type 0 };
 
     /// Returns the definition that it runs.
@@ -30,7 +33,8 @@ pub trait PoolProgram: Drop {
 
     /// Runs with the peers of a pool, and returns a status.
     fn run<Q: Peers>(self, pool: Q) -> u8
-        requires { asks self (Q.seen pool) }
+        requires asked { asks self (Q.seen pool) }
+        requires expected { SameRelations (Q.relations pool) (expects self) }
         ensures { answers self result };
 }
 
@@ -41,7 +45,8 @@ pub trait PoolProgram: Drop {
 ///
 /// `AllocError` if memory is refused before the program runs.
 pub fn run_with_stock<P: PoolProgram>(alloc: Global, program: P) -> Result<u8, AllocError>
-    requires { P.asks program (stocked_pool (P.runs program)) }
+    requires asked { P.asks program (stocked_pool (P.runs program)) }
+    requires expected { SameRelations (stocked_relations (P.runs program)) (P.expects program) }
     ensures { IfOk result (λ status. P.answers program status) }
 {
     // All screens share the methods of this one, and all tallies those of the other.

@@ -1,7 +1,10 @@
 //! The program: `ui verify DEF` and `ui run DEF EVENTS`.
 #![tactic(auto)]
 
-ghost use Rattle.std.specs.Prelude.{◌≡◌, ⊤, false};
+ghost use Rattle.std.specs.Prelude.{◌≡◌, ℕ, IfOk, List, false};
+ghost use Rattle.event_lines.specs.CheckView.{IsJudged};
+ghost use Rattle.host_peers.specs.Stock.{stocked_pool, stocked_relations};
+ghost use Rattle.ui_runner.specs.StockedRuns.{RunsStocked, RunsWith};
 
 mod command_line;
 
@@ -73,7 +76,7 @@ fn check_file(rt: &HostRuntime, definition: &str) -> u8 {
     check(rt.alloc(), bytes.as_slice(), &mut writer)
 }
 
-// The run of an accepted definition over a file of events.
+// The run of an accepted definition over a file of events, with the peers that the host makes: its screens show, and its tallies add.
 #[derive(Drop)]
 struct EventsRun<'a> {
     rt: &'a HostRuntime,
@@ -84,9 +87,11 @@ struct EventsRun<'a> {
 impl PoolProgram for EventsRun<'_> {
     ghost runs = { λ run. run.verified };
 
-    ghost asks = { λ _ _. ⊤ };
+    ghost asks = { λ run pool. pool ≡ stocked_pool run.verified };
 
-    ghost answers = { λ _ _. ⊤ };
+    ghost expects = { λ run. stocked_relations run.verified };
+
+    ghost answers = { λ run status. RunsStocked run.verified status };
 
     fn definition(&self) -> &Definition {
         self.verified.definition()
@@ -99,7 +104,9 @@ impl PoolProgram for EventsRun<'_> {
 }
 
 // Runs a definition that was judged over a file of events, and returns the status.
-fn run_over<P: Peers>(rt: &HostRuntime, judgement: Judgement, pool: P, events: File) -> u8 {
+fn run_over<P: Peers>(rt: &HostRuntime, judgement: Judgement, pool: P, events: File) -> u8
+    ensures { (bytes : List ℕ) → IsJudged bytes judgement → RunsWith (P.relations pool) (P.seen pool) bytes result }
+{
     let mut reader = device(events);
     let mut writer = device(rt.stdout());
     let over = run_judged(rt.alloc(), judgement, pool, &mut reader, &mut writer);
