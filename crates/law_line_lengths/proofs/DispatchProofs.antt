@@ -32,7 +32,7 @@ answer_short d m None fit = tt
 answer_short d None (Some v) fit = absurd fit
 answer_short d (Some m) (Some v) fit = fit.1
 
-reply_short : (d : Definition) (reply : Option Reply) → Each (Fits d) (listed reply) → IfSome reply HasShortAnswer
+pub reply_short : (d : Definition) (reply : Option Reply) → Each (Fits d) (listed reply) → IfSome reply HasShortAnswer
 reply_short d None fit = tt
 reply_short d (Some r) fit = answer_short d (slice_get r.question.state.shape r.question.method) r.answer fit.0.answer
 
@@ -43,7 +43,7 @@ module _ (d : Definition) (texts : HasShortTexts d) where
   abbrev AllParts : Config → Type 0
   AllParts c = (n : ℕ) (replies : List Reply) → Each (Fits d) replies → (at : Config) → Steps d n replies c at → HasShortParts d at
 
-  all_say : (n : ℕ) (replies : List Reply) → Each (Fits d) replies → (c at : Config) → AllParts c → Steps d n replies c at → Grows d c.world.transcript at.world.transcript
+  pub all_say : (n : ℕ) (replies : List Reply) → Each (Fits d) replies → (c at : Config) → AllParts c → Steps d n replies c at → Grows d c.world.transcript at.world.transcript
   all_say zero replies fit c at parts s = subst (λ (e : Config). Grows d c.world.transcript e.world.transcript) s.1 (grows_not d c.world.transcript)
   all_say (suc n) replies fit c at parts s =
       let both = both_fit d (listed s.reply) s.later (subst (Each (Fits d)) s.replied fit) in

@@ -1,7 +1,7 @@
 -- Each line that an instruction says is short.
-use Rattle.std.proofs.Common.{refl, inl, inr, ℕ, suc, Bool, true, false, cond, not, List, [], ◌∷◌, ◌++◌, Option, None, Some, Ok, Err}
+use Rattle.std.proofs.Common.{◌≡◌, refl, inl, inr, ℕ, suc, Bool, true, false, cond, not, List, [], ◌∷◌, ◌++◌, Option, None, Some, Ok, Err}
 use Rattle.std.specs.List.{list_all}
-use Rattle.std.specs.Prelude.{IfOk, codes, length, nat_lt, slice_get}
+use Rattle.std.specs.Prelude.{IfOk, IfSome, codes, length, nat_lt, slice_get}
 use Rattle.ui_machine.specs.declared.arm.Arm.TheVariants as arms
 use Rattle.ui_machine.specs.Definition.{Definition}
 use Rattle.ui_machine.specs.Definition.Kinds.{Kind}
@@ -34,7 +34,7 @@ use Rattle.ui_machine.specs.Rules.Transform.{kind_fits}
 use Rattle.ui_machine.specs.Rules.Sets.{is_disposed, raising, spec_at}
 use Rattle.ui_machine.specs.State.Bindings.{is_binding}
 use Rattle.ui_machine.specs.State.Config.{Left, Started, World, peer_at, said, starts}
-use Rattle.ui_machine.specs.State.Objects.{asked, changed, class_in, living, object_at, value_at}
+use Rattle.ui_machine.specs.State.Objects.{Object, asked, changed, class_in, living, object_at, value_at}
 use Rattle.ui_machine.specs.State.Peers.{Peer, closed_peer, method_number, method_of, no_peer}
 use Rattle.ui_machine.specs.Seq.{write}
 use Rattle.ui_machine.specs.State.Sources as sources
@@ -44,14 +44,13 @@ use Rattle.machine_laws.proofs.KeptProofs.{bind_keeps, cond_keeps, kept_at, only
 use Rattle.law_steps.proofs.Instructed.Inverse.{known_is}
 use Rattle.ui_machine.specs.Output.Lines.{Line}
 use Rattle.law_typing.specs.Laws.{IsIn}
-use Rattle.law_typing.specs.Verdict.Accepted.{Each}
-use Rattle.law_short_texts.proofs.Entries.{each_get, there}
+use Rattle.law_short_texts.proofs.Entries.{there}
 use Rattle.law_line_lengths.specs.LineLengths.{IsLikeLineOf, IsLikeNameOf, limit_words}
-use Rattle.law_line_lengths.specs.StepLines.{Grows, IsLikePeerOf}
+use Rattle.law_line_lengths.specs.StepLines.{Grows, HasLikePeers, IsLikePeerAt, IsLikePeerOf}
 use Rattle.law_line_lengths.proofs.GrowthProofs.{grows_more, grows_not, grows_once}
 use Rattle.law_line_lengths.proofs.NameProofs.{type_like}
 
-module _ (d : Definition) (w : World) (peers : Each (IsLikePeerOf d) w.peers) where
+module _ (d : Definition) (w : World) (peers : HasLikePeers d w) where
   abbrev pub Says : World → Type 0
   Says v = Grows d w.transcript v.transcript
 
@@ -181,22 +180,35 @@ module _ (d : Definition) (w : World) (peers : Each (IsLikePeerOf d) w.peers) wh
       by id (Some parent) = once (lines.orphan id) tt
 
   -- the close of a peer
-  closes : (v : World) → Each (IsLikePeerOf d) v.peers → (peer : Option ℕ) → Says v → IfOk (closing d peer v) Says
+  closes : (v : World) (peer : Option ℕ) → IfSome peer (IsLikePeerAt d v) → Says v → IfOk (closing d peer v) Says
   unfolding closing
-  closes v all None kept = kept
-  closes v all (Some number) kept = bind_keeps (known arms.Code (slice_get v.peers number)) _ Says (λ p is. shut p p.state.is_open (there (IsLikePeerOf d) (slice_get v.peers number) p (each_get (IsLikePeerOf d) v.peers all number) (known_is arms.Code (slice_get v.peers number) p is)).0)
+  closes v None own kept = kept
+  closes v (Some number) own kept = bind_keeps (known arms.Code (slice_get v.peers number)) _ Says (λ p is.
+      shut p p.state.is_open (there (IsLikePeerOf d) (slice_get v.peers number) p own (known_is arms.Code (slice_get v.peers number) p is)).0)
     where
       shut : (p : Peer) (b : Bool) → IsLikeNameOf d p.name → Says (cond b (said d (record v { peers = write no_peer v.peers number (closed_peer p) }) (lines.close p.name)) v)
       shut p true name = grows_more d w.transcript v.transcript kept (lines.close p.name) name
       shut p false name = kept
+
+  -- the peer of an object, if it lives and has one
+  own_like : (id : ℕ) → IfSome (peer_of (living w.objects id)) (IsLikePeerAt d w)
+  own_like id = by (living w.objects id) refl
+    where
+      has : (o : Object) → living w.objects id ≡ Some o → (peer : Option ℕ) → o.peer ≡ peer → IfSome peer (IsLikePeerAt d w)
+      has o lives None e = tt
+      has o lives (Some number) e = peers id number o lives e
+
+      by : (x : Option Object) → living w.objects id ≡ x → IfSome (peer_of x) (IsLikePeerAt d w)
+      by None e = tt
+      by (Some o) e = has o e o.peer refl
 
   -- a dispose says that it is the first, and closes the peer
   pub disposed_kept : (id : ℕ) → IfOk (disposed d w id) Says
   disposed_kept id = go (is_first (living w.objects id))
     where
       go : (first : Bool) → IfOk (closing d (peer_of (living w.objects id)) (said_if d first (without_object d w id) (lines.dispose id))) Says
-      go true = closes (said_if d true (without_object d w id) (lines.dispose id)) peers (peer_of (living w.objects id)) (once (lines.dispose id) tt)
-      go false = closes (without_object d w id) peers (peer_of (living w.objects id)) still
+      go true = closes (said_if d true (without_object d w id) (lines.dispose id)) (peer_of (living w.objects id)) (own_like id) (once (lines.dispose id) tt)
+      go false = closes (without_object d w id) (peer_of (living w.objects id)) (own_like id) still
 
   disposes : (f : Frame) (object : ℕ) → IfOk (disposing d w f object) Kept
   unfolding disposing

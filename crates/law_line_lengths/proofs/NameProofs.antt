@@ -23,6 +23,7 @@ use Rattle.ui_machine.specs.State.Objects.{Object, Objects, object_at}
 use Rattle.law_typing.proofs.Lists.{both_parts, greatest_in, map_in}
 use Rattle.law_typing.specs.Graph.Tables.{greatest}
 use Rattle.law_typing.specs.Laws.{IsIn}
+use Rattle.law_typing.specs.Verdict.Accepted.{Each}
 use Rattle.law_steps.proofs.Instructed.Inverse.{bound, known_is}
 use Rattle.law_line_lengths.specs.LineLengths.{IsLikeNameOf, longest, most_arguments, names}
 
@@ -63,6 +64,10 @@ step a b c h k = omega (arith, h, k)
 
 abbrev L : List ℕ → ℕ
 L = λ (name : List ℕ). length name
+
+each_of : {A : Type 0} (P : A → Type 0) (xs : List A) → ((x : A) → IsIn x xs → P x) → Each P xs
+each_of P [] so = tt
+each_of P (x ∷ xs) so = (so x (inl refl), each_of P xs (λ y h. so y (inr h)))
 
 -- ** names
 
@@ -151,6 +156,24 @@ module _ (d : Definition) where
       step _ _ _ (greatest_in L (p.id ∷ p.peers) p.id (inl refl))
       (step _ _ _ (flat_le L of_place d.places p (get_in d.places number p e))
       (step _ _ _ (back_le L of_shapes (flat_map of_place d.places)) (step _ _ _ (back_le L of_programs after_programs) after_classes_le)))
+
+  -- the names of the peers that a place gives
+  pub place_peers_like : (number : ℕ) (p : Place) → place_at d number ≡ Some p → Each (IsLikeNameOf d) p.peers
+  place_peers_like number p e = each_of (IsLikeNameOf d) p.peers (λ name h.
+      step _ _ _ (greatest_in L (p.id ∷ p.peers) name (inr h))
+      (step _ _ _ (flat_le L of_place d.places p (get_in d.places number p e))
+      (step _ _ _ (back_le L of_shapes (flat_map of_place d.places)) (step _ _ _ (back_le L of_programs after_programs) after_classes_le))))
+
+  -- the methods of a shape: their names, and how many arguments they have
+  pub methods_like : (number : ℕ) (s : Shape) → slice_get d.shapes number ≡ Some s → Each (λ (m : Method). IsLikeNameOf d m.name × (length m.params ≤ most_arguments d)) s.methods
+  methods_like number s e = each_of (λ (m : Method). IsLikeNameOf d m.name × (length m.params ≤ most_arguments d)) s.methods (λ m h. (
+    step _ _ _ (map_le L (λ (m : Method). m.name) s.methods m h)
+        (step _ _ _ (flat_le L (λ (s : Shape). map (λ (m : Method). m.name) s.methods) d.shapes s (get_in d.shapes number s e))
+        (step _ _ _ (front_le L of_shapes (flat_map of_place d.places)) (step _ _ _ (back_le L of_programs after_programs) after_classes_le))),
+    step _ _ _ (map_le (λ (kinds : List Kind). length kinds) (λ (m : Method). m.params) s.methods m h)
+        (step _ _ _ (flat_le (λ (kinds : List Kind). length kinds) (λ (s : Shape). map (λ (m : Method). m.params) s.methods) d.shapes s (get_in d.shapes number s e))
+        (back_le (λ (kinds : List Kind). length kinds) (flat_map (λ (c : Class). map (λ (s : Signal). s.params) c.signals) d.classes) (flat_map (λ (s : Shape). map (λ (m : Method). m.params) s.methods) d.shapes))),
+  ))
 
 -- ** arguments
 

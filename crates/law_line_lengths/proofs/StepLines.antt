@@ -27,12 +27,12 @@ use Rattle.ui_machine.specs.Steps.{act, counted, finalising, first_of, left, mos
 use Rattle.machine_laws.proofs.KeptProofs.{bind_keeps, kept_at, only_keeps}
 use Rattle.law_typing.specs.Verdict.Accepted.{Each}
 use Rattle.law_short_texts.specs.ShortValues.{HasShortAnswer, HasShortTexts, IsShortTask, IsShortWorld}
-use Rattle.law_line_lengths.specs.StepLines.{Grows, IsLikePeerOf, IsLikeTaskOf, StepsSayShortLines}
+use Rattle.law_line_lengths.specs.StepLines.{Grows, HasLikePeers, IsLikeTaskOf, StepsSayShortLines}
 use Rattle.law_line_lengths.proofs.GrowthProofs.{grows_more, grows_not}
 use Rattle.law_line_lengths.proofs.InstructionLines.{disposed_kept, instructed_kept}
 use Rattle.law_line_lengths.proofs.TaskLines.{begins_emission, builds, calls, carries_by, carries_request, constructs, ends_emission, notifies_one, runs_source, sets_one, takes, thaws_rest}
 
-module _ (d : Definition) (texts : HasShortTexts d) (w : World) (short : IsShortWorld w) (peers : Each (IsLikePeerOf d) w.peers) where
+module _ (d : Definition) (texts : HasShortTexts d) (w : World) (short : IsShortWorld w) (peers : HasLikePeers d w) where
   abbrev Says : World → Type 0
   Says v = Grows d w.transcript v.transcript
 
@@ -65,7 +65,7 @@ module _ (d : Definition) (texts : HasShortTexts d) (w : World) (short : IsShort
   at_rest [] = grows_not d w.transcript
   at_rest (id ∷ ids) = grows_not d w.transcript
 
-  acts : (reply : Option Reply) → IfSome reply HasShortAnswer → (tasks : List Task) → Each IsShortTask tasks → Each (IsLikeTaskOf d) tasks → (n : ℕ) → IfOk (act d w reply tasks n) Leads
+  acts : (reply : Option Reply) → IfSome reply HasShortAnswer → (tasks : List Task) → Each IsShortTask tasks → Each (IsLikeTaskOf d w) tasks → (n : ℕ) → IfOk (act d w reply tasks n) Leads
   acts reply one [] all like n = at_rest w.floating
   acts reply one (Setting id slot v ∷ rest) all like n = not_counted rest n (setting d w id slot v) (sets_one d texts w short peers id slot v all.0)
   acts reply one (Notifying id slot ∷ rest) all like n = is_counted rest n (notifying d w id slot) (notifies_one d texts w short peers id slot)
@@ -77,7 +77,7 @@ module _ (d : Definition) (texts : HasShortTexts d) (w : World) (short : IsShort
   acts reply one (Thawing id slots ∷ rest) all like n = not_counted rest n (thawing w id slots) (thaws_rest d texts w short peers id slots)
   acts reply one (Running f ∷ rest) all like n = only_keeps (nat_lt n most_steps) arms.Steps (left (suc n) (running d w rest f)) Leads (leaves_agenda (suc n) (running d w rest f) (runs rest f))
   acts reply one (Answering source ∷ rest) all like n = tt
-  acts reply one (Calling call ∷ rest) all like n = leaves_agenda n (calling_on d w call rest reply) (calls d texts w short peers call (all.0, like.0) rest reply one)
+  acts reply one (Calling call ∷ rest) all like n = leaves_agenda n (calling_on d w call rest reply) (calls d texts w short peers call like.0.0 (all.0, like.0.1) rest reply one)
   acts reply one (Constructing id steps held ∷ rest) all like n = not_counted rest n (constructing d w id steps held) (constructs d texts w short peers id steps held)
   acts reply one (Building items ∷ rest) all like n = not_counted rest n (building d w items) (builds d texts w short peers items)
   acts reply one (Handling request ∷ rest) all like n = not_counted rest n (request_step d w request) (carries_request d texts w short peers request)

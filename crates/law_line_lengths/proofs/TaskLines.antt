@@ -54,7 +54,7 @@ use Rattle.law_short_texts.proofs.Entries.{each_get, there}
 use Rattle.law_short_texts.proofs.ObjectProofs.{HasShortDefault, asked_short, spec_short}
 use Rattle.law_short_texts.proofs.ValueProofs.{clamped_short, or_zero_short, without_short}
 use Rattle.law_line_lengths.specs.LineLengths.{AreArgumentsOf, IsLikeLineOf, IsLikeNameOf, detail_length}
-use Rattle.law_line_lengths.specs.StepLines.{Grows, IsLikePeerOf}
+use Rattle.law_line_lengths.specs.StepLines.{Grows, HasLikePeers, IsLikePeerAt, IsLikePeerOf}
 use Rattle.law_line_lengths.proofs.GrowthProofs.{grows_not, grows_once}
 use Rattle.law_line_lengths.proofs.InstructionLines.{Says}
 use Rattle.law_line_lengths.proofs.InstructionLines as said
@@ -62,7 +62,7 @@ use Rattle.law_line_lengths.proofs.NameProofs.{fit_lengths, only_when, place_lik
 
 -- ** parts of a step
 
-module _ (d : Definition) (texts : HasShortTexts d) (w : World) (short : IsShortWorld w) (peers : Each (IsLikePeerOf d) w.peers) where
+module _ (d : Definition) (texts : HasShortTexts d) (w : World) (short : IsShortWorld w) (peers : HasLikePeers d w) where
   abbrev pub Kept : Started → Type 0
   Kept s = Says d w peers s.world
 
@@ -293,28 +293,29 @@ module _ (d : Definition) (texts : HasShortTexts d) (w : World) (short : IsShort
   left_one v k rest to x = bind_keeps (received rest to (Some x)) _ Leaves (λ agenda _. k)
 
   -- a peer that is there has a name that is long enough, and so have its methods
-  peer_known : (call : Call) (p : Peer) → known arms.Call (peer_at w call.peer) ≡ Ok p → (m : Method) → known arms.Call (method_of p call.method) ≡ Ok m → IsLikeNameOf d p.name × IsLikeNameOf d m.name
-  peer_known call p is m has =
-      let like = there (IsLikePeerOf d) (slice_get w.peers call.peer) p (each_get (IsLikePeerOf d) w.peers peers call.peer) (known_is arms.Call (peer_at w call.peer) p is) in
+  peer_known : (call : Call) → IsLikePeerAt d w call.peer → (p : Peer) → known arms.Call (peer_at w call.peer) ≡ Ok p → (m : Method) → known arms.Call (method_of p call.method) ≡ Ok m
+      → IsLikeNameOf d p.name × IsLikeNameOf d m.name
+  peer_known call own p is m has =
+      let like = there (IsLikePeerOf d) (slice_get w.peers call.peer) p own (known_is arms.Call (peer_at w call.peer) p is) in
       (like.0, there (λ (m : Method). IsLikeNameOf d m.name) (slice_get p.state.shape call.method) m (each_get (λ (m : Method). IsLikeNameOf d m.name) p.state.shape like.1 call.method) (known_is arms.Call (method_of p call.method) m has))
 
   call_says : (p : Peer) (m : Method) → IsLikeNameOf d p.name × IsLikeNameOf d m.name → (args : List Value) → AreArgumentsOf d args → (answer : Option Value) → IfSome answer IsShort → IsLikeLineOf d (call_line p m args answer)
   call_says p m like args are None one = (like.0, like.1, are)
   call_says p m like args are (Some v) one = (like.0, like.1, are, one)
 
-  is_called : (call : Call) → AreArgumentsOf d call.args → (rest : List Task) (reply : Reply) → HasShortAnswer reply → IfOk (called d w call rest reply) Leaves
+  is_called : (call : Call) → IsLikePeerAt d w call.peer → AreArgumentsOf d call.args → (rest : List Task) (reply : Reply) → HasShortAnswer reply → IfOk (called d w call rest reply) Leaves
   unfolding called with_method
-  is_called call are rest reply one = bind_keeps (known arms.Call (peer_at w call.peer)) _ Leaves (λ p is. bind_keeps (known arms.Call (method_of p call.method)) _ Leaves (λ m has.
-      left_one _ (once (call_line p m call.args reply.answer) (call_says p m (peer_known call p is m has) call.args are reply.answer one)) rest call.to _))
+  is_called call own are rest reply one = bind_keeps (known arms.Call (peer_at w call.peer)) _ Leaves (λ p is. bind_keeps (known arms.Call (method_of p call.method)) _ Leaves (λ m has.
+      left_one _ (once (call_line p m call.args reply.answer) (call_says p m (peer_known call own p is m has) call.args are reply.answer one)) rest call.to _))
 
-  is_uncalled : (call : Call) → AreArgumentsOf d call.args → (rest : List Task) → IfOk (uncalled d w call rest) Leaves
+  is_uncalled : (call : Call) → IsLikePeerAt d w call.peer → AreArgumentsOf d call.args → (rest : List Task) → IfOk (uncalled d w call rest) Leaves
   unfolding uncalled with_method
-  is_uncalled call are rest = bind_keeps (known arms.Call (peer_at w call.peer)) _ Leaves (λ p is. bind_keeps (known arms.Call (method_of p call.method)) _ Leaves (λ m has.
-      left_one _ (once (lines.closed p.name m.name call.args) (let like = peer_known call p is m has in (like.0, like.1, are))) rest call.to _))
+  is_uncalled call own are rest = bind_keeps (known arms.Call (peer_at w call.peer)) _ Leaves (λ p is. bind_keeps (known arms.Call (method_of p call.method)) _ Leaves (λ m has.
+      left_one _ (once (lines.closed p.name m.name call.args) (let like = peer_known call own p is m has in (like.0, like.1, are))) rest call.to _))
 
-  is_replied : (call : Call) → AreArgumentsOf d call.args → (rest : List Task) (reply : Option Reply) → IfSome reply HasShortAnswer → IfOk (replied d w call rest reply) Leaves
-  is_replied call are rest None one = tt
-  is_replied call are rest (Some reply) one = is_called call are rest reply one
+  is_replied : (call : Call) → IsLikePeerAt d w call.peer → AreArgumentsOf d call.args → (rest : List Task) (reply : Option Reply) → IfSome reply HasShortAnswer → IfOk (replied d w call rest reply) Leaves
+  is_replied call own are rest None one = tt
+  is_replied call own are rest (Some reply) one = is_called call own are rest reply one
 
-  pub calls : (call : Call) → AreArgumentsOf d call.args → (rest : List Task) (reply : Option Reply) → IfSome reply HasShortAnswer → IfOk (calling_on d w call rest reply) Leaves
-  calls call are rest reply one = cond_keeps (is_asked w call.peer) (replied d w call rest reply) (uncalled d w call rest) Leaves (is_replied call are rest reply one) (is_uncalled call are rest)
+  pub calls : (call : Call) → IsLikePeerAt d w call.peer → AreArgumentsOf d call.args → (rest : List Task) (reply : Option Reply) → IfSome reply HasShortAnswer → IfOk (calling_on d w call rest reply) Leaves
+  calls call own are rest reply one = cond_keeps (is_asked w call.peer) (replied d w call rest reply) (uncalled d w call rest) Leaves (is_replied call own are rest reply one) (is_uncalled call own are rest)

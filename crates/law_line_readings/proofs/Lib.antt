@@ -1,0 +1,4 @@
+pub mod DetailProofs
+pub mod InstructionProofs
+pub mod EventProofs
+pub mod Whole

@@ -1,0 +1,9 @@
+pub mod PeerParts
+pub mod Objects
+pub mod Tasks
+pub mod InstructionProofs
+pub mod TaskProofs
+pub mod StepProofs
+pub mod RunProofs
+pub mod ByteProofs
+pub mod WorkedProofs

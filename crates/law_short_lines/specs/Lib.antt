@@ -1,0 +1,3 @@
+pub mod ShortParts
+pub mod ShortLines
+pub mod WorkedLines
