@@ -27,9 +27,9 @@
 
 /* The version of this header, which is that of the library beside it. */
 #define GELVOPAUN_VERSION_MAJOR 0
-#define GELVOPAUN_VERSION_MINOR 37
+#define GELVOPAUN_VERSION_MINOR 39
 #define GELVOPAUN_VERSION_MICRO 0
-#define GELVOPAUN_VERSION "0.38.0"
+#define GELVOPAUN_VERSION "0.39.0"
 
 /* Whether this header is of this version or a later one. */
 #define GELVOPAUN_CHECK_VERSION(major, minor, micro)                                                  \
@@ -91,6 +91,11 @@ size_t gelvopaun_version(uint8_t *out, size_t room);
  * room. */
 uint8_t gelvopaun_verify(const uint8_t *definition, size_t length, uint8_t *report, size_t room);
 
+/* Like gelvopaun_verify, and writes to `whole` how long the whole text is, also where there was room for a front of it alone. Where reading or the
+ * verdict refuses a definition, gelvopaun_start writes the same reason, without `refused: ` before it. So this is also the way to the whole of a
+ * reason that was cut. */
+uint8_t gelvopaun_report(const uint8_t *definition, size_t length, uint8_t *report, size_t room, size_t *whole);
+
 /* Starts a session from the bytes of a definition: reads it, verifies it and builds its objects. A session that there was is freed. Where the
  * definition is refused, the reason is written to `refusal`, as much of it as there is room for. Where there is room for it, a zero byte
  * follows; the rest of `refusal` stays as it was. Where it is not refused, the reason is empty. */
@@ -122,7 +127,7 @@ uint8_t gelvopaun_next_due(gelvopaun_ui *ui, uint64_t *moment);
  * written to `out`: `room`, or fewer where no more are left. */
 size_t gelvopaun_take_lines(gelvopaun_ui *ui, uint8_t *out, size_t room);
 
-/* Reading. The next four functions tell what there is of a session, at any time, also between the parts of an event. They change nothing, and a
+/* Reading. The next five functions tell what there is of a session, at any time, also between the parts of an event. They change nothing, and a
  * session that has stopped can be read too. Objects are numbered in the order in which they are made, from 1 on, as in the lines (`#1`); a
  * number is never used again. Where a text is answered, as much of it as there is room for is written to `out`, and a zero byte follows where
  * there is room for it; the answer is the whole length of the text, so a host can come again with more room. The answer is 0 where there is
@@ -143,6 +148,17 @@ size_t gelvopaun_describe(gelvopaun_ui *ui, uint64_t object, uint8_t *out, size_
 /* Tells the value of a property of an object that lives, as JSON: true or false, a number, a text or null, an enum's nick as a text, the
  * number of flags, and an object as {"object":14} or null. */
 size_t gelvopaun_get(gelvopaun_ui *ui, uint64_t object, const uint8_t *property, size_t length, uint8_t *out, size_t room);
+
+/* Tells a class of the definition with all that it inherits, as JSON:
+ *   {"name":"Switch","parent":"Widget","abstract":false,"final":true,"interfaces":["Named"],"properties":[..],"signals":[..]}
+ * `parent` is null where it has none, and `interfaces` has those that an ancestor implements too. Properties are in the order of their slots, and
+ * signals in the order of their numbers, inherited ones first; the first signal is `notify`. Each has the members that a definition gives it
+ * (docs/format.md), and under `owner` the class or interface that declares it:
+ *   {"name":"size","owner":"Widget","kind":"int","flags":["readable","writable"],"min":0,"max":9,"default":1}
+ *   {"name":"toggled","owner":"Switch","params":["bool"],"result":"none","flags":["run-last"]}
+ * A property of whole numbers has `min` and `max`, one of objects has `weak`, and a default is written as gelvopaun_get writes a value. A signal has
+ * `accumulator` where it has one. */
+size_t gelvopaun_class(gelvopaun_ui *ui, const uint8_t *name, size_t length, uint8_t *out, size_t room);
 
 /* Ends the session and frees it, if there is one. The gelvopaun_ui can be started again. */
 void gelvopaun_finish(gelvopaun_ui *ui);

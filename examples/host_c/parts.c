@@ -17,7 +17,7 @@ static const char *emits =
 
 static int failed = 0;
 static gelvopaun_ui ui;
-static char text[256];
+static char text[1024];
 
 static void want(const char *what, unsigned long is, unsigned long wanted) {
   if (is == wanted) return;
@@ -79,8 +79,9 @@ static void tell(const char *what, size_t length, const char *wanted) {
 
 static size_t describe(uint64_t object) { return gelvopaun_describe(&ui, object, (uint8_t *)text, sizeof text); }
 static size_t get(uint64_t object, const char *property) { return gelvopaun_get(&ui, object, (const uint8_t *)property, strlen(property), (uint8_t *)text, sizeof text); }
+static size_t tell_class(const char *name) { return gelvopaun_class(&ui, (const uint8_t *)name, strlen(name), (uint8_t *)text, sizeof text); }
 
-/* What there is of a session, also while an event is under way. */
+/* What there is of a session and its classes, also while an event is under way. */
 static void read_objects(void) {
   static const char *panel =
       "{\"format\":1,\"enums\":[{\"name\":\"Mode\",\"members\":[[\"MODE_NULL\",\"null\",0]]}],"
@@ -103,7 +104,16 @@ static void read_objects(void) {
   tell("to", get(1, "to"), "{\"object\":2}");
   tell("no such property", get(1, "off"), "");
   want("no room", gelvopaun_get(&ui, 1, (const uint8_t *)"on", 2, (uint8_t *)text, 0), 5);
+  tell("Box", tell_class("Box"),
+       "{\"name\":\"Box\",\"parent\":\"GObject\",\"abstract\":false,\"final\":false,\"interfaces\":[],\"properties\":["
+       "{\"name\":\"on\",\"owner\":\"Box\",\"kind\":\"bool\",\"flags\":[\"readable\",\"writable\"],\"default\":false},"
+       "{\"name\":\"label\",\"owner\":\"Box\",\"kind\":\"text\",\"flags\":[\"readable\",\"writable\"],\"default\":\"a\\\"b\"},"
+       "{\"name\":\"mode\",\"owner\":\"Box\",\"kind\":\"enum:Mode\",\"flags\":[\"readable\",\"writable\"],\"default\":\"null\"},"
+       "{\"name\":\"to\",\"owner\":\"Box\",\"kind\":\"object:Box\",\"flags\":[\"readable\",\"writable\"],\"weak\":false,\"default\":null}],"
+       "\"signals\":[{\"name\":\"notify\",\"owner\":\"GObject\",\"params\":[],\"result\":\"none\",\"flags\":[\"run-first\",\"detailed\"]}]}");
+  tell("no such class", tell_class("Mode"), "");
   gelvopaun_finish(&ui);
+  tell("without a session: class", tell_class("Box"), "");
 }
 
 /* A report that was cut has no zero byte, and one that is whole has one behind it. */
@@ -116,6 +126,9 @@ static void cut_report(void) {
     want("verify again", gelvopaun_verify((const uint8_t *)emits, strlen(emits), (uint8_t *)cut, room), GELVOPAUN_DONE);
     want("cut: a zero byte", memchr(cut, 0, sizeof cut) != NULL, room > length);
     want("cut: as the whole", memcmp(cut, report, room < length ? room : length), 0);
+    size_t whole = 0;
+    want("report", gelvopaun_report((const uint8_t *)emits, strlen(emits), (uint8_t *)cut, room, &whole), GELVOPAUN_DONE);
+    want("report: its length", whole, length);
   }
 }
 

@@ -27,13 +27,14 @@ from crate_lists import crate_lines, needed_crates  # noqa: E402
 KEPT = TOP / ".unproved"
 LIBRARY = KEPT / "libui_c.a"
 # A call of each function. The words behind the handle are made of the types of the parameters.
-ARGUMENTS = {"Global": "alloc", "&mut SessionHandle": "&mut ui", "&mut [u8]": "&mut out", "&[u8]": 'b""', "&mut u64": "&mut moment", "u64": "0"}
+ARGUMENTS = {"Global": "alloc", "&mut SessionHandle": "&mut ui", "&mut [u8]": "&mut out", "&[u8]": 'b""', "&mut u64": "&mut moment", "&mut usize": "&mut whole", "u64": "0"}
 MAIN = """
 fn main(rt: HostRuntime) {{
     let alloc = rt.alloc();
     let mut ui = SessionHandle::closed();
     let mut out = [0u8; 1];
     let mut moment = 0u64;
+    let mut whole = 0usize;
 {calls}
     drop(ui.into_session(alloc));
 }}

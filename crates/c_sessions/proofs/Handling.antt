@@ -11,7 +11,6 @@ use Rattle.ui_engine.specs.declared.faults.SessionFault.{SessionFault}
 use Rattle.c_sessions.specs.Courses.{Advances}
 use Rattle.c_sessions.specs.Faults.{outcome_here}
 use Rattle.c_sessions.specs.Handles.{AdvancesAs, AdvancesFrom, BeginsAs, Dispatches, Fails, FailsAs, Hears, IsBusy, KeepsAs, KeepsBeginning, KeepsHearing, Starts, Takes, TakesFrom, status_of_part}
-use Rattle.c_sessions.specs.Limited.{AreWithin, KeptWithin}
 use Rattle.c_sessions.specs.LineBeginnings.{Begins, BeginsLine, LeavesBy}
 use Rattle.c_sessions.specs.Nobody.{nobody}
 use Rattle.c_sessions.specs.Reached.{held}
@@ -154,13 +153,3 @@ module _ (before after : Option HostedSession) (session lent : HostedSession) (s
 -- what holds of the session as it is lent holds of it as it is kept
 pub as_lent : (P : HostedSession → Type 0) (session lent : HostedSession) → lent ≡ session → P lent → P session
 as_lent P session lent same is = subst P same is
-
--- ** within a limit
-
--- a session is kept within the limit that it began within
-pub kept_within : (bytes : List ℕ) (most : ℕ) (kept : Option HostedSession) → AreWithin bytes most → KeptWithin bytes most kept
-kept_within bytes most None within = tt
-kept_within bytes most (Some session) within = within
-
-pub nothing_kept : (bytes : List ℕ) (most : ℕ) (kept : Option HostedSession) → kept ≡ None → KeptWithin bytes most kept
-nothing_kept bytes most kept none = subst (KeptWithin bytes most) (sym none) tt

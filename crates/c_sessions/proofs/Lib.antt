@@ -9,3 +9,4 @@ pub mod Telling
 pub mod LineParts
 pub mod Parts
 mod Limits
+mod Keeping

@@ -3,6 +3,7 @@ pub mod Courses
 pub mod Faults
 pub mod Handles
 pub mod Held
+pub mod Keeping
 pub mod LineBeginnings
 pub mod Nobody
 pub mod Places

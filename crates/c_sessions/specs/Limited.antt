@@ -16,19 +16,19 @@ use Rattle.c_sessions.specs.declared.starts.Started.TheVariants as started
 use Rattle.c_sessions.specs.declared.status.Status.{Status}
 use Rattle.c_sessions.specs.declared.status.Status.TheVariants as statuses
 
--- no dispatch of what the bytes denote counts more steps
+-- if the bytes denote an accepted definition, no dispatch of it counts more steps
 abbrev pub AreWithin : List ℕ → (most : ℕ) → Type 0
-AreWithin bytes most = (d : Definition) → denoted bytes ≡ Ok d → (a : Accepted d) → is_within d a most ≡ true
+AreWithin bytes most = (d : Definition) → denoted bytes ≡ Ok d → Judges d None → (a : Accepted d) → is_within d a most ≡ true
 
 -- the bytes denote an accepted definition of which a dispatch may count more
 abbrev pub AreBeyond : List ℕ → (most : ℕ) → Type 0
 AreBeyond bytes most = (d : Definition) × (denoted bytes ≡ Ok d) × Judges d None × ((a : Accepted d) → is_within d a most ≡ false)
 
--- a session began only within the limit
+-- such a start came to its end only within the limit, but for want of memory
 abbrev pub BeginsWithin : List ℕ → (most : ℕ) → Started → Type 0
 BeginsWithin bytes most (started.Built h) = AreWithin bytes most
 BeginsWithin bytes most (started.Stopped h) = AreWithin bytes most
-BeginsWithin bytes most (started.Refused text) = Unit {0}
+BeginsWithin bytes most (started.Refused text) = AreWithin bytes most
 BeginsWithin bytes most started.Unbegun = Unit {0}
 
 -- what the bytes of a definition may come to with a limit
@@ -36,13 +36,14 @@ abbrev pub StartsWithin : List ℕ → (most : ℕ) → LimitedStart → Type 0
 StartsWithin bytes most (code.Within s) = StartsAs bytes s × BeginsWithin bytes most s
 StartsWithin bytes most code.Beyond = AreBeyond bytes most
 
--- a session is kept only within the limit
-abbrev pub KeptWithin : List ℕ → (most : ℕ) → Option HostedSession → Type 0
-KeptWithin bytes most None = Unit {0}
-KeptWithin bytes most (Some session) = AreWithin bytes most
+-- A call that ended with this status and this session did so within the limit: it looked at nothing else before. Only where memory was refused,
+-- and no session is kept, the limit may not have been looked at.
+abbrev pub EndedWithin : List ℕ → (most : ℕ) → Status → Option HostedSession → Type 0
+EndedWithin bytes most statuses.Stopped None = Unit {0}
+EndedWithin bytes most status kept = AreWithin bytes most
 
--- how such a start ends: as a start without a limit, or else it is refused for the limit and nothing is kept
+-- how such a start ends: within the limit as a start without one, or else it is refused for the limit and nothing is kept
 abbrev pub EndsWithin : List ℕ → (most : ℕ) → List ℕ → Status → Option HostedSession → List ℕ → Type 0
 EndsWithin bytes most buffer status kept written =
-    (Starts bytes buffer status kept written × KeptWithin bytes most kept)
+    (Starts bytes buffer status kept written × EndedWithin bytes most status kept)
     ⊎ (AreBeyond bytes most × (status ≡ statuses.DefinitionRefused) × (kept ≡ None) × (written ≡ with_text buffer (codes "StepLimit")))

@@ -1,4 +1,4 @@
--- What C is told of the objects of a session.
+-- What C is told of the objects and classes of a session.
 use Rattle.std.specs.Str.{IsUtf8}
 use Rattle.std.specs.Prelude.{◌≡◌, ◌⊎◌, ℕ, List, [], Option, None, Some, length, option_and_then, option_map, slice_get}
 use Rattle.ui_machine.specs.Definition.{Definition}
@@ -10,6 +10,7 @@ use Rattle.ui_machine.specs.State.Config.{World, builder_entry}
 use Rattle.ui_machine.specs.State.Objects.{Object, living}
 use Rattle.ui_machine.specs.declared.ids.ObjectId.{ObjectId}
 use Rattle.definition_format.specs.Meaning.{object_place}
+use Rattle.class_texts.specs.ClassTexts.{class_text}
 use Rattle.instance_tables.specs.Store.{IsNextLiving, id_of}
 use Rattle.object_texts.specs.ObjectTexts.{object_text, value_text}
 use Rattle.c_sessions.specs.Buffers.{with_text}
@@ -37,6 +38,10 @@ value_told id name h = option_and_then (λ (o : Object). of o (slot_of h.running
     of : Object → Option ℕ → Option (List ℕ)
     of o None = None
     of o (Some slot) = option_map (λ (v : Value). value_text h.running.core.definition.types v) (slice_get o.values slot)
+
+-- the class of a name
+abbrev pub class_told : List ℕ → HostedSession → Option (List ℕ)
+class_told name h = class_text h.running.core.definition name
 
 -- What a call answers that tells of something, and what a buffer holds then that held this before: the whole length of the text, and as much
 -- of it as there is room for. It is nothing where there is nothing to tell, or no memory was found.

@@ -2,4 +2,4 @@
 use Rattle.std.specs.Prelude.{List, codes, ℕ}
 
 abbrev pub version : List ℕ
-version = codes "0.38.0"
+version = codes "0.39.0"

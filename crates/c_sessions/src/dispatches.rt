@@ -7,6 +7,7 @@ ghost use Rattle.event_lines.specs.Events.{event_replies};
 ghost use Rattle.event_lines.specs.Texts.{lines_text};
 ghost use Rattle.c_sessions.specs.Courses.{Advances};
 ghost use Rattle.c_sessions.specs.Faults.{outcome_here};
+ghost use Rattle.c_sessions.specs.Keeping.{KeepsBy};
 ghost use Rattle.c_sessions.specs.LineBeginnings.{BeginsLine, LeavesBy};
 ghost use Rattle.c_sessions.specs.Nobody.{nobody};
 ghost use Rattle.c_sessions.specs.Reached.{held};
@@ -51,6 +52,7 @@ impl HostedSession {
     /// Neither changes anything. Otherwise returns `Stopped`, if memory is refused, which stops the session, or if the session had stopped
     /// or an event is under way.
     pub fn dispatch_line(&mut self, alloc: Global, line: &[u8]) -> Result<(), HostedFault>
+        ensures keeps { KeepsBy result line.now (held self.old) }
         ensures replies { event_replies nobody (held self.old) line.now (outcome_here result (lines_since (held self.old) (held self.new))) (held self.new) }
         ensures leaves { IfErr result (λ fault. LeavesBy fault self.old.running self.new.running) }
         ensures stays { (held self.old).stopped ≡ true → held self.new ≡ held self.old }
@@ -74,6 +76,7 @@ impl HostedSession {
     /// Returns the same errors as `dispatch_line`.
     pub fn begin_line(&mut self, alloc: Global, line: &[u8]) -> Result<(), HostedFault>
         ensures grows { IsPrefix (held self.old).world.transcript (held self.new).world.transcript }
+        ensures keeps { KeepsBy result line.now (held self.old) }
         ensures begins { BeginsLine (is_under_way self.old.running) result line.now self.old.running self.new.running }
         ensures leaves { IfErr result (λ fault. LeavesBy fault self.old.running self.new.running) }
         ensures stays { (held self.old).stopped ≡ true → held self.new ≡ held self.old }

@@ -18,8 +18,6 @@ mod session_handle;
 mod starts;
 mod status;
 mod taken_lines;
-#[cfg(test)]
-mod tests;
 mod verdicts;
 mod versions;
 
@@ -30,5 +28,5 @@ pub use moments::tell_due;
 pub use session_handle::SessionHandle;
 pub use starts::{LimitedStart, Started, start, start_within};
 pub use status::Status;
-pub use verdicts::verify;
+pub use verdicts::{tell_verdict, verify};
 pub use versions::tell_version;

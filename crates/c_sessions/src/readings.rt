@@ -3,10 +3,11 @@
 ghost use Rattle.std.specs.Prelude.{◌≡◌, ℕ, IfOk, List, None, Ok, Option, option_map, string_bytes};
 ghost use Rattle.std.specs.Str.{IsUtf8};
 ghost use Rattle.instance_tables.specs.Store.{IsNextLiving, id_of};
-ghost use Rattle.c_sessions.specs.Told.{TellsText, identity_told, object_told, value_told};
+ghost use Rattle.c_sessions.specs.Told.{TellsText, class_told, identity_told, object_told, value_told};
 
 use crate::buffers::write_text;
 use crate::hosted_session::HostedSession;
+use class_texts::class_text;
 use object_texts::{object_text, value_text};
 use std::alloc::{AllocError, Global};
 use ui_machine::ObjectId;
@@ -83,6 +84,21 @@ impl HostedSession {
         };
         let text = value_text(alloc, definition.types(), value)?;
         Ok(Some(text))
+    }
+
+    /// Returns a class of the definition as JSON, as `class_texts::class_text` does, or `None` if no class has this name.
+    ///
+    /// # Errors
+    ///
+    /// `AllocError` if memory is refused.
+    pub fn class_text(&self, alloc: Global, name: &[u8]) -> Result<Option<String>, AllocError>
+        ensures utf8 { IsUtf8 name.now → IfOk result (λ text. option_map string_bytes text ≡ class_told name.now self.now) }
+        ensures other { (IsUtf8 name.now → ⊥) → result ≡ Ok None }
+    {
+        let Ok(name) = str::from_utf8(name) else {
+            return Ok(None);
+        };
+        class_text(alloc, self.running.definition(), name)
     }
 }
 

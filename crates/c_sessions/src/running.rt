@@ -7,6 +7,7 @@ ghost use Rattle.definition_format.specs.Meaning.{event_of};
 ghost use Rattle.native_peers.specs.StandIns.{stand_ins};
 ghost use Rattle.ui_engine.specs.SessionView.{AnswersEvent};
 ghost use Rattle.c_sessions.specs.Courses.{Advances, BeginsBy, FromWherever, HasComeStill};
+ghost use Rattle.c_sessions.specs.Keeping.{KeepsEvent};
 ghost use Rattle.c_sessions.specs.Nobody.{nobody};
 ghost use Rattle.c_sessions.specs.RunStates.{course_left, is_under_way, reached, resting, without_said};
 
@@ -82,6 +83,7 @@ impl Running {
     pub(crate) fn dispatch(&mut self, event: Event) -> Result<Reply, SessionFault>
         requires read { EventRead self.now.core.definition (event_of event) }
         ensures answers { AnswersEvent nobody self.old.core.stopped result (reached self.old) (event_of event) (reached self.new) }
+        ensures keeps { KeepsEvent (event_of event) (reached self.old) }
         ensures course { self.new.course ≡ self.old.course }
         ensures grows { IsPrefix self.old.core.world.transcript self.new.core.world.transcript }
     {
@@ -99,6 +101,7 @@ impl Running {
     pub(crate) fn begin(&mut self, event: Event) -> Result<(), SessionFault>
         requires read { EventRead self.now.core.definition (event_of event) }
         ensures begins { BeginsBy result (event_of event) self.old self.new }
+        ensures keeps { KeepsEvent (event_of event) (reached self.old) }
         ensures grows { IsPrefix self.old.core.world.transcript self.new.core.world.transcript }
     {
         if self.course.is_some() {

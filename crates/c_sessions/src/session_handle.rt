@@ -2,10 +2,11 @@
 
 ghost use Rattle.std.specs.Prelude.{◌≡◌, ℕ, List, [], IfSome, None, Some, option_map};
 ghost use Rattle.c_sessions.specs.Held.{is_kept};
-ghost use Rattle.c_sessions.specs.Limited.{BeginsWithin, EndsWithin, KeptWithin};
+ghost use Rattle.c_sessions.specs.Keeping.{KeepsEnding};
+ghost use Rattle.c_sessions.specs.Limited.{BeginsWithin, EndedWithin, EndsWithin};
 ghost use Rattle.c_sessions.specs.Moments.{TellsNext};
 ghost use Rattle.c_sessions.specs.Starting.{StartsAs};
-ghost use Rattle.c_sessions.specs.Told.{Finds, FindsNext, Tells, number_of, object_told, value_told};
+ghost use Rattle.c_sessions.specs.Told.{Finds, FindsNext, Tells, class_told, number_of, object_told, value_told};
 ghost use Rattle.c_sessions.specs.Handles.{AdvancesAs, BeginsAs, Dispatches, FailsAs, KeepsAs, Starts, Takes, status_of_part};
 
 use crate::buffers::write_text;
@@ -75,7 +76,7 @@ impl SessionHandle {
     fn keep_started(&mut self, alloc: Global, started: Started, refusal: &mut [u8]) -> Status
         requires { self.now.kept.session ≡ None }
         ensures starts { (bytes : List ℕ) → StartsAs bytes started → Starts bytes refusal.old result self.new.kept.session refusal.new }
-        ensures within { (bytes : List ℕ) → (most : ℕ) → BeginsWithin bytes most started → KeptWithin bytes most self.new.kept.session }
+        ensures within { (bytes : List ℕ) → (most : ℕ) → BeginsWithin bytes most started → EndedWithin bytes most result self.new.kept.session }
     {
         match started {
             Started::Built(session) => {
@@ -99,7 +100,8 @@ impl SessionHandle {
 
     /// Makes the session carry out an event line. The name of a refusal is written as `write_text` does, and otherwise an empty text.
     pub fn dispatch(&mut self, alloc: Global, line: &[u8], refusal: &mut [u8]) -> Status
-        ensures { Dispatches line.now refusal.old self.old.kept.session result self.new.kept.session refusal.new }
+        ensures ends { Dispatches line.now refusal.old self.old.kept.session result self.new.kept.session refusal.new }
+        ensures keeps { KeepsEnding line.now self.old.kept.session result }
     {
         let Some(mut session) = self.take(alloc) else {
             write_text(refusal, b"");
@@ -124,7 +126,8 @@ impl SessionHandle {
     /// Makes the session begin the event of a line. If the event has more to do than its beginning it is under way then, and `advance` goes
     /// on with it. The refusal is written as `dispatch` writes it.
     pub fn begin(&mut self, alloc: Global, line: &[u8], refusal: &mut [u8]) -> Status
-        ensures { BeginsAs line.now refusal.old self.old.kept.session result self.new.kept.session refusal.new }
+        ensures ends { BeginsAs line.now refusal.old self.old.kept.session result self.new.kept.session refusal.new }
+        ensures keeps { KeepsEnding line.now self.old.kept.session result }
     {
         let Some(mut session) = self.take(alloc) else {
             write_text(refusal, b"");
@@ -235,6 +238,20 @@ impl SessionHandle {
             return 0;
         };
         let text = session.value_text(alloc, ObjectId(object), property);
+        self.put(alloc, session);
+        tell_text(text, out)
+    }
+
+    /// Writes a class of the session's definition as JSON, as much as there is room for, and returns the whole length. It is 0 if no class has
+    /// this name, or if memory is refused.
+    pub fn class(&mut self, alloc: Global, name: &[u8], out: &mut [u8]) -> usize
+        ensures { Tells (class_told name.now) self.old.kept.session out.old result self.new.kept.session out.new }
+    {
+        let Some(session) = self.take(alloc) else {
+            write_text(out, b"");
+            return 0;
+        };
+        let text = session.class_text(alloc, name);
         self.put(alloc, session);
         tell_text(text, out)
     }

@@ -1,7 +1,7 @@
 //! The verdict on a definition, for a host in C.
 
 ghost use Rattle.std.specs.Prelude.{◌≡◌};
-ghost use Rattle.c_sessions.specs.Verdicts.{Verifies, status_of_check};
+ghost use Rattle.c_sessions.specs.Verdicts.{Reports, Verifies, status_of_check};
 
 use crate::buffers::write_text;
 use crate::status::Status;
@@ -14,9 +14,24 @@ use ui_machine::Device;
 pub fn verify(alloc: Global, definition: &[u8], report: &mut [u8]) -> Status
     ensures { Verifies definition.now report.old result report.new }
 {
+    let mut whole = 0;
+    tell_verdict(alloc, definition, report, &mut whole)
+}
+
+/// Like `verify`, and tells how long the whole text is, of which there may have been room for a front alone.
+pub fn tell_verdict(
+    alloc: Global,
+    definition: &[u8],
+    report: &mut [u8],
+    whole: &mut usize,
+) -> Status
+    ensures { Reports definition.now report.old result report.new whole.new }
+{
     let mut writer = Counted::new(Device::new(Vec::new(alloc)));
     let code = check(alloc, definition, &mut writer);
-    write_text(report, writer.device.inner.as_slice());
+    let text = writer.device.inner.as_slice();
+    write_text(report, text);
+    *whole = text.len();
     status_of(code)
 }
 

@@ -7,7 +7,7 @@ ghost use Rattle.c_sessions.specs.Versions.{version};
 use crate::buffers::write_text;
 
 // The version, as the repository's file VERSION has it.
-const VERSION: &str = "0.38.0";
+const VERSION: &str = "0.39.0";
 
 /// Writes the version of the library as `write_text` does, and returns how long it is.
 pub fn tell_version(out: &mut [u8]) -> usize

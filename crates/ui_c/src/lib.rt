@@ -9,15 +9,16 @@ ghost use Rattle.std.specs.Prelude.{◌≡◌, None, Option, length};
 ghost use Rattle.ui_engine.specs.declared.next_due.NextDue.{NextDue};
 ghost use Rattle.c_sessions.specs.Buffers.{with_text};
 ghost use Rattle.c_sessions.specs.Handles.{AdvancesAs, BeginsAs, Dispatches, Starts, Takes};
+ghost use Rattle.c_sessions.specs.Keeping.{KeepsEnding};
 ghost use Rattle.c_sessions.specs.Limited.{EndsWithin};
 ghost use Rattle.c_sessions.specs.Moments.{TellsNext, code_of_due, moment_told};
 ghost use Rattle.c_sessions.specs.Statuses.{code_of};
-ghost use Rattle.c_sessions.specs.Told.{Finds, FindsNext, Tells, object_told, value_told};
-ghost use Rattle.c_sessions.specs.Verdicts.{Verifies};
+ghost use Rattle.c_sessions.specs.Told.{Finds, FindsNext, Tells, class_told, object_told, value_told};
+ghost use Rattle.c_sessions.specs.Verdicts.{Reports, Verifies};
 ghost use Rattle.c_sessions.specs.Versions.{version};
 ghost use Rattle.c_sessions.specs.declared.status.Status.{Status};
 
-use c_sessions::{SessionHandle, tell_due, tell_version, verify};
+use c_sessions::{SessionHandle, tell_due, tell_verdict, tell_version, verify};
 use std::alloc::Global;
 
 /// Writes the version of the library, as `c_sessions::tell_version` does.
@@ -35,6 +36,19 @@ pub extern "C" fn gelvopaun_verify(alloc: Global, definition: &[u8], report: &mu
     ensures { (status : Status) × (result ≡ code_of status) × Verifies definition.now report.old status report.new }
 {
     verify(alloc, definition, report).code()
+}
+
+/// Judges a definition, writes its report, and tells how long that is, as `c_sessions::tell_verdict` does.
+#[unsafe(no_mangle)]
+pub extern "C" fn gelvopaun_report(
+    alloc: Global,
+    definition: &[u8],
+    report: &mut [u8],
+    whole: &mut usize,
+) -> u8
+    ensures { (status : Status) × (result ≡ code_of status) × Reports definition.now report.old status report.new whole.new }
+{
+    tell_verdict(alloc, definition, report, whole).code()
 }
 
 /// Starts a session from the bytes of a definition, as `SessionHandle::start` does.
@@ -72,7 +86,7 @@ pub extern "C" fn gelvopaun_dispatch(
     line: &[u8],
     refusal: &mut [u8],
 ) -> u8
-    ensures { (status : Status) × (result ≡ code_of status) × Dispatches line.now refusal.old ui.old.kept.session status ui.new.kept.session refusal.new }
+    ensures { (status : Status) × (result ≡ code_of status) × Dispatches line.now refusal.old ui.old.kept.session status ui.new.kept.session refusal.new × KeepsEnding line.now ui.old.kept.session status }
 {
     ui.dispatch(alloc, line, refusal).code()
 }
@@ -85,7 +99,7 @@ pub extern "C" fn gelvopaun_begin(
     line: &[u8],
     refusal: &mut [u8],
 ) -> u8
-    ensures { (status : Status) × (result ≡ code_of status) × BeginsAs line.now refusal.old ui.old.kept.session status ui.new.kept.session refusal.new }
+    ensures { (status : Status) × (result ≡ code_of status) × BeginsAs line.now refusal.old ui.old.kept.session status ui.new.kept.session refusal.new × KeepsEnding line.now ui.old.kept.session status }
 {
     ui.begin(alloc, line, refusal).code()
 }
@@ -160,6 +174,19 @@ pub extern "C" fn gelvopaun_get(
     ensures { Tells (value_told object property.now) ui.old.kept.session out.old result ui.new.kept.session out.new }
 {
     ui.get(alloc, object, property, out)
+}
+
+/// Writes a class as JSON, as `SessionHandle::class` does, and returns the whole length.
+#[unsafe(no_mangle)]
+pub extern "C" fn gelvopaun_class(
+    alloc: Global,
+    ui: &mut SessionHandle,
+    name: &[u8],
+    out: &mut [u8],
+) -> usize
+    ensures { Tells (class_told name.now) ui.old.kept.session out.old result ui.new.kept.session out.new }
+{
+    ui.class(alloc, name, out)
 }
 
 /// Ends the session and frees it, if there is one.

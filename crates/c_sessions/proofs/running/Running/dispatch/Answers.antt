@@ -5,6 +5,7 @@ use Rattle.definition_format.specs.Meaning.{event_of}
 use Rattle.native_peers.specs.StandIns.{stand_ins}
 use Rattle.ui_engine.specs.SessionView.{AnswersEvent, state_at}
 use Rattle.c_sessions.specs.Nobody.{nobody}
+use Rattle.c_sessions.specs.Keeping.{KeepsEvent}
 use Rattle.c_sessions.specs.RunStates.{RunState, reached}
 use Rattle.c_sessions.proofs.Parts.{answers_stopped, course_stops, nothing_kept, same_lines}
 use Rattle.c_sessions.proofs.running.Running.dispatch.Goals as goal
@@ -15,6 +16,14 @@ returns-then-is_some-clause-answers c =
     answers_stopped c.args.self.now.core.stopped (reached c.args.self.now) (event_of c.args.event)
     (sym (ap (λ (r : RunState). r.core.stopped) c.self.view_is)
     ∙ course_stops inside.course (stand_ins inside.session.pool) inside.session.core c.self.invariant (sym c.is_some.ensures ∙ c.if-is_some.true))
+
+pub returns-then-is_some-clause-keeps : goal.returns-then-is_some-clause-keeps
+returns-then-is_some-clause-keeps c goes none =
+    let inside = c.self.inside in
+    let stopped =
+    sym (ap (λ (r : RunState). r.core.stopped) c.self.view_is)
+    ∙ course_stops inside.course (stand_ins inside.session.pool) inside.session.core c.self.invariant (sym c.is_some.ensures ∙ c.if-is_some.true) in
+    absurd (cc (sym stopped ∙ goes))
 
 pub returns-then-is_some-clause-grows : goal.returns-then-is_some-clause-grows
 returns-then-is_some-clause-grows c = same_lines c.args.self.now.core.world.transcript
@@ -30,6 +39,9 @@ pub returns-clause-answers : goal.returns-clause-answers
 returns-clause-answers c =
     subst (λ (r : RunState). AnswersEvent nobody r.core.stopped c.dispatch.result (reached r) (event_of c.args.event) (state_at (stand_ins c.dispatch.new.self.pool) c.dispatch.new.self.core))
     c.self.view_is c.dispatch.ensures.answers
+
+pub returns-clause-keeps : goal.returns-clause-keeps
+returns-clause-keeps c = subst (λ (r : RunState). KeepsEvent (event_of c.args.event) (reached r)) c.self.view_is c.dispatch.ensures.keeps
 
 pub returns-clause-course : goal.returns-clause-course
 returns-clause-course c = ap (λ (r : RunState). r.course) c.self.view_is

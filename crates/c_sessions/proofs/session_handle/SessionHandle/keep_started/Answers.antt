@@ -1,7 +1,9 @@
 use Rattle.std.proofs.Common.{length, subst}
 use Rattle.c_sessions.specs.Starting.{StartsAs}
 use Rattle.c_sessions.specs.Limited.{BeginsWithin}
-use Rattle.c_sessions.proofs.Handling.{kept_within, nothing_kept, starts_built, starts_stopped}
+use Rattle.c_sessions.proofs.Handling.{starts_built, starts_stopped}
+use Rattle.c_sessions.proofs.Limits.{ended_unbegun, ended_within}
+use Rattle.c_sessions.specs.declared.status.Status.TheVariants as statuses
 use Rattle.c_sessions.proofs.session_handle.SessionHandle.keep_started.Goals as goal
 
 pub returns-in-Built-clause-starts : goal.returns-in-Built-clause-starts
@@ -15,7 +17,15 @@ returns-in-Stopped-clause-starts c bytes starts =
     (subst (StartsAs bytes) c.in-Stopped.is starts) c.keep-in-Stopped.ensures
 
 pub returns-in-Built-clause-within : goal.returns-in-Built-clause-within
-returns-in-Built-clause-within c bytes most begins = kept_within bytes most c.keep.new.self.kept.session (subst (BeginsWithin bytes most) c.in-Built.is begins)
+returns-in-Built-clause-within c bytes most begins =
+    ended_within bytes most c.keep.result c.keep.new.self.kept.session (subst (BeginsWithin bytes most) c.in-Built.is begins)
 
 pub returns-in-Stopped-clause-within : goal.returns-in-Stopped-clause-within
-returns-in-Stopped-clause-within c bytes most begins = kept_within bytes most c.keep-in-Stopped.new.self.kept.session (subst (BeginsWithin bytes most) c.in-Stopped.is begins)
+returns-in-Stopped-clause-within c bytes most begins =
+    ended_within bytes most c.keep-in-Stopped.result c.keep-in-Stopped.new.self.kept.session (subst (BeginsWithin bytes most) c.in-Stopped.is begins)
+
+pub returns-in-Refused-clause-within : goal.returns-in-Refused-clause-within
+returns-in-Refused-clause-within c bytes most begins = ended_within bytes most statuses.DefinitionRefused c.args.self.now.kept.session (subst (BeginsWithin bytes most) c.in-Refused.is begins)
+
+pub returns-in-Unbegun-clause-within : goal.returns-in-Unbegun-clause-within
+returns-in-Unbegun-clause-within c bytes most begins = ended_unbegun bytes most _ c.requires

@@ -1,0 +1,14 @@
+use Rattle.std.proofs.Common.{◌≡◌}
+use Rattle.std.specs.Prelude.{is_some}
+use Rattle.ui_machine.specs.Rules.Connections.{signal_number}
+use Rattle.ui_machine.specs.Rules.Ancestry.{lineage}
+use Rattle.class_texts.specs.Owners.{last_with}
+use Rattle.class_texts.proofs.owners.signal_class.Given as goal
+
+abbrev pub invariant-line : goal.invariant-line
+invariant-line l =
+    last_with (λ c. is_some (signal_number l.definition c l.name)) l.owner (lineage l.definition.types l.at)
+    ≡ last_with (λ c. is_some (signal_number l.definition c l.name)) l.fn.class (lineage l.definition.types l.fn.class)
+
+abbrev pub decreases-line : goal.decreases-line
+decreases-line l = l.at

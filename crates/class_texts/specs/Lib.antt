@@ -1,0 +1,5 @@
+pub mod Lists
+pub mod Kinds
+pub mod Flags
+pub mod Owners
+pub mod ClassTexts
