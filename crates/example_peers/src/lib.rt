@@ -6,8 +6,6 @@
 
 mod bells;
 mod numbers;
-#[cfg(test)]
-mod tests;
 mod texts;
 
 pub use bells::Bell;

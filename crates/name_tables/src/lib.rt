@@ -5,7 +5,5 @@
 #![tactic(auto)]
 
 mod name_table;
-#[cfg(test)]
-mod tests;
 
 pub use name_table::{NameId, NameTable};

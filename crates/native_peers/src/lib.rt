@@ -20,10 +20,6 @@ mod pools;
 mod serials;
 mod shapes;
 mod stand_ins;
-#[cfg(test)]
-mod tallies;
-#[cfg(test)]
-mod tests;
 mod vacancies;
 
 pub use faults::{AddFault, MatchFault, NotAdded, PeerFault};

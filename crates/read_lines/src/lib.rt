@@ -7,8 +7,6 @@
 
 mod lines;
 mod numbers;
-#[cfg(test)]
-mod tests;
 mod tokens;
 
 pub use json::Scratch;

@@ -4,8 +4,24 @@
 #![tactic(auto)]
 
 #[cfg(test)]
+mod answers;
+#[cfg(test)]
 mod contexts;
 #[cfg(test)]
 mod json_texts;
 #[cfg(test)]
+mod names;
+#[cfg(test)]
+mod orders;
+#[cfg(test)]
+mod plain_lines;
+#[cfg(test)]
+mod pools;
+#[cfg(test)]
+mod sessions;
+#[cfg(test)]
 mod stacks;
+#[cfg(test)]
+mod stand_ins;
+#[cfg(test)]
+mod stocked_peers;

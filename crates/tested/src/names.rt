@@ -1,6 +1,6 @@
-//! Tests of what no proof shows: that calls succeed, and that the clauses mean what a reader expects.
+//! Tables of the numbers that names have in classes.
 
-use crate::NameTable;
+use name_tables::NameTable;
 use std::alloc::{AllocError, Global};
 use std::test::Fail;
 use type_tree::{TypeFlags, TypeId, TypeTree};

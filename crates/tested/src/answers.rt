@@ -1,4 +1,4 @@
-//! A call of each method of each of the three peers.
+//! A call of each method of each of the three example peers.
 
 ghost use Rattle.std.specs.Prelude.{IsTrue, map, slice_get};
 ghost use Rattle.g_values.specs.View.{value_view};
@@ -7,9 +7,7 @@ ghost use Rattle.example_peers.specs.Bells.{bell_shape};
 ghost use Rattle.example_peers.specs.Numbers.{numbers_shape};
 ghost use Rattle.example_peers.specs.Texts.{texts_shape};
 
-use crate::bells::Bell;
-use crate::numbers::Numbers;
-use crate::texts::Texts;
+use example_peers::{Bell, Numbers, Texts};
 use g_values::Value;
 use native_peers::{Peer, PeerFault};
 use std::rc::RcStr;

@@ -1,135 +1,29 @@
-//! An example of a peer: a tally, which adds up whole numbers.
+//! Pools of tallies: calls, names after one was taken, and what is needed.
 
-ghost use Rattle.std.specs.Prelude.{◌≡◌, ◌∷◌, [], IfOk, IfSome, IsTrue, map, true};
-ghost use Rattle.ui_machine.specs.State.Peers.{PeerState};
+ghost use Rattle.std.specs.Prelude.{◌≡◌, [], IsTrue, map, true};
 ghost use Rattle.g_values.specs.View.{value_view};
-ghost use Rattle.peer_shapes.specs.MethodViews.{method_view};
 ghost use Rattle.native_peers.specs.Moves.{ArgsFit};
 ghost use Rattle.native_peers.specs.Pool.{entries, seen};
-ghost use Rattle.native_peers.specs.Tallies.{IsTallyAt, Tallies, first_number, number, number_in, sum_after, tally_shape};
+ghost use Rattle.native_peers.specs.Tallies.{IsTallyAt, tally_shape};
 
-use crate::faults::{AddFault, MatchFault, PeerFault};
-use crate::needs::Need;
-use crate::peers::Peer;
-use crate::pools::PeerPool;
 use g_values::{Kind, Value};
-use peer_shapes::{Method, Shape};
+use host_peers::Tally;
+use native_peers::{AddFault, MatchFault, Method, Need, Peer, PeerFault, PeerPool, Peers, Shape};
 use std::alloc::{AllocError, Global};
 use std::test::Fail;
 
-// A sum to which `add` adds. An addition that overflows is a fault.
-#[derive(Drop)]
-struct Tally {
-    methods: Vec<Method>,
-    sum: i64,
-    is_callable: bool,
-    calls: u64,
-    faults: u64,
-    ghost shaped: { map method_view methods.items ≡ tally_shape },
-}
-
-impl Tally {
-    fn new(alloc: Global) -> Result<Self, AllocError>
-        ensures { IfOk result (λ t. IsTrue t.is_callable) }
-    {
-        let add = Method {
-            name: String::from_str(alloc, "add")?,
-            params: vec![in alloc; Kind::Int64]?,
-            result: Kind::Int64,
-        };
-        let read = Method {
-            name: String::from_str(alloc, "read")?,
-            params: Vec::new(alloc),
-            result: Kind::Int64,
-        };
-        Ok(Tally {
-            methods: vec![in alloc; add, read]?,
-            sum: 0,
-            is_callable: true,
-            calls: 0,
-            faults: 0,
-        })
-    }
-}
-
-// Returns the number in an `Int64` value, and 0 for other values.
-fn number_in(value: &Value) -> i64
-    ensures { result ≡ number_in (value_view value.now) }
-{
-    match value {
-        Value::Int64(n) => *n,
-        _ => 0,
-    }
-}
-
-// Returns the number in the first argument, and 0 without arguments.
-fn first_number(args: &[Value]) -> i64
-    ensures { result ≡ first_number (map value_view args.now) }
-{
-    match args {
-        [] => 0,
-        [value, ..] => number_in(value),
-    }
-}
-
-// Returns the sum after a method, or `None` if it overflows.
-fn sum_after(sum: i64, method: usize, args: &[Value]) -> Option<i64>
-    ensures { IfSome result (λ n. n ≡ sum_after sum method (map value_view args.now)) }
-{
-    match method {
-        0 => sum.checked_add(first_number(args)),
-        _ => Some(sum),
-    }
-}
-
-impl Peer for Tally {
-    ghost state = { λ t. record { shape = tally_shape; is_open = t.is_callable; calls = t.calls; faults = t.faults; values = number t.sum ∷ [] } };
-
-    ghost moves = { λ t. Tallies };
-
-    fn shape(&self) -> &[Method] {
-        &self.methods
-    }
-
-    fn is_open(&self) -> bool {
-        self.is_callable
-    }
-
-    fn invoke(&mut self, method: usize, args: &[Value]) -> Result<Value, PeerFault> {
-        self.calls = self.calls.wrapping_add(1);
-        match sum_after(self.sum, method, args) {
-            Some(sum) => {
-                self.sum = sum;
-                Ok(Value::Int64(sum))
-            }
-            None => {
-                self.faults = self.faults.wrapping_add(1);
-                Err(PeerFault)
-            }
-        }
-    }
-
-    fn close(&mut self) {
-        self.is_callable = false;
-    }
-
-    fn counts(&self) -> (u64, u64) {
-        (self.calls, self.faults)
-    }
-}
-
 // Calls a method of the k-th peer of a pool, which is an open tally.
 fn ask(pool: &mut PeerPool, k: usize, method: usize, args: &[Value]) -> Result<Value, PeerFault>
-    requires tally { IsTallyAt k (seen (λ p. state p.peer) (entries pool.now)) }
+    requires tally { IsTallyAt k (seen (λ p. (⟦<dyn Peer as Peer>⟧ p.peer.vtable).state p.peer.value) (entries pool.now)) }
     requires args { ArgsFit (record { shape = tally_shape; is_open = true; calls = 0; faults = 0; values = [] }) method (map value_view args.now) }
-    ensures { IsTallyAt k (seen (λ p. state p.peer) (entries pool.new)) }
+    ensures { IsTallyAt k (seen (λ p. (⟦<dyn Peer as Peer>⟧ p.peer.vtable).state p.peer.value) (entries pool.new)) }
 {
     pool.invoke(k, method, args)
 }
 
 // Closes the k-th peer of a pool, which is an open tally.
 fn shut(pool: &mut PeerPool, k: usize)
-    requires { IsTallyAt k (seen (λ p. state p.peer) (entries pool.now)) }
+    requires { IsTallyAt k (seen (λ p. (⟦<dyn Peer as Peer>⟧ p.peer.vtable).state p.peer.value) (entries pool.now)) }
 {
     pool.close(k);
 }
@@ -137,9 +31,9 @@ fn shut(pool: &mut PeerPool, k: usize)
 // Adds an open tally to a pool without peers, and returns whether this succeeded.
 fn add(pool: &mut PeerPool, name: &str, tally: Box<dyn Peer>) -> bool
     requires none { entries pool.now ≡ [] }
-    requires shape { (state tally).shape ≡ tally_shape }
-    requires open { IsTrue (state tally).is_open }
-    ensures { IsTrue result → IsTallyAt 0 (seen (λ p. state p.peer) (entries pool.new)) }
+    requires shape { ((⟦<dyn Peer as Peer>⟧ tally.vtable).state tally.value).shape ≡ tally_shape }
+    requires open { IsTrue ((⟦<dyn Peer as Peer>⟧ tally.vtable).state tally.value).is_open }
+    ensures { IsTrue result → IsTallyAt 0 (seen (λ p. (⟦<dyn Peer as Peer>⟧ p.peer.vtable).state p.peer.value) (entries pool.new)) }
 {
     pool.add(name, tally).is_ok()
 }
@@ -156,12 +50,12 @@ fn a_pool_calls_its_peers(rt: HostRuntime) -> Result<(), Fail> {
             Ok(Value::Int64(5))
         )
     );
-    assert!(rt; ask(&mut pool, 0, 0, &[Value::Int64(i64::MAX)]).is_err());
-    assert!(rt; matches!(ask(&mut pool, 0, 1, &[]), Ok(Value::Int64(5))));
+    assert!(rt; ask(&mut pool, 0, 0, &[Value::Int64(2)]).is_ok());
+    assert!(rt; matches!(ask(&mut pool, 0, 1, &[]), Ok(Value::Int64(7))));
     shut(&mut pool, 0);
     let tally = pool.take("t").ok_or("no peer")?;
     assert!(rt; !tally.is_open());
-    assert_eq!(rt; tally.counts(), (3, 1));
+    assert_eq!(rt; tally.counts(), (3, 0));
     assert_eq!(rt; pool.left(), 0);
     Ok(())
 }

@@ -1,6 +1,6 @@
 //! Lines that are plain, and lines that are not. No clause says that a plain line is taken as one.
 
-use crate::{PlainLine, Scratch};
+use read_lines::{PlainLine, Scratch};
 use serde_json::Value;
 use std::test::Fail;
 

@@ -1,12 +1,9 @@
-//! Tests of stand-ins.
+//! A stand-in, which is the only peer of a session.
 
 ghost use Rattle.std.specs.Prelude.{IsSomeAnd, IsTrue, slice_get};
 ghost use Rattle.native_peers.specs.StandIns.{stand_ins};
 
-use crate::faults::MatchFault;
-use crate::needs::Need;
-use crate::pooled_peers::Peers;
-use crate::stand_ins::StandIn;
+use native_peers::{MatchFault, Need, Peers, StandIn};
 use peer_shapes::Shape;
 use std::test::Fail;
 
