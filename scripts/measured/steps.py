@@ -387,7 +387,7 @@ GROWING = {
     "a release of a parent": (releases_of_parents, 1, 7, 1, "a dispose lets go of each child"),
     "a release of an object with handlers": (releases_of_handlers, 1, 256, 1, "a dispose removes each handler"),
     "a release of an object with weak references": (releases_of_weak_targets, 1, 256, 1, "a dispose makes each weak reference null"),
-    "a release of an object with bindings": (releases_of_sources, 1, 256, 1, "a dispose ends each binding"),
+    "a release of an object with bindings": (releases_of_sources, 1, 256, 2, "a dispose ends each binding, at both of its ends"),
 }
 
 # The rows that are not timed: their definitions have something for each step, so that there can't be as many as processor time needs, or each

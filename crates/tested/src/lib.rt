@@ -18,8 +18,6 @@ mod plain_lines;
 #[cfg(test)]
 mod pools;
 #[cfg(test)]
-mod sessions;
-#[cfg(test)]
 mod stacks;
 #[cfg(test)]
 mod stand_ins;

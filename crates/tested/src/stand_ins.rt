@@ -3,8 +3,7 @@
 ghost use Rattle.std.specs.Prelude.{IsSomeAnd, IsTrue, slice_get};
 ghost use Rattle.native_peers.specs.StandIns.{stand_ins};
 
-use native_peers::{MatchFault, Need, Peers, StandIn};
-use peer_shapes::Shape;
+use native_peers::{MatchFault, Need, Peers, Shape, StandIn};
 use std::test::Fail;
 
 // Closes the first peer, which is an open stand-in.
